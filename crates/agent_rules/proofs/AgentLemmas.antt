@@ -4,7 +4,7 @@ use Rattle.std.specs.Result.{result_unwrap_or}
 use Rattle.mad_layout.specs.Bits.{put_field}
 use Rattle.mad_layout.specs.declared.status.MadStatus.{MadStatus}
 use Rattle.attr_tables.specs.declared.smp_attribute.SmpAttribute.{SmpAttribute}
-use Rattle.result_words.specs.Steps.{◌>>=◌}
+use Rattle.step_results.specs.Steps.{◌>>=◌}
 use Rattle.agent_rules.specs.Agent.{Getter, Setter, after, answer, changed, held_after, reply_of}
 use Rattle.agent_rules.specs.Laws.{IsSettled, IsUnseenPut, ReadsAlike}
 use Rattle.attr_tables.specs.Attribute.{IsAttribute}
@@ -132,17 +132,17 @@ reads_alike getter setter =
 passes_through : (b : Bool) (given : Result (List ℕ) MadStatus) (smp : List ℕ) (off len value : ℕ)
     → IsUnseenPut smp off len value → IfOk given IsAttribute
     → (if b then Some (reply_to (put_field smp off len value) given) else None) ≡ option_map (λ reply. put_field reply off len value) (if b then Some (reply_to smp given) else None)
-passes_through false given smp off len value put spelled = refl
-passes_through true (Ok bytes) smp off len value put spelled = ap (λ (reply : List ℕ). Some reply) (unseen_passes.reply smp bytes off len value put spelled)
-passes_through true (Err status) smp off len value put spelled = ap (λ (reply : List ℕ). Some reply) (unseen_passes.refusal smp status off len value put)
+passes_through false given smp off len value put encoded = refl
+passes_through true (Ok bytes) smp off len value put encoded = ap (λ (reply : List ℕ). Some reply) (unseen_passes.reply smp bytes off len value put encoded)
+passes_through true (Err status) smp off len value put encoded = ap (λ (reply : List ℕ). Some reply) (unseen_passes.refusal smp status off len value put)
 
 pub reply_passes : {S : Type 0} (getter : Getter S) (setter : Setter S) (held : S) (smp : List ℕ) (off len value : ℕ) → IsUnseenPut smp off len value
     → IfOk (answer getter setter held smp) IsAttribute
     → reply_of getter setter held (put_field smp off len value) ≡ option_map (λ reply. put_field reply off len value) (reply_of getter setter held smp)
-reply_passes getter setter held smp off len value put spelled =
+reply_passes getter setter held smp off len value put encoded =
     let other = put_field smp off len value in
     let same = unseen_passes.asks smp off len value put in
     let request = same.request in
     let given = (reads_alike getter setter).answered held smp other same in
     (λ place. if request place then Some (reply_to other (given place)) else None)
-    ∙ passes_through (is_request smp) (answer getter setter held smp) smp off len value put spelled
+    ∙ passes_through (is_request smp) (answer getter setter held smp) smp off len value put encoded

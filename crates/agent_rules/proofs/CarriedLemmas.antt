@@ -1,4 +1,4 @@
--- What is read in an attribute that an SMP carries, and that it is what was spelled there.
+-- What is read in an attribute that an SMP carries, and that it is what was encoded there.
 use Rattle.std.proofs.Common.{◌≡◌, ℕ, ◌*◌, ◌<◌, ◌==◌, Bool, true, false, nat_lt, List, length, get_or, drop, map, refl, sym, subst, ◌∙◌, arith}
 use Rattle.std.specs.Int.Digits.{AllBelowBase}
 use Rattle.std.specs.List.{range_with_len}
@@ -8,7 +8,7 @@ use Rattle.std.proofs.lemmas.List.FromFn.{length-map-range_with_len, get_or-map-
 use Rattle.mad_layout.specs.Bits.{bit_of, field}
 use Rattle.mad_layout.specs.Layout.{Fits, Holds}
 use Rattle.mad_layout.proofs.AlignedLemmas.{byte_is_field}
-use Rattle.mad_layout.proofs.LayoutLemmas.{spells_put_all}
+use Rattle.mad_layout.proofs.LayoutLemmas.{encodes_put_all}
 use Rattle.mad_layout.proofs.NumberLemmas.{below_parts}
 use Rattle.mad_layout.proofs.WindowLemmas.{cut_at}
 use Rattle.attr_tables.specs.Attribute.{IsAttribute}
@@ -21,8 +21,8 @@ use Rattle.attr_tables.proofs.AttributeLemmas.{attributes}
 use Rattle.attr_tables.proofs.BlockLemmas.{written_word}
 use Rattle.agent_rules.specs.Carried.{linear_fdb_top_in, ports_in, words_in}
 use Rattle.agent_rules.specs.Good.{IsTable}
-use Rattle.agent_rules.specs.Laws.{SpelledIsRead}
-use Rattle.result_words.proofs.ListLemmas.{all_at}
+use Rattle.agent_rules.specs.Laws.{EncodedIsRead}
+use Rattle.step_results.proofs.ListLemmas.{all_at}
 use Rattle.agent_rules.specs.PortSetting.{port_setting, setting_asked}
 use Rattle.agent_rules.specs.Request.{data_of}
 
@@ -67,30 +67,30 @@ setting_is bytes info h =
       partition_enforcement_outbound = outbound place;
     }
 
--- ---- what is spelled
-setting_spelled : (info : PortInfo) → Fits (port_info info) → port_setting (port_info_bytes info) ≡ setting_asked info
+-- ---- what is encoded
+setting_encoded : (info : PortInfo) → Fits (port_info info) → port_setting (port_info_bytes info) ≡ setting_asked info
 unfolding port_info_bytes
-setting_spelled info fits = sym (setting_is (port_info_bytes info) info (spells_put_all (port_info info) 64 refl fits).fields)
+setting_encoded info fits = sym (setting_is (port_info_bytes info) info (encodes_put_all (port_info info) 64 refl fits).fields)
 
-top_spelled : (info : SwitchInfo) → Fits (switch_info info) → linear_fdb_top_in (switch_info_bytes info) ≡ info.linear_fdb_top
+top_encoded : (info : SwitchInfo) → Fits (switch_info info) → linear_fdb_top_in (switch_info_bytes info) ≡ info.linear_fdb_top
 unfolding switch_info_bytes
-top_spelled info fits = sym (spells_put_all (switch_info info) 64 refl fits).fields.1.1.1.0
+top_encoded info fits = sym (encodes_put_all (switch_info info) 64 refl fits).fields.1.1.1.0
 
 word_below : (words : List ℕ) (k : ℕ) → IsTable 32 65536 words → k < length words → get_or words k 0 < 65536
 word_below words k table within =
     let below = all_at (λ word. nat_lt word 65536) words k 0 table.below within in
     grind (arith, nat_tests, below)
 
-words_spelled : (words : List ℕ) → IsTable 32 65536 words → words_in (word_bytes words) ≡ words
+words_encoded : (words : List ℕ) → IsTable 32 65536 words → words_in (word_bytes words) ≡ words
 unfolding words_in word_bytes
-words_spelled words table =
+words_encoded words table =
     let is = attributes.words words table.count in
     sym (entries_are (word_bytes words) words 16 32 (λ k h.
     written_word (word_bytes words) words k is.small refl h (omega (arith, is.count, h, table.count)) (word_below words k table h)) table.count)
 
-ports_spelled : (bytes : List ℕ) → IsAttribute bytes → ports_in bytes ≡ bytes
+ports_encoded : (bytes : List ℕ) → IsAttribute bytes → ports_in bytes ≡ bytes
 unfolding ports_in
-ports_spelled bytes is = sym (entries_are bytes bytes 8 64 (λ k h. byte_is_field bytes k is.small h) is.count)
+ports_encoded bytes is = sym (entries_are bytes bytes 8 64 (λ k h. byte_is_field bytes k is.small h) is.count)
 
-pub spelled_is_read : SpelledIsRead
-spelled_is_read = record { setting = setting_spelled; linear_fdb_top = top_spelled; words = words_spelled; ports = ports_spelled }
+pub encoded_is_read : EncodedIsRead
+encoded_is_read = record { setting = setting_encoded; linear_fdb_top = top_encoded; words = words_encoded; ports = ports_encoded }

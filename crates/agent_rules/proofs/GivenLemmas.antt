@@ -8,7 +8,7 @@ use Rattle.mad_layout.specs.declared.status.MadStatus.TheVariants.{InvalidField}
 use Rattle.attr_tables.specs.Attribute.{IsAttribute}
 use Rattle.attr_tables.specs.Blocks.{block_of, has_block, word_bytes}
 use Rattle.attr_tables.proofs.AttributeLemmas.{attributes}
-use Rattle.result_words.proofs.ListLemmas.{all_cut}
+use Rattle.step_results.proofs.ListLemmas.{all_cut}
 use Rattle.agent_rules.specs.Agent.{whole, word_block}
 use Rattle.agent_rules.proofs.GuardLemmas.{taken_ok}
 use Rattle.agent_rules.proofs.TableLemmas.{block_within}

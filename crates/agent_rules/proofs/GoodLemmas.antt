@@ -18,7 +18,7 @@ use Rattle.agent_rules.specs.declared.link.PortLink.TheVariants.{Cabled, Uncable
 use Rattle.agent_rules.specs.PowerUp.{guid_cap_of, keys_at_power_up, physical_state_at_power_up, port_info_at_power_up, state_at_power_up}
 use Rattle.attr_tables.specs.declared.port_info.PortInfo.{PortInfo}
 use Rattle.attr_tables.specs.Blocks.{has_block, with_block}
-use Rattle.result_words.proofs.ListLemmas.{all_cut, all_joined}
+use Rattle.step_results.proofs.ListLemmas.{all_cut, all_joined}
 use Rattle.agent_rules.specs.Agent.{set_word_block}
 use Rattle.agent_rules.specs.Carried.{ports_in, words_in}
 use Rattle.agent_rules.specs.Good.{IsGoodInfo, IsKeyTable, IsTable, is_regular}

@@ -1,6 +1,6 @@
 -- Guards: what a test lets through, and what is given where it holds.
 use Rattle.std.proofs.Common.{◌≡◌, Bool, true, if◌then◌else◌, Result, Ok, Err, refl}
-use Rattle.result_words.proofs.StepLemmas.{let_through, same_ok}
+use Rattle.step_results.proofs.StepLemmas.{let_through, same_ok}
 
 -- a value that was let through
 pub taken_ok : {X E : Type 0} (b : Bool) (x next : X) (e : E) → (if b then Ok x else Err e) ≡ Ok next → (b ≡ true) × (x ≡ next)

@@ -1,8 +1,8 @@
 -- What a Set of PortInfo takes over, and what NodeInfo names.
 use Rattle.std.proofs.Common.{ℕ, ◌≡◌, refl, sym, subst, Bool, true, false, if◌then◌else◌, List, Ok, Err}
-use Rattle.result_words.proofs.StepLemmas.{same_ok}
+use Rattle.step_results.proofs.StepLemmas.{same_ok}
 use Rattle.mad_layout.specs.declared.status.MadStatus.TheVariants.{InvalidField}
-use Rattle.mad_layout.proofs.LayoutLemmas.{spells_put_all}
+use Rattle.mad_layout.proofs.LayoutLemmas.{encodes_put_all}
 use Rattle.attr_tables.specs.NodeInfo.{node_info, node_info_bytes}
 use Rattle.attr_tables.specs.declared.port_info.PortInfo.{PortInfo}
 use Rattle.agent_rules.specs.Laws.{IsTaken, NodeInfosNameGuids, SetsAreTaken}
@@ -49,5 +49,5 @@ pub node_infos_name_guids : NodeInfosNameGuids
 unfolding node_info_bytes
 node_infos_name_guids node_type num_ports node_guid port_guid number fits =
     let info = node_info_of node_type num_ports node_guid port_guid number in
-    let guids = (spells_put_all (node_info info) 64 refl fits).fields.1.1.1.1 in
+    let guids = (encodes_put_all (node_info info) 64 refl fits).fields.1.1.1.1 in
     record { system = sym guids.0; node = sym guids.1.0; port = sym guids.1.1.0 }

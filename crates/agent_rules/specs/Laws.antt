@@ -80,8 +80,8 @@ pub record RepliesCarry : Type 0 where
       → CarriesAttribute smp bytes (reply_to smp (Ok bytes))
   pub refusal : (smp : List ℕ) (status : MadStatus) → length smp ≡ 256 → CarriesRefusal smp status (reply_to smp (Err status))
 
--- what is spelled in an attribute is read in it
-pub record SpelledIsRead : Type 0 where
+-- what is encoded in an attribute is read in it
+pub record EncodedIsRead : Type 0 where
   pub setting : (info : PortInfo) → Fits (port_info info) → port_setting (port_info_bytes info) ≡ setting_asked info
   pub linear_fdb_top : (info : SwitchInfo) → Fits (switch_info info)
       → linear_fdb_top_in (switch_info_bytes info) ≡ info.linear_fdb_top

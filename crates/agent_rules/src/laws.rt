@@ -3,7 +3,7 @@
 ghost use Rattle.std.specs.Prelude.{◌≡◌};
 ghost use Rattle.agent_rules.specs.declared.power_up.TheConstants.{LINEAR_TABLE, MULTICAST_TABLE};
 ghost use Rattle.agent_rules.specs.declared.request.TheConstants.{DIRECTED_ROUTE_CLASS, SMP_VERSION};
-ghost use Rattle.agent_rules.specs.Laws.{NodeInfosNameGuids, PortsTakeBack, RepliesCarry, SetsAreTaken, SettingsKeepGood, SpelledIsRead, UnseenPasses};
+ghost use Rattle.agent_rules.specs.Laws.{NodeInfosNameGuids, PortsTakeBack, RepliesCarry, SetsAreTaken, SettingsKeepGood, EncodedIsRead, UnseenPasses};
 
 /// A reply carries the attribute or the refusal that answers, and all of the request beside. Like the
 /// laws below it does nothing: its contract is the law.
@@ -16,9 +16,9 @@ pub fn unseen_passes()
     ensures { UnseenPasses }
 {}
 
-/// What is spelled in an attribute, PortInfo say, is what an agent reads in it.
-pub fn spelled_is_read()
-    ensures { SpelledIsRead }
+/// What is encoded in an attribute, PortInfo say, is what an agent reads in it.
+pub fn encoded_is_read()
+    ensures { EncodedIsRead }
 {}
 
 /// A port takes back what it has: a Set that asks for that, and for no change of its state, is taken and

@@ -19,7 +19,7 @@ mod word_table;
 
 pub use crate::carried::{linear_fdb_top_in, ports_in, words_in};
 pub use crate::laws::{
-    ports_take_back, replies_carry, settings_keep_good, spelled_is_read, the_numbers, unseen_passes,
+    encoded_is_read, ports_take_back, replies_carry, settings_keep_good, the_numbers, unseen_passes,
 };
 pub use crate::link::PortLink;
 pub use crate::local_port::shown_at;

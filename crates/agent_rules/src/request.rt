@@ -75,7 +75,7 @@ pub fn put_reply(smp: &mut Mad, answer: &Result<[u8; 64], MadStatus>)
     ensures reply { smp.new ≡ reply_to smp.old answer.now }
     ensures status { field smp.new 33 15 ≡ reply_status answer.now }
     ensures kept { KeepsRest smp.old smp.new }
-    ensures spelled { IfOk answer.now IsAttribute }
+    ensures encoded { IfOk answer.now IsAttribute }
 {
     match answer {
         Ok(attribute) => put_attribute(smp, attribute),
@@ -87,7 +87,7 @@ pub fn put_reply(smp: &mut Mad, answer: &Result<[u8; 64], MadStatus>)
 fn put_attribute(smp: &mut Mad, attribute: &[u8; 64])
     ensures reply { smp.new ≡ reply_to smp.old (Ok attribute.now) }
     ensures fits { number attribute.now < 2 ^ 512 }
-    ensures spelled { IsAttribute attribute.now }
+    ensures encoded { IsAttribute attribute.now }
 {
     known_bytes(attribute);
     let method = reply_method(smp);

@@ -22,8 +22,8 @@ abbrev pub BlocksTile : Type 0
 BlocksTile =
     (size entries blocks index : ℕ) → IsBlockCount size entries blocks → index < entries → Tiles size blocks index
 
--- what records and blocks spell fills an attribute, whatever they hold
-pub record AttributesAreSpelled : Type 0 where
+-- what records and blocks encode fills an attribute, whatever they hold
+pub record AttributesAreEncoded : Type 0 where
   pub node_info : (info : NodeInfo) → IsAttribute (node_info_bytes info)
   pub port_info : (info : PortInfo) → IsAttribute (port_info_bytes info)
   pub switch_info : (info : SwitchInfo) → IsAttribute (switch_info_bytes info)

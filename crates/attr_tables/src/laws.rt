@@ -3,7 +3,7 @@
 ghost use Rattle.attr_tables.specs.declared.blocks.TheConstants.{PORTS_PER_BLOCK, WORDS_PER_BLOCK};
 ghost use Rattle.std.specs.Prelude.{◌≡◌, ◌<◌};
 ghost use Rattle.attr_tables.specs.Blocks.{word_bytes};
-ghost use Rattle.attr_tables.specs.Laws.{AttributesAreSpelled, BlocksTile};
+ghost use Rattle.attr_tables.specs.Laws.{AttributesAreEncoded, BlocksTile};
 ghost use Rattle.attr_tables.specs.NodeInfo.{node_info_bytes};
 ghost use Rattle.attr_tables.specs.PortInfo.{port_info, port_info_bytes};
 ghost use Rattle.attr_tables.specs.SwitchInfo.{switch_info_bytes};
@@ -69,9 +69,9 @@ pub fn blocks_tile()
     ensures { BlocksTile }
 {}
 
-/// What records and blocks spell fills an attribute.
-pub fn attributes_are_spelled()
-    ensures { AttributesAreSpelled }
+/// What records and blocks encode fills an attribute.
+pub fn attributes_are_encoded()
+    ensures { AttributesAreEncoded }
 {}
 
 /// How many entries a block has, written out: a block is one attribute of 64 bytes.

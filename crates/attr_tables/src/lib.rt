@@ -24,7 +24,7 @@ mod word_block;
 
 pub use crate::blocks::{BlockPlace, PORTS_PER_BLOCK, WORDS_PER_BLOCK, block_count, block_place};
 pub use crate::laws::{
-    attributes_are_spelled, blocks_tile, node_info_reads_back, port_block_reads_back,
+    attributes_are_encoded, blocks_tile, node_info_reads_back, port_block_reads_back,
     port_info_reads_back, switch_info_reads_back, the_numbers, word_block_reads_back,
 };
 pub use crate::mtu::Mtu;

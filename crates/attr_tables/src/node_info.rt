@@ -1,7 +1,7 @@
 //! NodeInfo.
 
 ghost use Rattle.std.specs.Prelude.{◌≡◌, ◌<◌, Some, IfSome, replicate};
-ghost use Rattle.mad_layout.specs.Layout.{Holds, Fits, put_all, Spells};
+ghost use Rattle.mad_layout.specs.Layout.{Holds, Fits, put_all, Encodes};
 ghost use Rattle.attr_tables.specs.NodeInfo.{node_info, node_info_bytes};
 ghost use Rattle.fabric_parts.specs.NodeType.{node_type_code};
 
@@ -71,7 +71,7 @@ impl NodeInfo {
     /// Writes the attribute; every bit outside its fields is 0.
     pub fn write(&self, bytes: &mut [u8; 64])
         requires { self.now.vendor_id < 16777216 }
-        ensures spells { Spells bytes.new (node_info self.now) }
+        ensures encodes { Encodes bytes.new (node_info self.now) }
         ensures bytes { bytes.new ≡ node_info_bytes self.now }
     {
         self.put_over_zeros(bytes);

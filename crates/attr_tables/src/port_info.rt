@@ -1,7 +1,7 @@
 //! PortInfo.
 
 ghost use Rattle.std.specs.Prelude.{◌≡◌, Some, IfSome, replicate};
-ghost use Rattle.mad_layout.specs.Layout.{Holds, Fits, put_all, Spells};
+ghost use Rattle.mad_layout.specs.Layout.{Holds, Fits, put_all, Encodes};
 ghost use Rattle.attr_tables.specs.Mtu.{mtu_code};
 ghost use Rattle.attr_tables.specs.PortInfo.{port_info, port_info_bytes};
 ghost use Rattle.attr_tables.specs.PortPhysicalState.{port_physical_state_code};
@@ -174,7 +174,7 @@ impl PortInfo {
     /// Writes the attribute; every bit outside its fields is 0.
     pub fn write(&self, bytes: &mut [u8; 64])
         requires { Fits (port_info self.now) }
-        ensures spells { Spells bytes.new (port_info self.now) }
+        ensures encodes { Encodes bytes.new (port_info self.now) }
         ensures bytes { bytes.new ≡ port_info_bytes self.now }
     {
         self.put_over_zeros(bytes);

@@ -1,7 +1,7 @@
 //! SwitchInfo.
 
 ghost use Rattle.std.specs.Prelude.{◌≡◌, ◌<◌, replicate};
-ghost use Rattle.mad_layout.specs.Layout.{Holds, Fits, put_all, Spells};
+ghost use Rattle.mad_layout.specs.Layout.{Holds, Fits, put_all, Encodes};
 ghost use Rattle.attr_tables.specs.SwitchInfo.{switch_info, switch_info_bytes};
 
 use mad_layout::{read_fields, write_fields};
@@ -81,7 +81,7 @@ impl SwitchInfo {
     /// Writes the attribute; every bit outside its fields is 0.
     pub fn write(&self, bytes: &mut [u8; 64])
         requires { self.now.life_time_value < 32 }
-        ensures spells { Spells bytes.new (switch_info self.now) }
+        ensures encodes { Encodes bytes.new (switch_info self.now) }
         ensures bytes { bytes.new ≡ switch_info_bytes self.now }
     {
         self.put_over_zeros(bytes);

@@ -1,4 +1,4 @@
--- The entries that are told are those at which two tables have different ports.
+-- The entries that are reported are those at which two tables have different ports.
 use Rattle.std.proofs.Common.{zero, suc, ◌≡◌, ◌≢◌, ◌==◌, ◌⊎◌, inl, inr, refl, sym, subst, Bool, true, false, if◌then◌else◌, List, [], ◌∷◌, flat_map, arith}
 use Rattle.std.specs.List.{Contains}
 use Rattle.std.proofs.lemmas.Bool.{eqb-false, ne_eqb}
@@ -47,27 +47,27 @@ gives_all f (z ∷ xs) x y (suc k, less, same) is =
 
 -- ---- entries
 module _ (ports : List SubnetPort) (one other : Tables) where
-  abbrev told : SubnetPort → SubnetPort → Change
-  told switch port = record { switch = switch.lid; lid = port.lid; was = one switch.guid port.lid; becomes = other switch.guid port.lid }
+  abbrev reported : SubnetPort → SubnetPort → Change
+  reported switch port = record { switch = switch.lid; lid = port.lid; was = one switch.guid port.lid; becomes = other switch.guid port.lid }
 
-  record IsTold (switch port : SubnetPort) (change : Change) : Type 0 where
+  record IsReported (switch port : SubnetPort) (change : Change) : Type 0 where
     differ : one switch.guid port.lid ≢ other switch.guid port.lid
-    change_is : change ≡ told switch port
+    change_is : change ≡ reported switch port
 
-  is_told : (switch port : SubnetPort) (change : Change) → Contains (change_at one other switch port) change → IsTold switch port change
-  is_told switch port change there = by (one switch.guid port.lid == other switch.guid port.lid) refl there
+  is_reported : (switch port : SubnetPort) (change : Change) → Contains (change_at one other switch port) change → IsReported switch port change
+  is_reported switch port change there = by (one switch.guid port.lid == other switch.guid port.lid) refl there
     where
       by : (b : Bool) → (one switch.guid port.lid == other switch.guid port.lid) ≡ b
-          → Contains (if b then [] else told switch port ∷ []) change → IsTold switch port change
+          → Contains (if b then [] else reported switch port ∷ []) change → IsReported switch port change
       by true is there = absurd (none_in change there)
       by false is there = record {
         differ = λ same. eqb-false (one switch.guid port.lid) (other switch.guid port.lid) is same;
-        change_is = only_in (told switch port) change there;
+        change_is = only_in (reported switch port) change there;
       }
 
-  tells : (switch port : SubnetPort) → one switch.guid port.lid ≢ other switch.guid port.lid
-      → Contains (change_at one other switch port) (told switch port)
-  tells switch port differ = rw (ne_eqb (one switch.guid port.lid) (other switch.guid port.lid) differ) (first_in (told switch port) [])
+  reports : (switch port : SubnetPort) → one switch.guid port.lid ≢ other switch.guid port.lid
+      → Contains (change_at one other switch port) (reported switch port)
+  reports switch port differ = rw (ne_eqb (one switch.guid port.lid) (other switch.guid port.lid) differ) (first_in (reported switch port) [])
 
   found : (change : Change) → Contains (changes ports one other) change → IsDifference ports one other change
   found change there = at_switch (given (changes_at ports one other) ports change there)
@@ -75,7 +75,7 @@ module _ (ports : List SubnetPort) (one other : Tables) where
       at_port : (switch : SubnetPort) → Contains ports switch → is_switch_type switch.node_type ≡ true
           → IsGiven (change_at one other switch) ports change → IsDifference ports one other change
       at_port switch listed is gave =
-          let is_so = is_told switch gave.one change gave.gives in record {
+          let is_so = is_reported switch gave.one change gave.gives in record {
             switch = switch;
             switch_listed = listed;
             is_switch = is;
@@ -93,11 +93,11 @@ module _ (ports : List SubnetPort) (one other : Tables) where
           by true is there = at_port gave.one gave.listed is (given (change_at one other gave.one) ports change there)
           by false is there = absurd (none_in change there)
 
-  told_all : (change : Change) → IsDifference ports one other change → Contains (changes ports one other) change
-  told_all change is =
+  reported_all : (change : Change) → IsDifference ports one other change → Contains (changes ports one other) change
+  reported_all change is =
       subst (Contains (changes ports one other)) (sym is.change_is)
-      (gives_all (changes_at ports one other) ports is.switch (told is.switch is.port) is.switch_listed
-      (rw is.is_switch (gives_all (change_at one other is.switch) ports is.port (told is.switch is.port) is.port_listed (tells is.switch is.port is.differ))))
+      (gives_all (changes_at ports one other) ports is.switch (reported is.switch is.port) is.switch_listed
+      (rw is.is_switch (gives_all (change_at one other is.switch) ports is.port (reported is.switch is.port) is.port_listed (reports is.switch is.port is.differ))))
 
 pub changes_are_what_differs : ChangesAreWhatDiffers
-changes_are_what_differs ports one other change = (found ports one other change, told_all ports one other change)
+changes_are_what_differs ports one other change = (found ports one other change, reported_all ports one other change)

@@ -1,4 +1,4 @@
--- One thing becomes of a fabric without a cable, and the tables that are told are those of the fabric.
+-- One thing becomes of a fabric without a cable, and the tables that are reported are those of the fabric.
 use Rattle.std.proofs.Common.{ℕ, ◌+◌, ◌<◌, nat_le, arith, ◌≡◌, ◌∙◌, ◌==◌, ap, refl, sym, subst, true, false, List, unwrap_or, Option, ◌↔◌}
 use Rattle.std.specs.Option.{option_map_or}
 use Rattle.std.proofs.lemmas.Bool.{and_from, eq-eqb, false≢true, le-leb, lt-ltb}
@@ -7,16 +7,17 @@ use Rattle.fabric_parts.specs.declared.cable.Cable.{Cable}
 use Rattle.fabric_parts.specs.declared.cable.PortRef.{PortRef}
 use Rattle.fabric_wire.specs.OfTopology.{fabric_of}
 use Rattle.lid_assign.specs.Lids.{AreLids, end_ports}
-use Rattle.routes_alike.proofs.AlikeLemmas.{one_pair_is_refused}
-use Rattle.routes_alike.proofs.ChoiceLemmas.{next_hops_are_the_fabrics}
-use Rattle.routes_alike.proofs.OfFabricLemmas.{graphs_of_one_fabric_are_alike}
-use Rattle.routes_alike.specs.Alike.{layout_of}
+use Rattle.route_order_laws.proofs.AlikeLemmas.{one_pair_is_refused}
+use Rattle.route_order_laws.proofs.ChoiceLemmas.{next_hops_are_the_fabrics}
+use Rattle.route_order_laws.proofs.OfFabricLemmas.{graphs_of_one_fabric_are_alike}
+use Rattle.route_order_laws.specs.Alike.{layout_of}
 use Rattle.smp_wire.specs.FabricState.{FabricState}
 use Rattle.smp_wire.specs.Good.{IsGood, SwitchesJoined}
 use Rattle.smp_wire.specs.Walk.{last_of}
 use Rattle.subnet_fabric.proofs.FoundLemmas.{laid_out}
-use Rattle.subnet_fabric.proofs.StandingLookLemmas.{joined_alike, no_path_alike}
+use Rattle.subnet_fabric.proofs.StandingLookLemmas.{joined_alike, no_path_alike, planned_alike}
 use Rattle.subnet_fabric.specs.BringUp.{HasNoPath, IsBroughtUpBy, root_guids}
+use Rattle.subnet_fabric.specs.Planning.{ArePlannedOver}
 use Rattle.subnet_fabric.specs.SetUp.{HasNoPathFrom}
 use Rattle.subnet_fabric.specs.Standing.{CanComeUp}
 use Rattle.sweep.proofs.LayoutLemmas.{at_less, at_switch, same_node, walk_up}
@@ -32,12 +33,12 @@ use Rattle.cable_cuts.proofs.ConnectedLemmas.{is_connected_then}
 use Rattle.cable_cuts.proofs.LidLemmas.{same_lids}
 use Rattle.cable_cuts.proofs.MaskMeetLemmas.{masks_meet}
 use Rattle.cable_cuts.proofs.NeededLemmas.{never_up}
-use Rattle.cable_cuts.proofs.PlanLemmas.{cut_alike, cut_fabric, good_cut, left_alike, planned_alike}
+use Rattle.cable_cuts.proofs.PlanLemmas.{cut_alike, cut_fabric, good_cut, left_alike}
 use Rattle.cable_cuts.proofs.TableLemmas.{bit_is, entry_is}
 use Rattle.cable_cuts.specs.Cables.{can_be_cut, without_cable}
 use Rattle.cable_cuts.specs.Changes.{changes, entry_by, entry_in}
-use Rattle.cable_cuts.specs.Fate.{ArePlannedFor, ArePlannedOver, HaveBroughtUp, IsFate, IsStop}
-use Rattle.cable_cuts.specs.Laws.{ChangesAreTheFabrics, KeptIsWhatComesUp, MasksAreTheFabrics, OneFateIsTold, TellTheSame}
+use Rattle.cable_cuts.specs.Fate.{ArePlannedFor, HaveBroughtUp, IsFate, IsStop}
+use Rattle.cable_cuts.specs.Laws.{ChangesAreTheFabrics, KeptIsWhatComesUp, MasksAreTheFabrics, OneFateIsReported, ReportTheSame}
 use Rattle.cable_cuts.specs.Masks.{mask_by, receives_all}
 use Rattle.sa_groups.specs.Groups.{first_mlid}
 use Rattle.agent_rules.specs.declared.power_up.TheConstants.{MULTICAST_TABLE}
@@ -140,14 +141,14 @@ module _ (plan : TopologyState) (routes : RoutesState) (cable : Cable) (sound : 
       let second = same.1 in
       sym (λ i. NoLegalPath (first i) (second i))
 
-  one_fate : (one other : Cut) → IsFate left one → IsFate left other → TellTheSame one other
+  one_fate : (one other : Cut) → IsFate left one → IsFate left other → ReportTheSame one other
   one_fate (Keeps one) (Keeps other) is too = (tables_are one other is.1 too.1, λ ports. masks_are ports one other is.1 too.1)
   one_fate (Keeps one) (Stops stop) is too = absurd (never_up left stop too is.0)
   one_fate (Stops stop) (Keeps other) is too = absurd (never_up left stop is too.0)
   one_fate (Stops one) (Stops other) is too = one_stop one other is too
 
-pub one_fate_is_told : OneFateIsTold
-one_fate_is_told plan routes cable one other sound up can is too = one_fate plan routes cable sound up can one other is too
+pub one_fate_is_reported : OneFateIsReported
+one_fate_is_reported plan routes cable one other sound up can is too = one_fate plan routes cable sound up can one other is too
 
 pub kept_is_what_comes_up : KeptIsWhatComesUp
 kept_is_what_comes_up plan configuration routes cable outcome is = by is.fate is.fate_is is.outcome_is

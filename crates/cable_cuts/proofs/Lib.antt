@@ -10,11 +10,12 @@ pub mod ChangeLemmas
 pub mod TextLemmas
 pub mod TreeLemmas
 pub mod TreeHopLemmas
-pub mod MaskReadLemmas
+pub mod MaskSameLemmas
+pub mod MaskHeldLemmas
 pub mod PlacedLemmas
 pub mod MaskMeetLemmas
 pub mod LidLemmas
 pub mod MaskChangeLemmas
-pub mod MaskToldLemmas
+pub mod MaskReportedLemmas
 pub mod OnceLemmas
 pub mod WrongLemmas

@@ -6,9 +6,9 @@ use Rattle.std.proofs.lemmas.Option.{slice_get-map}
 use Rattle.fabric_parts.specs.declared.cable.PortRef.{PortRef}
 use Rattle.lid_assign.specs.Lids.{AreLids, end_ports}
 use Rattle.partition_file.specs.declared.heading.Heading.{Heading}
-use Rattle.routes_alike.proofs.AlikeLemmas.{home_low}
-use Rattle.routes_alike.proofs.OfFabricLemmas.{has_switch, meets, not_without, within_rows}
-use Rattle.routes_alike.specs.Alike.{layout_of, placed_home}
+use Rattle.route_order_laws.proofs.AlikeLemmas.{home_low}
+use Rattle.route_order_laws.proofs.OfFabricLemmas.{has_switch, meets, not_without, within_rows}
+use Rattle.route_order_laws.specs.Alike.{layout_of, placed_home}
 use Rattle.smp_wire.specs.FabricState.{FabricState}
 use Rattle.smp_wire.specs.Good.{IsGood}
 use Rattle.subnet_model.specs.declared.subnet_port.SubnetPort.{SubnetPort}
@@ -16,7 +16,7 @@ use Rattle.table_push.specs.Masks.{is_hop, is_hop_to, is_in_mask}
 use Rattle.updn_routes.specs.Routes.{home_of}
 use Rattle.updn_routes.specs.Subnet.{RoutesState, homes_of, place_of as place_in}
 use Rattle.cable_cuts.proofs.TreeHopLemmas.{alike, count, hop_same, lids, place}
-use Rattle.cable_cuts.specs.Fate.{ArePlannedOver}
+use Rattle.subnet_fabric.specs.Planning.{ArePlannedOver}
 use Rattle.cable_cuts.specs.Masks.{mask_by, receives_all}
 use Rattle.sa_groups.specs.Groups.{first_mlid}
 

@@ -18,7 +18,7 @@ never_up plan Apart apart can = false≢true (sym apart ∙ is_connected_then pl
 never_up plan TooFar far can = can.near far.1
 never_up plan (NoLegalPath switch port) none can = can.reached switch port none
 
-zip_more : {X Y : Type 0} (R : X → Y → Type 0) (xs : List X) (ys : List Y) (x : X) (y : Y) → AllZip R xs ys → R x y → AllZip R (xs ++ x ∷ []) (ys ++ y ∷ [])
+pub zip_more : {X Y : Type 0} (R : X → Y → Type 0) (xs : List X) (ys : List Y) (x : X) (y : Y) → AllZip R xs ys → R x y → AllZip R (xs ++ x ∷ []) (ys ++ y ∷ [])
 zip_more R [] [] x y all one = (one, tt)
 zip_more R [] (z ∷ ys) x y all one = absurd all
 zip_more R (z ∷ xs) [] x y all one = absurd all

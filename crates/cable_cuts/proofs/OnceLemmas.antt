@@ -1,17 +1,17 @@
--- Each entry that differs is told once, and so is each mask, where each end port has a LID of its own.
+-- Each entry that differs is reported once, and so is each mask, where each end port has a LID of its own.
 use Rattle.std.proofs.Common.{ℕ, ◌+◌, ◌<◌, ◌≡◌, ◌==◌, ◌&&◌, refl, sym, subst, Bool, true, false, if◌then◌else◌, List, [], ◌∷◌, ◌++◌, is_some, length, map, arith}
 use Rattle.std.specs.List.{AllByRecursion, IsDistinct, enumerate_from, flat_map, range_with_len}
 use Rattle.std.proofs.lemmas.Bool.{false≢true, ne_eqb}
 use Rattle.std.proofs.lemmas.Bool.Decides.{nat_tests}
 use Rattle.std.proofs.lemmas.Map.Keys.{IsDistinct-cons, IsDistinct-head, IsDistinct-tail}
-use Rattle.result_words.proofs.ListLemmas.{IsDistinct-nil}
+use Rattle.step_results.proofs.ListLemmas.{IsDistinct-nil}
 use Rattle.fabric_parts.specs.NodeType.{is_switch_type}
 use Rattle.partition_file.specs.declared.heading.Heading.{Heading}
 use Rattle.subnet_model.specs.declared.subnet_port.SubnetPort.{SubnetPort}
 use Rattle.cable_cuts.proofs.ChangeLemmas.{changes_are_what_differs}
-use Rattle.cable_cuts.proofs.MaskToldLemmas.{mask_changes_are_what_differs}
+use Rattle.cable_cuts.proofs.MaskReportedLemmas.{mask_changes_are_what_differs}
 use Rattle.cable_cuts.specs.Changes.{Tables, change_at, changes, changes_at}
-use Rattle.cable_cuts.specs.Laws.{EntriesAreToldOnce, LidsAreOwn, MasksAreToldOnce, NumbersAreOfWhatDiffers, have_same_lid, same_entry, same_mask}
+use Rattle.cable_cuts.specs.Laws.{EntriesAreReportedOnce, LidsAreOwn, MasksAreReportedOnce, NumbersAreOfWhatDiffers, have_same_lid, same_entry, same_mask}
 use Rattle.cable_cuts.specs.Masks.{Masks, differs, mask_change_at, mask_changes, mask_changes_at}
 use Rattle.cable_cuts.specs.declared.changes.Change.{Change}
 use Rattle.cable_cuts.specs.declared.masks.MaskChange.{MaskChange}
@@ -85,8 +85,8 @@ second_apart false b is = refl
 
 -- ---- entries
 module _ (ports : List SubnetPort) (one other : Tables) where
-  told_one : (switch port : SubnetPort) → IsDistinct same_entry (change_at one other switch port)
-  told_one switch port = by (one switch.guid port.lid == other switch.guid port.lid)
+  reported_one : (switch port : SubnetPort) → IsDistinct same_entry (change_at one other switch port)
+  reported_one switch port = by (one switch.guid port.lid == other switch.guid port.lid)
     where
       by : (b : Bool) → IsDistinct same_entry (if b then [] else record { switch = switch.lid; lid = port.lid; was = one switch.guid port.lid; becomes = other switch.guid port.lid } ∷ [])
       by true = IsDistinct-nil same_entry
@@ -115,7 +115,7 @@ module _ (ports : List SubnetPort) (one other : Tables) where
           once_all same_entry (λ (change : Change). change.lid) (λ port. port.lid) (change_at one other switch)
           (λ a b is. second_apart (a.switch == b.switch) (a.lid == b.lid) is)
           (λ port. all_so (λ (change : Change). (change.switch ≡ switch.lid) × (change.lid ≡ port.lid)) (λ (change : Change). change.lid ≡ port.lid) (λ change is. is.1) (change_at one other switch port) (own_one switch port))
-          (told_one switch) ports lids
+          (reported_one switch) ports lids
       by false = IsDistinct-nil same_entry
 
   of_switch : (switch : SubnetPort) → AllByRecursion (λ (change : Change). change.switch ≡ switch.lid) (changes_at ports one other switch)
@@ -125,8 +125,8 @@ module _ (ports : List SubnetPort) (one other : Tables) where
       by true = all_of_switch switch ports
       by false = tt
 
-pub entries_are_told_once : EntriesAreToldOnce
-entries_are_told_once ports one other lids =
+pub entries_are_reported_once : EntriesAreReportedOnce
+entries_are_reported_once ports one other lids =
     once_all same_entry (λ (change : Change). change.switch) (λ port. port.lid) (changes_at ports one other)
     (λ a b is. first_apart (a.switch == b.switch) (a.lid == b.lid) is) (of_switch ports one other) (at_switch ports one other lids) ports lids
 
@@ -181,8 +181,8 @@ module _ (partitions : List Heading) (one other : Masks) where
       by true = masks_of_switch switch (enumerate_from 0 partitions)
       by false = tt
 
-pub masks_are_told_once : MasksAreToldOnce
-masks_are_told_once configuration one other lids =
+pub masks_are_reported_once : MasksAreReportedOnce
+masks_are_reported_once configuration one other lids =
     once_all same_mask (λ (change : MaskChange). change.switch) (λ port. port.lid) (mask_changes_at configuration.partitions one other)
     (λ a b is. first_apart (a.switch == b.switch) (a.partition == b.partition) is) (masks_of configuration.partitions one other) (masks_at configuration.partitions one other)
     configuration.ports lids
@@ -191,11 +191,11 @@ masks_are_told_once configuration one other lids =
 pub numbers_are_of_what_differs : NumbersAreOfWhatDiffers
 numbers_are_of_what_differs configuration one other was becomes lids = record {
   all = changes configuration.ports one other;
-  once = entries_are_told_once configuration.ports one other lids;
+  once = entries_are_reported_once configuration.ports one other lids;
   each = changes_are_what_differs configuration.ports one other;
   entries_are = refl;
   all_masks = mask_changes configuration was becomes;
-  masks_once = masks_are_told_once configuration was becomes lids;
+  masks_once = masks_are_reported_once configuration was becomes lids;
   each_mask = mask_changes_are_what_differs configuration was becomes;
   masks_are = refl;
 }

@@ -1,4 +1,4 @@
--- What the graph of a fabric that is up is without a cable, and what comes of it.
+-- What the fabric of a topology is without a cable, and what is planned for it.
 use Rattle.std.proofs.Common.{◌≡◌, ℕ, Bool, true, false, if◌then◌else◌, ◌==◌, ◌∙◌, List, filter, map, refl, ap, subst, inl, inr}
 use Rattle.std.specs.List.{list_all, list_any}
 use Rattle.std.proofs.lemmas.Bool.{and_from}
@@ -15,17 +15,16 @@ use Rattle.subnet_fabric.proofs.RecabledLookLemmas.{LooksSame, kind_same, look}
 use Rattle.subnet_fabric.proofs.RecabledPowerUpLemmas.{all_show}
 use Rattle.subnet_fabric.proofs.StandingLemmas.{good_next, it_is_planned, next_alike, roots_named}
 use Rattle.subnet_fabric.proofs.StandingListedLemmas.{brought_up_stands}
-use Rattle.subnet_fabric.proofs.StandingLookLemmas.{AreSeenAlike, big_alike, far_alike, joined_alike, layout_alike, no_path_alike, seen_back, set_up_alike}
+use Rattle.subnet_fabric.proofs.StandingLookLemmas.{AreSeenAlike, far_alike, joined_alike, plan_alike, seen_back}
 use Rattle.subnet_fabric.specs.BringUp.{root_guids}
+use Rattle.subnet_fabric.specs.Planning.{IsPlan, MayBePlannedIn, planned_in}
 use Rattle.subnet_fabric.specs.Recabled.{with_cables}
-use Rattle.subnet_fabric.specs.SetUp.{IsLaidOut}
-use Rattle.subnet_fabric.specs.Standing.{IsStanding, port_in}
-use Rattle.sweep.proofs.SmallLemmas.{not_too_big}
+use Rattle.subnet_fabric.specs.Standing.{IsStanding}
+use Rattle.subnet_fabric.specs.declared.planning.Planned.TheVariants.{Routed, NotWhole, NoLegalPath as NoPath}
 use Rattle.sweep.proofs.SweptLemmas.{whole_graphs_are_swept}
-use Rattle.sweep.specs.Graph.{GraphState, IsGraph, is_linked}
+use Rattle.sweep.specs.Graph.{IsGraph}
 use Rattle.sweep.specs.Hops.{IsTooFar}
 use Rattle.sweep.specs.OfFabric.{IsLayoutOf}
-use Rattle.sweep.specs.Recabled.{IsWhole, without}
 use Rattle.topo_file.proofs.WalkLemmas.{joined_if}
 use Rattle.topo_file.specs.Connectivity.{is_connected}
 use Rattle.topo_file.specs.Node.{is_switch_at as is_planned_at}
@@ -35,28 +34,9 @@ use Rattle.updn_routes.specs.Subnet.{RoutesState, guids_of}
 use Rattle.cable_cuts.proofs.FarLemmas.{far_or_whole}
 use Rattle.cable_cuts.proofs.SoundLemmas.{first_switch, is_there, second_switch, sound_without}
 use Rattle.cable_cuts.specs.Cables.{can_be_cut, without_cable}
-use Rattle.cable_cuts.specs.Fate.{ArePlannedOver, HaveBroughtUp, IsFate, IsStop, RoutesGive}
-use Rattle.cable_cuts.specs.declared.fate.Cut.{Cut}
+use Rattle.cable_cuts.specs.Fate.{HaveBroughtUp, IsFate, IsStop}
 use Rattle.cable_cuts.specs.declared.fate.Cut.TheVariants.{Keeps, Stops}
 use Rattle.cable_cuts.specs.declared.fate.Stop.TheVariants.{Apart, TooFar, NoLegalPath}
-
--- ---- two fabrics that look the same
-laid_alike : (one other : FabricState) (graph : GraphState) → AreSeenAlike one other → IsLaidOut one graph → IsLaidOut other graph
-laid_alike one other graph alike laid = record {
-  layout = layout_alike one other alike graph laid.layout;
-  joined = laid.joined;
-  near = λ far. laid.near (far_alike one other alike far);
-  small = λ big. laid.small (big_alike one other alike big);
-}
-
-pub planned_alike : (one other : FabricState) (roots : List ℕ) (routes : RoutesState) → AreSeenAlike one other → ArePlannedOver one roots routes
-    → ArePlannedOver other roots routes
-planned_alike one other roots routes alike planned = record {
-  laid = laid_alike one other routes.graph alike planned.laid;
-  assigned = planned.assigned;
-  made = planned.made;
-  chosen = planned.chosen;
-}
 
 module _ (plan : TopologyState) (routes : RoutesState) (cable : Cable) (sound : IsSound plan) (up : HaveBroughtUp plan routes)
     (can : can_be_cut plan cable ≡ true) where
@@ -113,50 +93,20 @@ module _ (plan : TopologyState) (routes : RoutesState) (cable : Cable) (sound : 
   named = roots_named plan up.keys routes up.fabric sound good standing
 
   -- ---- its graph
-  abbrev pub planned : GraphState
-  planned = without (port_in plan routes.graph a) (port_in plan routes.graph b) routes.graph
+  pub may : MayBePlannedIn plan cable false routes.graph
+  may = (it_is_planned plan up.keys routes up.fabric sound good standing a b false goes graph).may
 
-  pub linked : is_linked routes.graph.rows (port_in plan routes.graph a) (port_in plan routes.graph b) ≡ true
-  linked = (it_is_planned plan up.keys routes up.fabric sound good standing a b false goes graph).may
-
-  pub layout : IsLayoutOf planned cut_fabric
+  pub layout : IsLayoutOf (planned_in plan cable false routes.graph) cut_fabric
   layout = (it_is_planned plan up.keys routes up.fabric sound good standing a b false goes graph).layout
 
-  pub is_planned : (first second : PortRef) (was now : GraphState) → was ≡ routes.graph → first ≡ port_in plan was a → second ≡ port_in plan was b
-      → now ≡ without first second was → now ≡ planned
-  is_planned first second was now here one two is =
-      let one_is : first ≡ port_in plan routes.graph a = one ∙ ap (λ (graph : GraphState). port_in plan graph a) here in
-      let two_is : second ≡ port_in plan routes.graph b = two ∙ ap (λ (graph : GraphState). port_in plan graph b) here in
-      is ∙ (λ i. without (one_is i) (two_is i) (here i))
-
-  -- ---- where its graph is whole, it is what routes make of it
-  pub laid : IsGraph planned → IsWhole planned → IsLaidOut cut_fabric planned
-  laid is whole = record {
-    layout = layout;
-    joined = whole.joined;
-    near = ((whole_graphs_are_swept cut_fabric planned good_cut layout).0 whole).1;
-    small = λ big. not_too_big cut_fabric planned good_cut is layout big;
-  }
-
-  pub is_fate : (fate : Cut) → IsWhole planned → RoutesGive cut_fabric (root_guids plan) fate → IsFate left fate
-  is_fate (Keeps more) whole give =
-      let swept = (whole_graphs_are_swept cut_fabric planned good_cut layout).0 whole in (
-        set_up_alike cut_fabric (fabric_of left) (root_guids plan) cut_alike (record { joined = swept.0; near = swept.1; reached = give.0 }),
-        planned_alike cut_fabric (fabric_of left) (root_guids plan) more cut_alike give.1,
-      )
-  is_fate (Stops Apart) whole give = absurd give
-  is_fate (Stops TooFar) whole give = absurd give
-  is_fate (Stops (NoLegalPath switch port)) whole give =
-      no_path_alike (fabric_of left) cut_fabric (root_guids plan) switch port left_alike give
-
-  -- ---- where it is not, the topology tells why
-  pub is_unswept : (IsWhole planned → ⊥) → IsStop left (if is_connected left.nodes left.cables then TooFar else Apart)
+  -- ---- where it is not, the topology reports why
+  pub is_unswept : IsPlan cut_fabric (root_guids plan) NotWhole → IsStop left (if is_connected left.nodes left.cables then TooFar else Apart)
   is_unswept never = by (is_connected left.nodes left.cables) refl
     where
       far : SwitchesJoined cut_fabric → IsTooFar (fabric_of left)
-      far each = elim (far_or_whole cut_fabric planned good_cut layout each) [
+      far each = elim (far_or_whole cut_fabric (planned_in plan cable false routes.graph) good_cut layout each) [
         | inl too_far ↦ far_alike (fabric_of left) cut_fabric left_alike too_far
-        | inr whole ↦ absurd (never whole)
+        | inr whole ↦ absurd (never ((whole_graphs_are_swept cut_fabric (planned_in plan cable false routes.graph) good_cut layout).0 whole))
       ]
 
       by : (connected : Bool) → is_connected left.nodes left.cables ≡ connected → IsStop left (if connected then TooFar else Apart)
@@ -166,3 +116,10 @@ module _ (plan : TopologyState) (routes : RoutesState) (cable : Cable) (sound : 
         far (joined_alike (fabric_of left) cut_fabric left_alike
             (joined left (sound_without plan cable can sound (joined_if left.nodes left.cables is)))),
       )
+
+  -- ---- what is planned for it becomes of the topology's
+  pub is_fate : (others : RoutesState) → IsPlan cut_fabric (root_guids plan) (Routed others) → IsFate left (Keeps others)
+  is_fate others is = plan_alike cut_fabric (fabric_of left) (root_guids plan) (Routed others) cut_alike is
+
+  pub is_stop : (switch port : ℕ) → IsPlan cut_fabric (root_guids plan) (NoPath switch port) → IsFate left (Stops (NoLegalPath switch port))
+  is_stop switch port is = plan_alike cut_fabric (fabric_of left) (root_guids plan) (NoPath switch port) cut_alike is

@@ -7,7 +7,7 @@ use Rattle.fabric_parts.specs.Cable.{ends_at, is_cabled, is_same_port}
 use Rattle.fabric_parts.specs.declared.cable.Cable.{Cable}
 use Rattle.fabric_parts.specs.declared.cable.PortRef.{PortRef}
 use Rattle.fabric_wire.specs.Cabling.{is_between, is_not_between}
-use Rattle.result_words.proofs.ListLemmas.{IsDistinct-nil}
+use Rattle.step_results.proofs.ListLemmas.{IsDistinct-nil}
 use Rattle.smp_wire.proofs.CableLemmas.{same_port}
 use Rattle.topo_file.specs.Connectivity.{AllJoined}
 use Rattle.topo_file.specs.Node.{is_switch_at}

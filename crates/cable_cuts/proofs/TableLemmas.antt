@@ -1,22 +1,21 @@
 -- What the linear forwarding tables of a fabric that is brought up have is what its routes say.
-use Rattle.std.proofs.Common.{ℕ, suc, ◌+◌, ◌-◌, ◌<◌, ◌≤◌, ◌≡◌, ◌∙◌, nat_lt, ap, refl, sym, Bool, true, false, cond, List, [], ◌∷◌, find, get_or, length, map, slice_get, unwrap_or, Option, Some, None, option_map, if◌then◌else◌, arith}
+use Rattle.std.proofs.Common.{ℕ, ◌+◌, ◌-◌, ◌<◌, ◌≡◌, ◌∙◌, ap, refl, sym, Bool, true, false, cond, List, [], ◌∷◌, find, get_or, length, map, slice_get, unwrap_or, Option, Some, None, option_map}
 use Rattle.std.specs.Option.{option_and_then, option_map_or}
-use Rattle.std.proofs.lemmas.Bool.{eqb-true, eq-eqb, false≢true, ltb-false, ltb-true, ne_eqb}
-use Rattle.std.proofs.lemmas.List.{get_or_past, length-append, length-map}
-use Rattle.std.proofs.lemmas.List.FromFn.{get_or-map-range_with_len, length-map-range_with_len}
-use Rattle.std.proofs.lemmas.Option.{none-some, same_Some, slice_get_past}
-use Rattle.agent_rules.specs.declared.power_up.TheConstants.{LINEAR_TABLE, MULTICAST_TABLE}
+use Rattle.std.proofs.lemmas.Bool.{eqb-true, eq-eqb, false≢true}
+use Rattle.std.proofs.lemmas.Option.{none-some}
+use Rattle.agent_rules.specs.declared.power_up.TheConstants.{MULTICAST_TABLE}
 use Rattle.fabric_parts.specs.Lid.{is_multicast}
 use Rattle.fabric_parts.specs.declared.lid.TheConstants.{FIRST_MULTICAST_LID}
 use Rattle.subnet_fabric.specs.Recabled.{masks_in}
 use Rattle.switch_model.specs.Multicast.{is_in_masks}
+use Rattle.table_push.proofs.AttachedLemmas.{found_is}
+use Rattle.table_push.proofs.EntryLemmas.{entry_read}
 use Rattle.table_push.proofs.MaskLemmas.{masks_are_read}
+use Rattle.table_push.proofs.SetUpLemmas.{with_all}
 use Rattle.table_push.specs.Masks.{all_masks_pushed, is_in_mask, masks_of, with_all_masks}
 use Rattle.cable_cuts.specs.Masks.{masks_of_switch}
-use Rattle.fabric_parts.specs.declared.cable.PortRef.{PortRef}
 use Rattle.fabric_wire.specs.OfTopology.{fabric_of}
-use Rattle.lid_assign.specs.Lids.{adapter_end, switch_end}
-use Rattle.routes_alike.proofs.OfFabricLemmas.{has_switch, not_without}
+use Rattle.route_order_laws.proofs.OfFabricLemmas.{has_switch, not_without}
 use Rattle.smp_wire.specs.FabricState.{FabricState, is_switch, is_switch_at}
 use Rattle.smp_wire.specs.Good.{node_guid}
 use Rattle.smp_wire.specs.declared.node.Node.{Node}
@@ -26,26 +25,16 @@ use Rattle.sweep.proofs.CabledLemmas.{any_found}
 use Rattle.sweep.proofs.FoundLemmas.{any_by}
 use Rattle.sweep.specs.OfFabric.{IsLayoutOf, guid_at}
 use Rattle.table_push.specs.Keys.{keys_wanted}
-use Rattle.table_push.specs.Linear.{linear_entry, linear_table, with_linear}
+use Rattle.table_push.specs.Linear.{linear_table, with_linear}
 use Rattle.table_push.specs.Nodes.{infos_by, keys_by, switch_by}
 use Rattle.table_push.specs.Ports.{change_wanted, changed, set_top}
 use Rattle.table_push.specs.Pushed.{all_pushed}
 use Rattle.topo_file.specs.Topology.{TopologyState}
-use Rattle.updn_routes.specs.Routes.{home_of, hop_to, next_hop}
-use Rattle.updn_routes.specs.Subnet.{RoutesState, home_in, place_of}
+use Rattle.updn_routes.specs.Routes.{next_hop}
+use Rattle.updn_routes.specs.Subnet.{RoutesState, place_of}
 use Rattle.cable_cuts.specs.Changes.{entry_by, entry_in, is_switch_of, linear_in}
 
 -- ---- lists
-found_there : {X : Type 0} (p : X → Bool) (xs : List X) (x : X) → find p xs ≡ Some x → (k : ℕ) × (slice_get xs k ≡ Some x) × (p x ≡ true)
-found_there p [] x is = absurd (none-some x is)
-found_there p (y ∷ xs) x is = by (p y) refl is (λ later. found_there p xs x later)
-  where
-    by : (b : Bool) → p y ≡ b → cond b (Some y) (find p xs) ≡ Some x
-        → (find p xs ≡ Some x → (k : ℕ) × (slice_get xs k ≡ Some x) × (p x ≡ true))
-        → (k : ℕ) × (slice_get (y ∷ xs) k ≡ Some x) × (p x ≡ true)
-    by true e there later = (0, there, ap p (sym (same_Some y x there)) ∙ e)
-    by false e there later = let more = later there in (suc more.0, more.1, more.2)
-
 none_passes : {X : Type 0} (p : X → Bool) (xs : List X) (k : ℕ) (x : X) → find p xs ≡ None → slice_get xs k ≡ Some x → p x ≡ true → ⊥
 none_passes p xs k x none there passes = let one = any_found p xs (any_by p xs k x there passes) in none-some one.0 (sym none ∙ one.1)
 
@@ -82,39 +71,8 @@ module _ (plan : TopologyState) (keys : List (List ℕ)) (routes : RoutesState) 
   abbrev layout : IsLayoutOf routes.graph was
   layout = up.are.found.of.layout
 
-  few : length routes.between.homes < LINEAR_TABLE
-  few =
-      let graph = up.home.graph in
-      let switches = graph.few_switches in
-      let ports = graph.few_ports in
-      let count = up.home.of.lids_are.count in
-      let homes = ap (λ (homes : List PortRef). length homes) up.home.of.homes_are ∙ length-map routes.lids (home_in routes.graph) in
-      let both = length-append (map switch_end routes.graph.switches) (map (adapter_end routes.graph.manager) routes.graph.ports) in
-      let one = length-map routes.graph.switches switch_end in
-      let two = length-map routes.graph.ports (adapter_end routes.graph.manager) in
-      omega (arith, switches, ports, count, homes, both, one, two)
-
-  nowhere : (lid : ℕ) → LINEAR_TABLE ≤ lid → home_of routes.between.homes lid ≡ None
-  nowhere lid past =
-      let low = few in
-      ap (λ (own : Bool). if own then None else slice_get routes.between.homes (lid - 1)) (ne_eqb lid 0 (λ none. omega (arith, none, past)))
-      ∙ slice_get_past routes.between.homes (lid - 1) (omega (arith, low, past))
-
-  table_at : (place lid : ℕ) → get_or (linear_table routes place) lid 255 ≡ linear_entry routes place lid
-  table_at place lid = by (nat_lt lid LINEAR_TABLE) refl
-    where
-      by : (b : Bool) → nat_lt lid LINEAR_TABLE ≡ b → get_or (linear_table routes place) lid 255 ≡ linear_entry routes place lid
-      by true is = get_or-map-range_with_len (linear_entry routes place) 0 LINEAR_TABLE lid lid 255 (ltb-true lid LINEAR_TABLE is) (omega (arith))
-      by false is =
-          let past = ltb-false lid LINEAR_TABLE is in
-          let long = length-map-range_with_len (linear_entry routes place) 0 LINEAR_TABLE in
-          get_or_past (linear_table routes place) lid 255 (omega (arith, past, long))
-          ∙ sym (ap (λ (home : Option PortRef). unwrap_or (hop_to routes.between place home) 255) (nowhere lid past))
-
   abbrev pushed : Node → Node
-  pushed node =
-      switch_by (with_linear routes) (keys_by (λ guid number held. unwrap_or (keys_wanted routes keys guid number) held)
-      (switch_by (λ guid. set_top (length routes.lids)) (infos_by (λ guid number. changed (change_wanted routes guid number)) node)))
+  pushed node = with_all routes keys node
 
   -- ---- and of the fabric
   module _ (guid lid : ℕ) where
@@ -148,9 +106,9 @@ module _ (plan : TopologyState) (keys : List (List ℕ)) (routes : RoutesState) 
 
     read : (o : Option Node) → find (is_switch_of guid) was.nodes ≡ o → Reads o
     read None none = read_none none
-    read (Some (Adapter ports)) is = absurd (false≢true (found_there (is_switch_of guid) was.nodes (Adapter ports) is).2)
+    read (Some (Adapter ports)) is = absurd (false≢true (found_is (is_switch_of guid) was.nodes (Adapter ports) is).2)
     read (Some (Switch held)) is =
-        let at = found_there (is_switch_of guid) was.nodes (Switch held) is in
+        let at = found_is (is_switch_of guid) was.nodes (Switch held) is in
         let same : held.node_guid ≡ guid = eqb-true held.node_guid guid at.2 in
         by at.0 at.1 same (place_of routes.graph.switches guid) refl
       where
@@ -162,7 +120,7 @@ module _ (plan : TopologyState) (keys : List (List ℕ)) (routes : RoutesState) 
             (ap (λ (o : Option Node). option_map_or node_guid o 0) there ∙ same) at)
         by k there same (Some place) at =
             ap (λ (o : Option ℕ). get_or (option_map_or (linear_table routes) o held.linear) lid 255) (ap (place_of routes.graph.switches) same ∙ at)
-            ∙ table_at place lid
+            ∙ entry_read routes up.home place lid
             ∙ sym (ap (λ (o : Option ℕ). unwrap_or (option_and_then (λ place. next_hop routes.between place lid) o) 255) at)
 
   pub entry_is : (guid lid : ℕ) → entry_in fabric guid lid ≡ entry_by routes guid lid
@@ -193,9 +151,9 @@ module _ (plan : TopologyState) (keys : List (List ℕ)) (routes : RoutesState) 
 
     show : (o : Option Node) → find (is_switch_of guid) was.nodes ≡ o → Shows o
     show None none = show_none none
-    show (Some (Adapter ports)) is = absurd (false≢true (found_there (is_switch_of guid) was.nodes (Adapter ports) is).2)
+    show (Some (Adapter ports)) is = absurd (false≢true (found_is (is_switch_of guid) was.nodes (Adapter ports) is).2)
     show (Some (Switch held)) is =
-        let at = found_there (is_switch_of guid) was.nodes (Switch held) is in
+        let at = found_is (is_switch_of guid) was.nodes (Switch held) is in
         let same : held.node_guid ≡ guid = eqb-true held.node_guid guid at.2 in
         by at.0 at.1 same (place_of routes.graph.switches guid) refl
       where

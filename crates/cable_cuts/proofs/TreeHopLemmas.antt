@@ -1,4 +1,4 @@
--- By two layouts of one fabric each switch sends along the tree, towards where a LID hangs, by the same port.
+-- By two layouts of one fabric each switch sends along the tree, towards where a LID is attached, by the same port.
 use Rattle.std.proofs.Common.{ℕ, suc, ◌+◌, ◌-◌, ◌<◌, ◌≡◌, ◌==◌, ◌∙◌, ap, refl, sym, subst, Bool, true, false, cond, if◌then◌else◌, List, [], ◌∷◌, find, get_or, length, slice_get, Option, Some, None, option_map, arith}
 use Rattle.std.specs.List.{Contains}
 use Rattle.std.specs.Option.{option_and_then, option_map_or}
@@ -7,8 +7,8 @@ use Rattle.std.proofs.lemmas.Option.{get_or_from_slice_get, none-some, same_Some
 use Rattle.fabric_parts.specs.Cable.{far_end, port}
 use Rattle.fabric_parts.specs.declared.cable.PortRef.{PortRef}
 use Rattle.lid_assign.specs.Lids.{AreLids, end_ports}
-use Rattle.routes_alike.proofs.OfFabricLemmas.{graphs_of_one_fabric_are_alike}
-use Rattle.routes_alike.specs.Alike.{AreAlike, layout_of, placed_home}
+use Rattle.route_order_laws.proofs.OfFabricLemmas.{graphs_of_one_fabric_are_alike}
+use Rattle.route_order_laws.specs.Alike.{AreAlike, layout_of, placed_home}
 use Rattle.smp_wire.specs.FabricState.{FabricState, is_switch_at}
 use Rattle.smp_wire.specs.Good.{IsGood}
 use Rattle.sweep.proofs.EndPortLemmas.{of_one, one_of}
@@ -28,7 +28,7 @@ use Rattle.updn_routes.specs.Tree.{tree_port}
 use Rattle.updn_routes.specs.declared.link.Link.{Link}
 use Rattle.cable_cuts.proofs.LidLemmas.{same_lids}
 use Rattle.cable_cuts.proofs.TreeLemmas.{below_moved, child_low, child_moved, depths_are_alike, port_moved, same_place}
-use Rattle.cable_cuts.specs.Fate.{ArePlannedOver}
+use Rattle.subnet_fabric.specs.Planning.{ArePlannedOver}
 
 -- what is found is in the list
 found_in : {X : Type 0} (p : X → Bool) (xs : List X) (x : X) → find p xs ≡ Some x → Contains xs x
@@ -173,7 +173,7 @@ module _ (fabric : FabricState) (good : IsGood fabric) (one other : RoutesState)
           (sym there.far ∙ (λ i. far_end fabric.cables (port (same i) (number i))) ∙ here.far) in
           ap (λ (n : ℕ). Some n) (there.port_is ∙ ap (λ (at : PortRef). at.port) end ∙ sym here.port_is)
 
-  -- ---- towards where a LID hangs
+  -- ---- towards where a LID is attached
   pub hop_same : (s : ℕ) (home : PortRef) → s < count → home.node < count → tree_hop other (place s) (placed_home place home) ≡ tree_hop one s home
   unfolding tree_hop
   hop_same s home sl hl =

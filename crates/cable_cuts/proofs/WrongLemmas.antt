@@ -1,4 +1,4 @@
--- What wrong rules tell of one switch whose tables and masks differ.
+-- What wrong rules report of one switch whose tables and masks differ.
 use Rattle.std.proofs.Common.{◌≡◌, ◌∙◌, refl, sym, Bool, true, false, List, [], ◌∷◌, Some, length, lit<, arith}
 use Rattle.std.proofs.lemmas.Bool.{false≢true}
 use Rattle.std.proofs.lemmas.Map.Keys.{IsDistinct-head}

@@ -21,7 +21,7 @@ use Rattle.cable_cuts.specs.Fate.{ArePlannedFor, HaveBroughtUp, IsFate}
 use Rattle.cable_cuts.specs.Masks.{Masks, mask_by, mask_changes, mask_in, receives_all}
 use Rattle.sa_groups.specs.Groups.{first_mlid}
 use Rattle.cable_cuts.specs.Outcomes.{IsOutcome, difference_by}
-use Rattle.cable_cuts.specs.Texts.{TellsAll, TellsOne, keeps}
+use Rattle.cable_cuts.specs.Texts.{ReportsAll, ReportsOne, keeps}
 use Rattle.cable_cuts.specs.declared.changes.Change.{Change}
 use Rattle.cable_cuts.specs.declared.fate.Cut.{Cut}
 use Rattle.cable_cuts.specs.declared.fate.Cut.TheVariants.{Keeps, Stops}
@@ -30,14 +30,14 @@ use Rattle.cable_cuts.specs.declared.outcome.Difference.{Difference}
 use Rattle.cable_cuts.specs.declared.outcome.Outcome.{Outcome}
 
 -- ---- whether it comes up
--- a cable is told as one that the fabric keeps without exactly where the fabric of the topology without it comes up
+-- a cable is reported as one that the fabric keeps without exactly where the fabric of the topology without it comes up
 abbrev pub KeptIsWhatComesUp : Type 0
 KeptIsWhatComesUp =
     (plan : TopologyState) (configuration : ConfigurationState) (routes : RoutesState) (cable : Cable) (outcome : Outcome)
     → IsOutcome plan configuration routes cable outcome → (keeps outcome ≡ true) ↔ CanComeUp (without_cable cable plan)
 
 -- ---- what differs
--- an entry is told exactly where these tables have different ports there: of a switch among the end ports, for the LID of one
+-- an entry is reported exactly where these tables have different ports there: of a switch among the end ports, for the LID of one
 pub record IsDifference (ports : List SubnetPort) (one other : Tables) (change : Change) : Type 0 where
   pub switch : SubnetPort
   pub switch_listed : Contains ports switch
@@ -67,13 +67,13 @@ same_entry a b = (a.switch == b.switch) && (a.lid == b.lid)
 abbrev pub have_same_lid : SubnetPort → SubnetPort → Bool
 have_same_lid a b = a.lid == b.lid
 
--- where each end port has a LID of its own, a rule for what differs tells each entry once
-abbrev pub EntriesAreToldOnceBy : (List SubnetPort → Tables → Tables → List Change) → Type 0
-EntriesAreToldOnceBy rule =
+-- where each end port has a LID of its own, a rule for what differs reports each entry once
+abbrev pub EntriesAreReportedOnceBy : (List SubnetPort → Tables → Tables → List Change) → Type 0
+EntriesAreReportedOnceBy rule =
     (ports : List SubnetPort) (one other : Tables) → IsDistinct have_same_lid ports → IsDistinct same_entry (rule ports one other)
 
-abbrev pub EntriesAreToldOnce : Type 0
-EntriesAreToldOnce = EntriesAreToldOnceBy changes
+abbrev pub EntriesAreReportedOnce : Type 0
+EntriesAreReportedOnce = EntriesAreReportedOnceBy changes
 
 -- so each has, where LIDs count from 1 in the order of the ports
 abbrev pub LidsAreOwn : Type 0
@@ -110,13 +110,13 @@ MaskChangesAreWhatDiffers = MasksAreWhatDiffersBy mask_changes
 abbrev pub same_mask : MaskChange → MaskChange → Bool
 same_mask a b = (a.switch == b.switch) && (a.partition == b.partition)
 
-abbrev pub MasksAreToldOnceBy : MaskRule → Type 0
-MasksAreToldOnceBy rule =
+abbrev pub MasksAreReportedOnceBy : MaskRule → Type 0
+MasksAreReportedOnceBy rule =
     (configuration : ConfigurationState) (one other : Masks) → IsDistinct have_same_lid configuration.ports
     → IsDistinct same_mask (rule configuration one other)
 
-abbrev pub MasksAreToldOnce : Type 0
-MasksAreToldOnce = MasksAreToldOnceBy mask_changes
+abbrev pub MasksAreReportedOnce : Type 0
+MasksAreReportedOnce = MasksAreReportedOnceBy mask_changes
 
 -- ---- their numbers
 -- how many entries and how many masks differ, each of them once
@@ -165,24 +165,24 @@ MaskChangesAreTheFabrics =
     ≡ mask_changes configuration (mask_pushed configuration.ports routes fabric) (mask_pushed configuration.ports left.routes left.fabric)
 
 -- ---- one answer
--- that tell the same: the tables and masks of the fabric, or why it does not come up
-abbrev pub TellTheSame : Cut → Cut → Type 0
-TellTheSame (Keeps one) (Keeps other) =
+-- that report the same: the tables and masks of the fabric, or why it does not come up
+abbrev pub ReportTheSame : Cut → Cut → Type 0
+ReportTheSame (Keeps one) (Keeps other) =
     (entry_by other ≡ entry_by one) × ((ports : List SubnetPort) → mask_by ports other ≡ mask_by ports one)
-TellTheSame (Stops one) (Stops other) = other ≡ one
-TellTheSame (Keeps one) (Stops other) = ⊥
-TellTheSame (Stops one) (Keeps other) = ⊥
+ReportTheSame (Stops one) (Stops other) = other ≡ one
+ReportTheSame (Keeps one) (Stops other) = ⊥
+ReportTheSame (Stops one) (Keeps other) = ⊥
 
 -- one thing becomes of a fabric without a cable
-abbrev pub OneFateIsTold : Type 0
-OneFateIsTold =
+abbrev pub OneFateIsReported : Type 0
+OneFateIsReported =
     (plan : TopologyState) (routes : RoutesState) (cable : Cable) (one other : Cut) → IsSound plan → HaveBroughtUp plan routes
-    → can_be_cut plan cable ≡ true → IsFate (without_cable cable plan) one → IsFate (without_cable cable plan) other → TellTheSame one other
+    → can_be_cut plan cable ≡ true → IsFate (without_cable cable plan) one → IsFate (without_cable cable plan) other → ReportTheSame one other
 
 -- so each text is one
-abbrev pub OneTextIsTold : Type 0
-OneTextIsTold =
+abbrev pub OneTextIsReported : Type 0
+OneTextIsReported =
     (plan : TopologyState) (configuration : ConfigurationState) (routes : RoutesState) (cable : Cable) (one other : List ℕ) → IsSound plan
     → HaveBroughtUp plan routes
-    → (TellsAll plan configuration routes one → TellsAll plan configuration routes other → other ≡ one)
-    × (can_be_cut plan cable ≡ true → TellsOne plan configuration routes cable one → TellsOne plan configuration routes cable other → other ≡ one)
+    → (ReportsAll plan configuration routes one → ReportsAll plan configuration routes other → other ≡ one)
+    × (can_be_cut plan cable ≡ true → ReportsOne plan configuration routes cable one → ReportsOne plan configuration routes cable other → other ≡ one)

@@ -1,10 +1,10 @@
 -- The masks of the broadcast groups of partitions that differ where one fabric takes the place of another, if each end port of a
 -- channel adapter that holds a key of a partition receives what is sent to its group.
-use Rattle.std.specs.Prelude.{ℕ, ◌==◌, ◌&&◌, not, Bool, false, if◌then◌else◌, is_some, List, [], ◌∷◌, find, Option, Some, None}
-use Rattle.std.specs.List.{enumerate_from, flat_map, list_any, range_with_len}
-use Rattle.std.specs.Option.{option_and_then, option_map_or, option_to_list}
+use Rattle.std.specs.Prelude.{ℕ, ◌≡◌, ◌==◌, ◌&&◌, not, nat_lt, Bool, false, if◌then◌else◌, is_some, List, [], ◌∷◌, filter, find, get_or, map, position}
+use Rattle.std.specs.Int.{bit_at}
+use Rattle.std.specs.List.{AllZip, enumerate_from, flat_map, list_any, range_with_len}
+use Rattle.std.specs.Option.{option_map_or}
 use Rattle.fabric_parts.specs.NodeType.{is_switch_type}
-use Rattle.fabric_parts.specs.declared.cable.PortRef.{PortRef}
 use Rattle.partition_file.specs.declared.heading.Heading.{Heading}
 use Rattle.pkey_rules.specs.KeyTable.{has_base}
 use Rattle.sa_groups.specs.Groups.{first_mlid}
@@ -12,11 +12,13 @@ use Rattle.smp_wire.specs.FabricState.{FabricState}
 use Rattle.subnet_fabric.specs.Recabled.{masks_in}
 use Rattle.subnet_model.specs.Configuration.{ConfigurationState}
 use Rattle.subnet_model.specs.declared.subnet_port.SubnetPort.{SubnetPort}
+use Rattle.sweep.specs.Graph.{IsGraph}
 use Rattle.switch_model.specs.Multicast.{is_in_masks}
-use Rattle.table_push.specs.Masks.{is_in_mask, tree_hop}
-use Rattle.updn_routes.specs.Routes.{home_of}
-use Rattle.updn_routes.specs.Subnet.{RoutesState, place_of}
+use Rattle.table_push.specs.Masks.{is_in_mask}
+use Rattle.table_push.specs.MaskSteps.{ArePortMasks}
+use Rattle.updn_routes.specs.Subnet.{RoutesState, guids_of, place_of}
 use Rattle.cable_cuts.specs.Changes.{is_switch_of}
+use Rattle.cable_cuts.specs.declared.masks.GroupMasks.{GroupMasks}
 use Rattle.cable_cuts.specs.declared.masks.MaskChange.{MaskChange}
 
 -- ---- who receives
@@ -67,16 +69,26 @@ mask_changes_at partitions one other switch =
 abbrev pub mask_changes : ConfigurationState → Masks → Masks → List MaskChange
 mask_changes configuration one other = flat_map (mask_changes_at configuration.partitions one other) configuration.ports
 
--- ---- as they are found: by the ports by which a switch reaches the members
-abbrev pub hop_home : RoutesState → ℕ → PortRef → Option ℕ
-hop_home routes place home = if home.port == 0 then None else tree_hop routes place home
+-- ---- as they are computed: of each partition the port masks of the switches, by their places in the graph
+abbrev pub member_lids : (base : ℕ) → List SubnetPort → List ℕ
+member_lids base ports = map (λ port. port.lid) (filter (is_member base) ports)
 
-abbrev pub hop_lid : RoutesState → ℕ → ℕ → Option ℕ
-hop_lid routes place lid = option_and_then (hop_home routes place) (home_of routes.between.homes lid)
+abbrev pub AreMasksOfAll : List SubnetPort → RoutesState → List Heading → List (List ℕ) → Type 0
+AreMasksOfAll ports routes partitions all =
+    AllZip (λ heading masks. ArePortMasks routes (member_lids heading.base ports) masks) partitions all
 
-abbrev pub member_hop : (base : ℕ) → RoutesState → ℕ → SubnetPort → List ℕ
-member_hop base routes place port = if is_member base port then option_to_list (hop_lid routes place port.lid) else []
+pub record AreGroupMasks (configuration : ConfigurationState) (routes : RoutesState) (held : GroupMasks) : Type 0 where
+  pub graph : IsGraph routes.graph
+  pub guids : held.guids.items ≡ guids_of routes.graph
+  pub masks : AreMasksOfAll configuration.ports routes configuration.partitions held.masks.items
 
-abbrev pub member_hops : List SubnetPort → (base : ℕ) → RoutesState → Option ℕ → List ℕ
-member_hops ports base routes None = []
-member_hops ports base routes (Some place) = flat_map (member_hop base routes place) ports
+-- the one of a switch, and a port's bit of it
+abbrev pub mask_of : GroupMasks → (number guid : ℕ) → ℕ
+mask_of held number guid =
+    option_map_or (λ place. get_or (get_or held.masks.items number []) place 0) (position (λ one. guid == one) held.guids.items) 0
+
+abbrev pub has_bit : (mask port : ℕ) → Bool
+has_bit mask port = nat_lt port 64 && (bit_at mask port == 1)
+
+abbrev pub mask_held : GroupMasks → Masks
+mask_held held number heading guid port = has_bit (mask_of held number guid) port

@@ -4,7 +4,8 @@ use Rattle.std.specs.List.{flat_map}
 use Rattle.std.specs.Option.{option_map_or}
 use Rattle.fabric_parts.specs.declared.cable.Cable.{Cable}
 use Rattle.fabric_parts.specs.declared.cable.PortRef.{PortRef}
-use Rattle.line_parts.specs.Parts.{port_text}
+use Rattle.line_parts.specs.Ports.{port_text}
+use Rattle.text_parts.specs.Parts.{port_name}
 use Rattle.subnet_model.specs.Configuration.{ConfigurationState}
 use Rattle.subnet_model.specs.declared.subnet_port.SubnetPort.{SubnetPort}
 use Rattle.topo_file.specs.Node.{name_at}
@@ -28,7 +29,7 @@ use Rattle.cable_cuts.specs.declared.outcome.Outcome.TheVariants.{Keeps, Stops}
 -- ---- names
 -- a port of a node, as `A/3`
 abbrev pub end_text : List Node → PortRef → List ℕ
-end_text nodes at = name_at nodes at.node ++ codes "/" ++ decimal at.port
+end_text nodes at = port_name (name_at nodes at.node) at.port
 
 -- the node of the end port of that LID, and the end port itself, as `i/1`
 abbrev pub node_text : List SubnetPort → ℕ → List ℕ
@@ -78,7 +79,7 @@ abbrev pub lines_of : List Node → List SubnetPort → List Loss → List ℕ
 lines_of nodes ports losses = flat_map (λ loss. loss_line nodes ports loss.cable loss.outcome) losses ++ count_line losses
 
 -- the text is that of the losses of all cables between switches
-pub record TellsAll (plan : TopologyState) (configuration : ConfigurationState) (routes : RoutesState) (text : List ℕ) : Type 0 where
+pub record ReportsAll (plan : TopologyState) (configuration : ConfigurationState) (routes : RoutesState) (text : List ℕ) : Type 0 where
   pub losses : List Loss
   pub are : AreLosses plan configuration routes losses
   pub text_is : text ≡ lines_of plan.nodes configuration.ports losses
@@ -102,7 +103,7 @@ lines_of_one nodes configuration routes cable fate =
     loss_line nodes configuration.ports cable (outcome_of configuration routes fate) ++ change_lines configuration.ports routes fate
 
 -- the text is that of what becomes of the fabric without that cable
-pub record TellsOne (plan : TopologyState) (configuration : ConfigurationState) (routes : RoutesState) (cable : Cable) (text : List ℕ) : Type 0 where
+pub record ReportsOne (plan : TopologyState) (configuration : ConfigurationState) (routes : RoutesState) (cable : Cable) (text : List ℕ) : Type 0 where
   pub fate : Cut
   pub fate_is : IsFate (without_cable cable plan) fate
   pub text_is : text ≡ lines_of_one plan.nodes configuration routes cable fate

@@ -38,7 +38,7 @@ fn is_between(one: &Cable, cable: &Cable) -> bool
         || (one.first == cable.second && one.second == cable.first)
 }
 
-/// The cables but the one between these two ports. Memory alone can be refused.
+/// The cables but the one between these two ports. It can only run out of memory.
 pub(crate) fn cables_without(
     alloc: Global,
     cables: &[Cable],

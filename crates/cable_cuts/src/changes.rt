@@ -4,7 +4,7 @@ ghost use Rattle.std.specs.Prelude.{◌≡◌, ◌++◌, IfOk, OnOk};
 ghost use Rattle.std.specs.List.{flat_map};
 ghost use Rattle.cable_cuts.specs.Changes.{change_at, changes, changes_at, entry_by};
 
-use fabric_parts::NodeType;
+use fabric_parts::{NO_PORT, NodeType};
 use std::alloc::{AllocError, Global};
 use subnet_model::SubnetPort;
 use updn_routes::Routes;
@@ -23,7 +23,7 @@ pub struct Change {
 }
 
 /// The entries of these end ports' LIDs that differ where other routes take the place of these: by switches, in the order of the
-/// list, and then by LIDs. Memory alone can be refused.
+/// list, and then by LIDs. It can only run out of memory.
 pub(crate) fn changes(
     alloc: Global,
     ports: &[SubnetPort],
@@ -107,6 +107,3 @@ fn entry_by(routes: &Routes, guid: u64, lid: u16) -> u8
         None => NO_PORT,
     }
 }
-
-/// What stands for no port in a linear forwarding table.
-pub(crate) const NO_PORT: u8 = 255;

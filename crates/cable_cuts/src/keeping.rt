@@ -15,7 +15,7 @@ use topo_file::Topology;
 use updn_routes::Routes;
 
 /// For each cable of a topology, in their order, whether its fabric can't come up without it. Of cables to channel adapters nothing
-/// is asked: they are told as not needed. These routes brought the fabric up. Memory alone can be refused.
+/// is asked: they are reported as not needed. These routes brought the fabric up. It can only run out of memory.
 pub fn needed(alloc: Global, topology: &Topology, routes: &Routes) -> Result<Vec<bool>, AllocError>
     requires { HaveBroughtUp topology.now routes.now }
     ensures { IfOk result (λ all. AreNeeded topology.now topology.now.cables all.items) }

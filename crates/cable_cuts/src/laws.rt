@@ -1,14 +1,14 @@
 //! What the answers say of fabrics. Each function's contract is its law; it does nothing.
 
-ghost use Rattle.cable_cuts.specs.Laws.{ChangesAreTheFabrics, ChangesAreWhatDiffers, EntriesAreToldOnce, KeptIsWhatComesUp, LidsAreOwn, MaskChangesAreTheFabrics, MaskChangesAreWhatDiffers, MasksAreTheFabrics, MasksAreToldOnce, NumbersAreOfWhatDiffers, OneFateIsTold, OneTextIsTold};
+ghost use Rattle.cable_cuts.specs.Laws.{ChangesAreTheFabrics, ChangesAreWhatDiffers, EntriesAreReportedOnce, KeptIsWhatComesUp, LidsAreOwn, MaskChangesAreTheFabrics, MaskChangesAreWhatDiffers, MasksAreTheFabrics, MasksAreReportedOnce, NumbersAreOfWhatDiffers, OneFateIsReported, OneTextIsReported};
 ghost use Rattle.cable_cuts.specs.Whole.{LinesAreWhole};
 
-/// A cable is told as one that the fabric keeps without exactly where the fabric of the topology without it comes up.
+/// A cable is reported as one that the fabric keeps without exactly where the fabric of the topology without it comes up.
 pub fn kept_is_what_comes_up()
     ensures { KeptIsWhatComesUp }
 {}
 
-/// An entry is told exactly where two tables have different ports there, for a switch and the LID of an end port.
+/// An entry is reported exactly where two tables have different ports there, for a switch and the LID of an end port.
 pub fn changes_are_what_differs()
     ensures { ChangesAreWhatDiffers }
 {}
@@ -39,14 +39,14 @@ pub fn lids_are_own()
     ensures { LidsAreOwn }
 {}
 
-/// Each entry is told once, where each end port has a LID of its own.
-pub fn entries_are_told_once()
-    ensures { EntriesAreToldOnce }
+/// Each entry is reported once, where each end port has a LID of its own.
+pub fn entries_are_reported_once()
+    ensures { EntriesAreReportedOnce }
 {}
 
 /// So is each mask counted once.
-pub fn masks_are_told_once()
-    ensures { MasksAreToldOnce }
+pub fn masks_are_reported_once()
+    ensures { MasksAreReportedOnce }
 {}
 
 /// So as many entries and masks are counted as differ.
@@ -55,13 +55,13 @@ pub fn numbers_are_of_what_differs()
 {}
 
 /// One thing becomes of the fabric of a sound topology without one of its cables, whatever layout of it routes are computed over.
-pub fn one_fate_is_told()
-    ensures { OneFateIsTold }
+pub fn one_fate_is_reported()
+    ensures { OneFateIsReported }
 {}
 
 /// So of each topology, and of each cable, one text is right.
-pub fn one_text_is_told()
-    ensures { OneTextIsTold }
+pub fn one_text_is_reported()
+    ensures { OneTextIsReported }
 {}
 
 /// Each form of a line, once as a whole text.

@@ -24,7 +24,7 @@ pub struct Loss {
 }
 
 /// What the loss of each cable between switches does, in the order of the topology. These routes brought its fabric up, and these
-/// are its end ports. Memory alone can be refused.
+/// are its end ports. It can only run out of memory.
 pub fn losses(
     alloc: Global,
     topology: &Topology,

@@ -1,15 +1,16 @@
 //! The masks of the broadcast groups of partitions that change.
 
-ghost use Rattle.std.specs.Prelude.{◌≡◌, ◌==◌, ◌++◌, IfOk, OnOk};
+ghost use Rattle.std.specs.Prelude.{◌≡◌, ◌==◌, ◌++◌, [], get_or, position, IfOk, OnOk};
 ghost use Rattle.std.specs.List.{enumerate_from, flat_map, list_any, range_with_len};
-ghost use Rattle.cable_cuts.specs.Masks.{differs, is_member, is_other, mask_by, mask_change_at, mask_changes, mask_changes_at, member_hop, member_hops};
-ghost use Rattle.updn_routes.specs.Subnet.{place_of};
+ghost use Rattle.cable_cuts.specs.Masks.{AreGroupMasks, AreMasksOfAll, has_bit, is_member, is_other, mask_by, mask_change_at, mask_changes, mask_changes_at, mask_held, mask_of, member_lids};
+ghost use Rattle.table_push.specs.TreeSteps.{IsTree};
+ghost use Rattle.updn_routes.specs.Subnet.{guids_of};
 
-use crate::trees::hop_lid;
-use fabric_parts::NodeType;
+use fabric_parts::{NodeType, SWITCHES};
 use partition_file::Heading;
 use std::alloc::{AllocError, Global};
 use subnet_model::{Configuration, SubnetPort};
+use table_push::{Tree, port_masks, tree_of};
 use updn_routes::Routes;
 
 /// A mask that changes: that of a switch for the broadcast group of a partition.
@@ -21,8 +22,17 @@ pub struct MaskChange {
     pub partition: usize,
 }
 
+/// The masks of the broadcast groups of all partitions, if all members of a partition receive what is sent to its group.
+#[derive(Drop)]
+pub(crate) struct GroupMasks {
+    /// The GUIDs of the switches, by their places in the graph.
+    guids: Vec<u64>,
+    /// For each partition, by its number, the masks of the switches.
+    masks: Vec<[u64; SWITCHES]>,
+}
+
 /// The masks that differ where other routes take the place of these, if all members of a partition receive what is sent to its
-/// group: by switches, in the order of the list, and then by partitions. Memory alone can be refused.
+/// group: by switches, in the order of the list, and then by partitions. It can only run out of memory.
 pub(crate) fn mask_changes(
     alloc: Global,
     configuration: &Configuration,
@@ -32,69 +42,136 @@ pub(crate) fn mask_changes(
     ensures { IfOk result (λ all. all.items
         ≡ mask_changes configuration.now (mask_by configuration.now.ports routes.now) (mask_by configuration.now.ports others.now)) }
 {
+    let before = group_masks(alloc, configuration, routes)?;
+    let after = group_masks(alloc, configuration, others)?;
+    changes_between(alloc, configuration, &before, &after)
+}
+
+/// The masks of all groups by these routes.
+fn group_masks(
+    alloc: Global,
+    configuration: &Configuration,
+    routes: &Routes,
+) -> Result<GroupMasks, AllocError>
+    ensures { IfOk result (AreGroupMasks configuration.now routes.now) }
+{
+    routes.graph().known_graph();
+    let tree = tree_of(routes);
+    let guids = guids_of(alloc, routes)?;
+    let masks = masks_of_all(alloc, configuration, routes, &tree)?;
+    Ok(GroupMasks { guids, masks })
+}
+
+/// The GUIDs of the switches, by their places in the graph.
+fn guids_of(alloc: Global, routes: &Routes) -> Result<Vec<u64>, AllocError>
+    ensures { IfOk result (λ guids. guids.items ≡ guids_of routes.now.graph) }
+{
+    let switches = routes.graph().switches();
+    switches.iter().map(|switch| switch.guid).collect(alloc)
+}
+
+/// For each partition, by its number, the masks of the switches.
+fn masks_of_all(
+    alloc: Global,
+    configuration: &Configuration,
+    routes: &Routes,
+    tree: &Tree,
+) -> Result<Vec<[u64; SWITCHES]>, AllocError>
+    requires { IsTree routes.now tree.now 64 }
+    ensures { IfOk result (λ all. AreMasksOfAll configuration.now.ports routes.now configuration.now.partitions all.items) }
+{
+    let mut all = Vec::new(alloc);
+    for heading in configuration.partitions() {
+        let lids = member_lids(alloc, configuration.ports(), heading.base)?;
+        all.push(port_masks(routes, tree, &lids))?;
+    }
+    Ok(all)
+}
+
+/// The LIDs of the members of a partition.
+fn member_lids(alloc: Global, ports: &[SubnetPort], base: u16) -> Result<Vec<u16>, AllocError>
+    ensures { IfOk result (λ lids. lids.items ≡ member_lids base ports.now) }
+{
+    ports
+        .iter()
+        .filter(|port| is_member(port, base))
+        .map(|port| port.lid)
+        .collect(alloc)
+}
+
+/// Whether an end port of a channel adapter holds a key of that base.
+fn is_member(port: &SubnetPort, base: u16) -> bool
+    ensures { result ≡ is_member base port.now }
+{
+    !port.node_type.is_switch() && port.keys.has_base(base)
+}
+
+/// The masks that differ where these others take the place of masks.
+fn changes_between(
+    alloc: Global,
+    configuration: &Configuration,
+    before: &GroupMasks,
+    after: &GroupMasks,
+) -> Result<Vec<MaskChange>, AllocError>
+    ensures { IfOk result (λ all. all.items ≡ mask_changes configuration.now (mask_held before.now) (mask_held after.now)) }
+{
     let mut all = Vec::new(alloc);
     for switch in configuration.ports() {
-        push_changes_of(alloc, &mut all, configuration, switch, routes, others)?;
+        push_changes_of(&mut all, configuration, switch, before, after)?;
     }
     Ok(all)
 }
 
 /// The changes at the node of an end port, if it is a switch.
 fn push_changes_of(
-    alloc: Global,
     all: &mut Vec<MaskChange>,
     configuration: &Configuration,
     switch: &SubnetPort,
-    routes: &Routes,
-    others: &Routes,
+    before: &GroupMasks,
+    after: &GroupMasks,
 ) -> Result<(), AllocError>
     ensures { OnOk result (all.new.items ≡ all.old.items
-        ++ mask_changes_at configuration.now.partitions (mask_by configuration.now.ports routes.now)
-        (mask_by configuration.now.ports others.now) switch.now) }
+        ++ mask_changes_at configuration.now.partitions (mask_held before.now) (mask_held after.now) switch.now) }
 {
     match switch.node_type {
-        NodeType::Switch => push_changes_at(alloc, all, configuration, switch, routes, others),
+        NodeType::Switch => push_changes_at(all, configuration, switch, before, after),
         NodeType::ChannelAdapter => Ok(()),
     }
 }
 
 /// The changes at a switch.
 fn push_changes_at(
-    alloc: Global,
     all: &mut Vec<MaskChange>,
     configuration: &Configuration,
     switch: &SubnetPort,
-    routes: &Routes,
-    others: &Routes,
+    before: &GroupMasks,
+    after: &GroupMasks,
 ) -> Result<(), AllocError>
     ensures { OnOk result (all.new.items ≡ all.old.items
-        ++ flat_map (mask_change_at (mask_by configuration.now.ports routes.now) (mask_by configuration.now.ports others.now) switch.now)
+        ++ flat_map (mask_change_at (mask_held before.now) (mask_held after.now) switch.now)
         (enumerate_from 0 configuration.now.partitions)) }
 {
-    let ports = configuration.ports();
     for (number, heading) in configuration.partitions().iter().enumerate() {
-        push_change(alloc, all, ports, switch, number, heading, routes, others)?;
+        push_change(all, switch, number, heading, before, after)?;
     }
     Ok(())
 }
 
 /// The change at a switch for a partition, if it has a group and its mask changes.
 fn push_change(
-    alloc: Global,
     all: &mut Vec<MaskChange>,
-    ports: &[SubnetPort],
     switch: &SubnetPort,
     number: usize,
     heading: &Heading,
-    routes: &Routes,
-    others: &Routes,
+    before: &GroupMasks,
+    after: &GroupMasks,
 ) -> Result<(), AllocError>
     ensures { OnOk result (all.new.items
-        ≡ all.old.items ++ mask_change_at (mask_by ports.now routes.now) (mask_by ports.now others.now) switch.now (number, heading.now)) }
+        ≡ all.old.items ++ mask_change_at (mask_held before.now) (mask_held after.now) switch.now (number, heading.now)) }
 {
-    if heading.group.is_some()
-        && masks_differ(alloc, ports, number, heading, switch.guid, routes, others)?
-    {
+    let was = before.mask_of(number, switch.guid);
+    let becomes = after.mask_of(number, switch.guid);
+    if heading.group.is_some() && differ(was, becomes) {
         all.push(MaskChange {
             switch: switch.lid,
             partition: number,
@@ -103,96 +180,48 @@ fn push_change(
     Ok(())
 }
 
-/// Whether the masks of the switch of that GUID for the group of a partition differ.
-fn masks_differ(
-    alloc: Global,
-    ports: &[SubnetPort],
-    number: usize,
-    heading: &Heading,
-    guid: u64,
-    routes: &Routes,
-    others: &Routes,
-) -> Result<bool, AllocError>
-    ensures { IfOk result (λ answer. answer ≡ differs (mask_by ports.now routes.now) (mask_by ports.now others.now) number heading.now guid) }
-{
-    routes.known_of_graph();
-    others.known_of_graph();
-    let was = member_hops(alloc, ports, heading.base, routes, guid)?;
-    let becomes = member_hops(alloc, ports, heading.base, others, guid)?;
-    Ok(differ(&was, &becomes))
-}
-
-/// Whether some port is in one of these lists and not in the other.
-fn differ(was: &[u8], becomes: &[u8]) -> bool
-    ensures { result ≡ list_any (λ port. is_other (list_any (λ hop. hop == port) was.now) (list_any (λ hop. hop == port) becomes.now)) (range_with_len 0 48) }
-{
-    (0..48).any(|port| is_among(was, port) != is_among(becomes, port))
-}
-
-fn is_among(hops: &[u8], port: u8) -> bool
-    ensures { result ≡ list_any (λ hop. hop == port) hops.now }
-{
-    hops.iter().any(|hop| *hop == port)
-}
-
-/// The ports by which the switch of that GUID sends along the tree to the members of a partition.
-fn member_hops(
-    alloc: Global,
-    ports: &[SubnetPort],
-    base: u16,
-    routes: &Routes,
-    guid: u64,
-) -> Result<Vec<u8>, AllocError>
-    ensures { IfOk result (λ hops. hops.items ≡ member_hops ports.now base routes.now (place_of routes.now.graph.switches guid)) }
-{
-    match routes.graph().place_of(guid) {
-        Some(place) => hops_from(alloc, ports, base, routes, place),
-        None => Ok(Vec::new(alloc)),
-    }
-}
-
-/// The same, from the switch at that place.
-fn hops_from(
-    alloc: Global,
-    ports: &[SubnetPort],
-    base: u16,
-    routes: &Routes,
-    place: usize,
-) -> Result<Vec<u8>, AllocError>
-    ensures { IfOk result (λ hops. hops.items ≡ flat_map (member_hop base routes.now place) ports.now) }
-{
-    let mut hops = Vec::new(alloc);
-    for port in ports {
-        push_hop(&mut hops, base, routes, place, port)?;
-    }
-    Ok(hops)
-}
-
-/// The port towards an end port, if that is a member and is reached.
-fn push_hop(
-    hops: &mut Vec<u8>,
-    base: u16,
-    routes: &Routes,
-    place: usize,
-    port: &SubnetPort,
-) -> Result<(), AllocError>
-    ensures { OnOk result (hops.new.items ≡ hops.old.items ++ member_hop base routes.now place port.now) }
-{
-    if !is_member(port, base) {
-        return Ok(());
-    }
-    match hop_lid(routes, place, port.lid) {
-        Some(hop) => {
-            hops.push(hop)?;
-            Ok(())
+impl GroupMasks {
+    /// The mask of the switch of that GUID for the group of a partition; 0 if there is no such switch, or no such partition.
+    fn mask_of(&self, number: usize, guid: u64) -> u64
+        ensures { result ≡ mask_of self.now number guid }
+    {
+        match place_of(&self.guids, guid) {
+            Some(place) => mask_at(&self.masks, number, place),
+            None => 0,
         }
-        None => Ok(()),
     }
 }
 
-/// Whether an end port of a channel adapter holds a key of that base.
-fn is_member(port: &SubnetPort, base: u16) -> bool
-    ensures { result ≡ is_member base port.now }
+/// The place of the switch of that GUID.
+fn place_of(guids: &[u64], guid: u64) -> Option<usize>
+    ensures { result ≡ position (λ one. guid == one) guids.now }
 {
-    !port.node_type.is_switch() && port.keys.has_base(base)
+    guids.iter().position(|one| guid == *one)
+}
+
+/// The mask at a place of those with that number.
+fn mask_at(masks: &[[u64; SWITCHES]], number: usize, place: usize) -> u64
+    ensures { result ≡ get_or (get_or masks.now number []) place 0 }
+{
+    match masks.get(number) {
+        Some(of_switches) => match of_switches.get(place) {
+            Some(mask) => *mask,
+            None => 0,
+        },
+        None => 0,
+    }
+}
+
+/// Whether some port is in one of two masks and not in the other.
+fn differ(was: u64, becomes: u64) -> bool
+    ensures { result ≡ list_any (λ port. is_other (has_bit was port) (has_bit becomes port)) (range_with_len 0 48) }
+{
+    (0..48).any(|port| has_bit(was, port) != has_bit(becomes, port))
+}
+
+/// Whether a port is in a mask.
+fn has_bit(mask: u64, port: u8) -> bool
+    ensures { result ≡ has_bit mask port }
+{
+    port < 64 && (mask >> port) % 2 == 1
 }

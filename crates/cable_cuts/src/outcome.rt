@@ -31,7 +31,7 @@ pub enum Outcome {
     Stops(Stop),
 }
 
-/// In numbers, what becomes of the fabric that these routes brought up. Memory alone can be refused.
+/// In numbers, what becomes of the fabric that these routes brought up. It can only run out of memory.
 pub(crate) fn outcome_of(
     alloc: Global,
     configuration: &Configuration,

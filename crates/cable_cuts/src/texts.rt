@@ -5,23 +5,24 @@ ghost use Rattle.std.specs.List.{flat_map};
 ghost use Rattle.std.specs.Option.{option_copied};
 ghost use Rattle.cable_cuts.specs.Cables.{can_be_cut};
 ghost use Rattle.cable_cuts.specs.Fate.{HaveBroughtUp};
-ghost use Rattle.cable_cuts.specs.Texts.{TellsAll, TellsOne, change_line, change_lines, count_line, difference_text, end_text, hop_text, keeps, kept, lid_text, lines_of, loss_line, node_text, outcome_text, stop_text, stopped};
+ghost use Rattle.cable_cuts.specs.Texts.{ReportsAll, ReportsOne, change_line, change_lines, count_line, difference_text, end_text, hop_text, keeps, kept, lid_text, lines_of, loss_line, node_text, outcome_text, stop_text, stopped};
 
-use crate::changes::{Change, NO_PORT, changes};
+use crate::changes::{Change, changes};
 use crate::cutting::cut;
 use crate::fate::{Cut, Stop};
 use crate::loss::{Loss, losses};
 use crate::outcome::{Difference, Outcome, outcome_of};
-use fabric_parts::{Cable, PortRef};
-use line_parts::{push_decimal, push_port};
+use fabric_parts::{Cable, NO_PORT, PortRef};
+use line_parts::push_port;
 use std::alloc::{AllocError, Global};
 use subnet_model::{Configuration, SubnetPort};
+use text_parts::{push_decimal, push_port_name};
 use topo_file::{Topology, name_at};
 use updn_routes::Routes;
 
-/// A line for each cable between two switches, in the order of the topology, that tells what its loss would do; and behind these a
+/// A line for each cable between two switches, in the order of the topology, that reports what its loss would do; and behind these a
 /// line with how many the fabric keeps without, and how many stop it. These routes brought the fabric up, and these are its end
-/// ports. Memory alone can be refused.
+/// ports. It can only run out of memory.
 pub fn cuts_text(
     alloc: Global,
     topology: &Topology,
@@ -29,14 +30,14 @@ pub fn cuts_text(
     routes: &Routes,
 ) -> Result<Vec<u8>, AllocError>
     requires { HaveBroughtUp topology.now routes.now }
-    ensures { IfOk result (λ text. TellsAll topology.now configuration.now routes.now text.items) }
+    ensures { IfOk result (λ text. ReportsAll topology.now configuration.now routes.now text.items) }
 {
     let losses = losses(alloc, topology, configuration, routes)?;
     lines_of(alloc, topology, configuration.ports(), &losses)
 }
 
 /// The line of one cable between two switches, and behind it, where the fabric comes up without it, a line for each entry of a
-/// linear forwarding table that differs then: by the LIDs of switches, and then by LIDs. Memory alone can be refused.
+/// linear forwarding table that differs then: by the LIDs of switches, and then by LIDs. It can only run out of memory.
 pub fn cut_text(
     alloc: Global,
     topology: &Topology,
@@ -46,7 +47,7 @@ pub fn cut_text(
 ) -> Result<Vec<u8>, AllocError>
     requires up { HaveBroughtUp topology.now routes.now }
     requires cable { can_be_cut topology.now cable ≡ true }
-    ensures { IfOk result (λ text. TellsOne topology.now configuration.now routes.now cable text.items) }
+    ensures { IfOk result (λ text. ReportsOne topology.now configuration.now routes.now cable text.items) }
 {
     let fate = cut(alloc, topology, routes, cable)?;
     let outcome = outcome_of(alloc, configuration, routes, &fate)?;
@@ -97,9 +98,7 @@ fn push_loss_line(
 fn push_end(text: &mut Vec<u8>, topology: &Topology, at: PortRef) -> Result<(), AllocError>
     ensures { OnOk result (text.new.items ≡ text.old.items ++ end_text topology.now.nodes at) }
 {
-    text.extend_from_slice(name_at(topology.nodes(), at.node))?;
-    text.extend_from_slice(b"/")?;
-    push_decimal(text, usize::from(at.port))
+    push_port_name(text, name_at(topology.nodes(), at.node), at.port)
 }
 
 fn push_outcome(

@@ -8,17 +8,17 @@ pub fn no_masks_are_less()
     ensures { NoMasksAreLess }
 {}
 
-/// Where each entry is told twice, it is not told once.
+/// Where each entry is reported twice, it is not reported once.
 pub fn entries_twice_are_more()
     ensures { EntriesTwiceAreMore }
 {}
 
-/// Where each mask is told twice, it is not told once.
+/// Where each mask is reported twice, it is not reported once.
 pub fn masks_twice_are_more()
     ensures { MasksTwiceAreMore }
 {}
 
-/// Where entries that are told twice are counted twice, there are more than differ.
+/// Where entries that are reported twice are counted twice, there are more than differ.
 pub fn counted_twice_is_more()
     ensures { CountedTwiceIsMore }
 {}

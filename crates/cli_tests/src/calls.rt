@@ -14,7 +14,7 @@ pub struct Answer {
 }
 
 /// What the program returns and prints for these arguments and files.
-pub fn told<'a>(
+pub fn reported<'a>(
     alloc: Global,
     words: &[&str],
     files: &'a [(&'a str, Source<'a>)],
@@ -60,11 +60,11 @@ pub fn sink(alloc: Global, writes: usize, refusal: Refusal, flushes: bool) -> Si
 pub const RUN: [&str; 5] = ["fabric", "run", "net.topo", "-", "sends"];
 
 /// What it returns and prints for a run of a topology and a script.
-pub fn told_of(alloc: Global, topology: &str, script: &str) -> Result<Answer, AllocError> {
+pub fn reported_of(alloc: Global, topology: &str, script: &str) -> Result<Answer, AllocError> {
     let files = [
         ("net.topo", plain(topology.as_bytes())),
         ("sends", plain(script.as_bytes())),
     ];
     let mut out = sink(alloc, 1000, Refusal::Broken, true);
-    told(alloc, &RUN, &files, &mut out)
+    reported(alloc, &RUN, &files, &mut out)
 }

@@ -59,7 +59,7 @@ pub struct Shelf<'a> {
 impl<'a> Files for Shelf<'a> {
     type Input = Source<'a>;
 
-    ghost told = { λ shelf. Some (λ name. option_map (λ known. known.1.bytes.now) (find (λ known. bytes_eq known.0.now name) shelf.files.now)) };
+    ghost reported = { λ shelf. Some (λ name. option_map (λ known. known.1.bytes.now) (find (λ known. bytes_eq known.0.now name) shelf.files.now)) };
 
     ghost opened = { λ shelf. option_map (λ names. map string_bytes names.items) shelf.names };
 

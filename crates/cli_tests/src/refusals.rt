@@ -1,6 +1,6 @@
 //! Files and outputs that fail, and arguments that are refused.
 
-use crate::calls::{RUN, plain, read_so, sink, told};
+use crate::calls::{RUN, plain, read_so, reported, sink};
 use crate::fixtures::{FAULTY, FIRST, REPORT, SENDS};
 use crate::memory::{Manner, Refusal, Source};
 use example_texts::TWO_SWITCHES;
@@ -78,12 +78,12 @@ fn is_answered(
     let ([topology, partitions, script], status, out, err, opened) = row;
     let words = ["fabric", "run", topology, partitions, script];
     let mut sink = sink(alloc, 1000, Refusal::Broken, true);
-    let told = told(alloc, &words, files, &mut sink)?;
-    assert_eq!(rt; told.status, status, "at {words:?}");
-    assert_eq!(rt; told.out.as_slice(), out.as_bytes(), "at {words:?}");
-    assert_eq!(rt; told.err.as_slice(), err.as_bytes(), "at {words:?}");
+    let reported = reported(alloc, &words, files, &mut sink)?;
+    assert_eq!(rt; reported.status, status, "at {words:?}");
+    assert_eq!(rt; reported.out.as_slice(), out.as_bytes(), "at {words:?}");
+    assert_eq!(rt; reported.err.as_slice(), err.as_bytes(), "at {words:?}");
     assert_eq!(rt;
-        told.opened.ok_or("the names")?.len(),
+        reported.opened.ok_or("the names")?.len(),
         opened,
         "at {words:?}"
     );
@@ -117,16 +117,20 @@ fn output_that_is_not_written(rt: HostRuntime) -> Result<(), Fail> {
     ];
     for (writes, refusal, flushes, status) in WRITTEN {
         let mut sink = sink(rt.alloc(), writes, refusal, flushes);
-        let told = told(rt.alloc(), &RUN, &files, &mut sink)?;
+        let reported = reported(rt.alloc(), &RUN, &files, &mut sink)?;
         let line: &str = if status == 0 { "" } else { "fault write\n" };
         let part = REPORT.as_bytes().get(..REPORT.len().min(8 * writes));
-        assert_eq!(rt; told.status, status, "after {writes} writes");
+        assert_eq!(rt; reported.status, status, "after {writes} writes");
         assert_eq!(rt;
-            told.err.as_slice(),
+            reported.err.as_slice(),
             line.as_bytes(),
             "after {writes} writes"
         );
-        assert_eq!(rt; Some(told.out.as_slice()), part, "after {writes} writes");
+        assert_eq!(rt;
+            Some(reported.out.as_slice()),
+            part,
+            "after {writes} writes"
+        );
     }
     Ok(())
 }
@@ -146,15 +150,19 @@ fn output_up_to_a_fault_that_is_not_written(rt: HostRuntime) -> Result<(), Fail>
     ];
     for (writes, status, line) in BROKEN {
         let mut sink = sink(rt.alloc(), writes, Refusal::Broken, true);
-        let told = told(rt.alloc(), &RUN, &files, &mut sink)?;
+        let reported = reported(rt.alloc(), &RUN, &files, &mut sink)?;
         let part = FIRST.as_bytes().get(..FIRST.len().min(8 * writes));
-        assert_eq!(rt; told.status, status, "after {writes} writes");
+        assert_eq!(rt; reported.status, status, "after {writes} writes");
         assert_eq!(rt;
-            told.err.as_slice(),
+            reported.err.as_slice(),
             line.as_bytes(),
             "after {writes} writes"
         );
-        assert_eq!(rt; Some(told.out.as_slice()), part, "after {writes} writes");
+        assert_eq!(rt;
+            Some(reported.out.as_slice()),
+            part,
+            "after {writes} writes"
+        );
     }
     Ok(())
 }
@@ -181,10 +189,12 @@ const REFUSED: [(&[&str], &str); 13] = [
 fn words_that_are_refused(rt: HostRuntime) -> Result<(), Fail> {
     for (words, part) in REFUSED {
         let mut sink = sink(rt.alloc(), 1000, Refusal::Broken, true);
-        let told = told(rt.alloc(), words, &[], &mut sink)?;
-        assert_eq!(rt; told.status, 2, "at {words:?}");
-        assert_eq!(rt; told.out.len(), 0, "at {words:?}");
-        let text = std::str::from_utf8(told.err.as_slice()).ok().ok_or("text")?;
+        let reported = reported(rt.alloc(), words, &[], &mut sink)?;
+        assert_eq!(rt; reported.status, 2, "at {words:?}");
+        assert_eq!(rt; reported.out.len(), 0, "at {words:?}");
+        let text = std::str::from_utf8(reported.err.as_slice())
+            .ok()
+            .ok_or("text")?;
         assert!(rt; text.contains(part), "at {words:?}: {text}");
     }
     Ok(())

@@ -388,7 +388,7 @@ fn a_single_segment_is_held_to_both_lengths(rt: HostRuntime) {
     }
 }
 
-/// A table that is sent and received: what came, or nothing where memory was refused.
+/// A table that is sent and received: what came, or nothing if an allocation failed.
 fn passed_on(alloc: Global, size: usize) -> Result<Vec<u8>, ReceiveFault> {
     let sender = Sender::open(alloc, NODE_RECORDS, table().get(..size).unwrap_or(&[]))?;
     let mut receiver = Receiver::new(alloc);

@@ -2,10 +2,10 @@
 use Rattle.std.proofs.Common.{refl, sym}
 use Rattle.std.specs.List.{IsDistinct}
 use Rattle.std.proofs.lemmas.Bool.{false≢true}
-use Rattle.result_words.specs.AtLine.{after_lines}
+use Rattle.step_results.specs.AtLine.{after_lines}
 use Rattle.dump_file.specs.Destination.{further_in, named_in, path_in}
-use Rattle.dump_file.specs.Dump.{after_line, count_told, dump_of, heading_told, row_told, whole}
-use Rattle.dump_file.specs.Examples.{HeadingsAreRead, RowsAreRead, TextsAreRead, UnsoundAreTold}
+use Rattle.dump_file.specs.Dump.{after_line, count_reported, dump_of, heading_reported, row_reported, whole}
+use Rattle.dump_file.specs.Examples.{HeadingsAreRead, RowsAreRead, TextsAreRead, UnsoundAreReported}
 use Rattle.dump_file.specs.Heading.{guid_behind_way, heading_in}
 use Rattle.dump_file.specs.Row.{row_in}
 
@@ -14,7 +14,7 @@ unfolding guid_behind_way heading_in
 headings_are_read = record { by_path = refl; by_lid = refl; by_any_name = refl; by_no_way = refl; without_end = refl; of_a_part = refl; by_opensm = refl }
 
 pub rows_are_read : RowsAreRead
-unfolding count_told further_in named_in path_in row_in
+unfolding count_reported further_in named_in path_in row_in
 rows_are_read = record {
   adapter = refl;
   switch = refl;
@@ -39,9 +39,9 @@ rows_are_read = record {
 }
 
 pub texts_are_read : TextsAreRead
-unfolding after_line after_lines count_told dump_of further_in guid_behind_way heading_in heading_told named_in path_in row_in row_told whole
+unfolding after_line after_lines count_reported dump_of further_in guid_behind_way heading_in heading_reported named_in path_in row_in row_reported whole
 texts_are_read = record { whole = refl; before_a_comment = refl; unfinished = refl; of_one_switch = refl }
 
-pub unsound_are_told : UnsoundAreTold
+pub unsound_are_reported : UnsoundAreReported
 unfolding IsDistinct
-unsound_are_told = record { of_one_switch = λ distinct. false≢true (sym distinct.0.0); twice = refl; falling = refl; past_the_top = refl; of_two_ends = refl }
+unsound_are_reported = record { of_one_switch = λ distinct. false≢true (sym distinct.0.0); twice = refl; falling = refl; past_the_top = refl; of_two_ends = refl }

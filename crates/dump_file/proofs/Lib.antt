@@ -1,4 +1,3 @@
-pub mod IndexLemmas
 pub mod SoundLemmas
 pub mod EndLemmas
 pub mod ExampleLemmas

@@ -7,8 +7,8 @@ use Rattle.std.proofs.lemmas.Bool.Decides.{nat_tests}
 use Rattle.std.proofs.lemmas.Cmp.{nat_eq_equiv, on_equiv}
 use Rattle.std.proofs.lemmas.List.{append-nil, flat_map_more}
 use Rattle.std.proofs.lemmas.Map.Keys.{IsDistinct-push}
-use Rattle.result_words.proofs.ListLemmas.{IsDistinct-nil, list_all_push, list_all_weaker}
-use Rattle.result_words.proofs.PlaceLemmas.{not_there}
+use Rattle.step_results.proofs.ListLemmas.{IsDistinct-nil, list_all_push, list_all_weaker}
+use Rattle.step_results.proofs.PlaceLemmas.{not_there}
 use Rattle.dump_file.specs.declared.heading.Heading.{Heading}
 use Rattle.dump_file.specs.declared.row.Row.{Row}
 use Rattle.dump_file.specs.declared.stage.Stage.TheVariants.{Between}

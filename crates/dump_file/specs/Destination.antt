@@ -1,9 +1,9 @@
 -- What a row says of its LID.
 use Rattle.std.specs.Prelude.{ℕ, nat_eq, List, drop, codes, bytes_eq, if◌then◌else◌, Option, Some, None, Result, Ok, Err}
 use Rattle.std.specs.List.{starts_with}
-use Rattle.result_words.specs.Steps.{◌>>=◌}
+use Rattle.step_results.specs.Steps.{◌>>=◌}
 use Rattle.dump_file.specs.declared.destination.Destination.{Destination}
-use Rattle.dump_file.specs.declared.destination.Destination.TheVariants.{ChannelAdapter, Switch, Router, FurtherLid, Nobody, NotTold}
+use Rattle.dump_file.specs.declared.destination.Destination.TheVariants.{ChannelAdapter, Switch, Router, FurtherLid, Nobody, NotReported}
 use Rattle.dump_file.specs.declared.fault.DumpCause.{DumpCause}
 use Rattle.dump_file.specs.declared.fault.DumpCause.TheVariants.{Malformed}
 use Rattle.dump_file.specs.Parts.{behind, between, count_in, cut, guid_in}
@@ -15,7 +15,7 @@ guid_said (Switch guid) = Some guid
 guid_said (Router guid) = Some guid
 guid_said (FurtherLid guid) = Some guid
 guid_said Nobody = None
-guid_said NotTold = None
+guid_said NotReported = None
 
 -- ---- `Channel Adapter portguid 0x0000000000000111`, or of a switch or a router
 abbrev pub of_kind_or : (ℕ → Destination) → Result Destination DumpCause → Result (List ℕ) DumpCause → Result Destination DumpCause
@@ -41,8 +41,8 @@ named_in text = do
 -- ---- `out of 2: portguid 0x0000000000000101`: a further LID of a port
 unfoldable pub further_in : List ℕ → Result Destination DumpCause
 further_in text = do
-  told ← behind (codes "out of ") text
-  parts ← cut 58 told
+  reported ← behind (codes "out of ") text
+  parts ← cut 58 reported
   count ← count_in parts.0
   word ← behind (codes " portguid ") parts.1
   guid ← guid_in word
@@ -53,12 +53,12 @@ unfoldable pub path_in : List ℕ → Result Destination DumpCause
 path_in text = do
   parts ← cut 32 text
   number ← count_in parts.0
-  if bytes_eq parts.1 (codes "- illegal port") then Ok NotTold else further_in parts.1
+  if bytes_eq parts.1 (codes "- illegal port") then Ok NotReported else further_in parts.1
 
 -- ---- what stands in parentheses
 abbrev pub said_in : List ℕ → Result Destination DumpCause
 said_in text =
-    if bytes_eq text (codes "illegal port") then Ok NotTold
+    if bytes_eq text (codes "illegal port") then Ok NotReported
     else (if bytes_eq text (codes "node info not available fabric scan") then Ok Nobody
     else (if starts_with nat_eq text (codes "path #") then path_in (drop 6 text)
     else named_in text))

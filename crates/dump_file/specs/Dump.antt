@@ -1,9 +1,9 @@
--- What a text of `dump_fts` tells, or the first line that is at fault.
+-- What a text of `dump_fts` reports, or the first line that is at fault.
 use Rattle.std.specs.Prelude.{ℕ, Bool, true, false, not, ◌==◌, ◌&&◌, ◌||◌, nat_eq, List, [], ◌∷◌, ◌++◌, length, codes, bytes_eq, if◌then◌else◌, Option, Some, None, is_some, Result, Ok, Err}
 use Rattle.std.specs.List.{starts_with}
 use Rattle.std.specs.Option.{option_map_or}
-use Rattle.result_words.specs.AtLine.{AtLine, after_lines}
-use Rattle.result_words.specs.Steps.{◌>>=◌}
+use Rattle.step_results.specs.AtLine.{AtLine, after_lines}
+use Rattle.step_results.specs.Steps.{◌>>=◌}
 use Rattle.text_words.specs.Cut.{cut_at}
 use Rattle.text_words.specs.Lines.{lines}
 use Rattle.text_words.specs.Number.{number_in}
@@ -23,7 +23,7 @@ use Rattle.dump_file.specs.Table.{place_of, rows_of, table_of}
 pub record DumpState : Type 0 where
   pub tables : List Table
 
--- what the lines so far tell: tables that are whole, what is to come next, and the rows of the table that is open
+-- what the lines so far report: tables that are whole, what is to come next, and the rows of the table that is open
 pub record DraftState : Type 0 where
   pub tables : List Table
   pub stage : Stage
@@ -44,13 +44,13 @@ heading_of _ = None
 abbrev pub new_heading : DraftState → Heading → Result Heading DumpCause
 new_heading so_far heading = if is_some (place_of heading.guid so_far.tables) then Err DuplicateTable else Ok heading
 
-unfoldable pub heading_told : ℕ → DraftState → List ℕ → Result Heading DumpCause
-heading_told number so_far text = do
+unfoldable pub heading_reported : ℕ → DraftState → List ℕ → Result Heading DumpCause
+heading_reported number so_far text = do
   heading ← heading_in number text
   new_heading so_far heading
 
 abbrev pub with_heading : DraftState → Result Heading DumpCause → Result DraftState DumpCause
-with_heading so_far told = told >>= λ heading. Ok (record so_far { stage = FirstTitle heading })
+with_heading so_far reported = reported >>= λ heading. Ok (record so_far { stage = FirstTitle heading })
 
 -- ---- a row: its LID is above those before it and not above the top, and has no other end port
 abbrev pub new_row : DraftState → Heading → Row → Result Row DumpCause
@@ -59,8 +59,8 @@ new_row so_far heading row =
     else (if is_said_otherwise (rows_so_far so_far) row then Err TwoEndPorts
     else Ok row)
 
-unfoldable pub row_told : ℕ → DraftState → Heading → List ℕ → Result Row DumpCause
-row_told number so_far heading text = do
+unfoldable pub row_reported : ℕ → DraftState → Heading → List ℕ → Result Row DumpCause
+row_reported number so_far heading text = do
   row ← row_in number text
   new_row so_far heading row
 
@@ -68,7 +68,7 @@ abbrev pub with_rows : DraftState → List Row → DraftState
 with_rows so_far rows = record so_far { rows = rows }
 
 abbrev pub with_row : DraftState → Result Row DumpCause → Result DraftState DumpCause
-with_row so_far told = told >>= λ row. Ok (with_rows so_far (so_far.rows ++ row ∷ []))
+with_row so_far reported = reported >>= λ row. Ok (with_rows so_far (so_far.rows ++ row ∷ []))
 
 -- ---- the last line of a table: `4 valid lids dumped`, or `7 lids dumped` where entries of 255 have rows too
 abbrev pub rows_counted : List Row → List ℕ → Result ℕ DumpCause
@@ -77,16 +77,16 @@ rows_counted rows words =
     else (if bytes_eq words (codes "lids dumped") then Ok (length rows)
     else Err Malformed)
 
-unfoldable pub count_told : List Row → List ℕ → Result ℕ DumpCause
-count_told rows text = do
+unfoldable pub count_reported : List Row → List ℕ → Result ℕ DumpCause
+count_reported rows text = do
   parts ← cut 32 text
   number ← count_in parts.0
   count ← rows_counted rows parts.1
   if number == count then Ok number else Err WrongCount
 
 abbrev pub with_table : DraftState → Heading → Result ℕ DumpCause → Result DraftState DumpCause
-with_table so_far heading told =
-    told >>= λ count. Ok (record { tables = so_far.tables ++ table_of heading so_far.rows ∷ []; stage = Between; rows = [] })
+with_table so_far heading reported =
+    reported >>= λ count. Ok (record { tables = so_far.tables ++ table_of heading so_far.rows ∷ []; stage = Between; rows = [] })
 
 -- ---- multicast tables are passed over, from their heading to `2 valid mlids dumped`
 abbrev pub is_multicast_heading : List ℕ → Bool
@@ -113,15 +113,15 @@ if_title test so_far next = if test then Ok (at so_far next) else Err Malformed
 -- between tables; `dump_mfts` ends with a warning
 abbrev pub after_between : ℕ → DraftState → List ℕ → Result DraftState DumpCause
 after_between number so_far text =
-    if is_heading text then with_heading so_far (heading_told number so_far text)
+    if is_heading text then with_heading so_far (heading_reported number so_far text)
     else (if is_multicast_heading text then Ok (at so_far Multicast)
     else (if starts_with nat_eq text (codes "*** WARNING ***") then Ok so_far
     else Err Malformed))
 
 abbrev pub after_rows : ℕ → DraftState → Heading → List ℕ → Result DraftState DumpCause
 after_rows number so_far heading text =
-    if starts_with nat_eq text (codes "0x") then with_row so_far (row_told number so_far heading text)
-    else with_table so_far heading (count_told so_far.rows text)
+    if starts_with nat_eq text (codes "0x") then with_row so_far (row_reported number so_far heading text)
+    else with_table so_far heading (count_reported so_far.rows text)
 
 abbrev pub after_multicast : DraftState → List ℕ → Result DraftState DumpCause
 after_multicast so_far text =
@@ -152,14 +152,14 @@ whole all =
     if is_between all.stage && not (length all.tables == 0) then Ok (record { tables = all.tables })
     else Err (record { line = 0; cause = Unfinished })
 
--- before the first line nothing is told
+-- before the first line nothing is reported
 abbrev pub nothing : DraftState
 nothing = record { tables = []; stage = Between; rows = [] }
 
--- what all lines tell
-abbrev pub told_by : List ℕ → Result DraftState (AtLine DumpCause)
-told_by text = after_lines after_line 1 nothing (lines text)
+-- what all lines report
+abbrev pub reported_by : List ℕ → Result DraftState (AtLine DumpCause)
+reported_by text = after_lines after_line 1 nothing (lines text)
 
--- what the text tells, or its first fault
+-- what the text reports, or its first fault
 unfoldable pub dump_of : List ℕ → Result DumpState (AtLine DumpCause)
-dump_of text = told_by text >>= whole
+dump_of text = reported_by text >>= whole

@@ -1,11 +1,11 @@
 -- Lines as they are printed, what they say, and which dumps are not sound.
 use Rattle.std.specs.Prelude.{ℕ, ◌≡◌, true, false, List, [], ◌∷◌, ◌++◌, codes, Ok, Err}
 use Rattle.std.specs.List.{IsDistinct}
-use Rattle.dump_file.specs.declared.destination.Destination.TheVariants.{ChannelAdapter, Switch, Router, FurtherLid, Nobody, NotTold}
-use Rattle.dump_file.specs.declared.fault.DumpCause.TheVariants.{DuplicateTable, EndNotTold, Malformed, Unfinished, WrongCount}
+use Rattle.dump_file.specs.declared.destination.Destination.TheVariants.{ChannelAdapter, Switch, Router, FurtherLid, Nobody, NotReported}
+use Rattle.dump_file.specs.declared.fault.DumpCause.TheVariants.{DuplicateTable, EndNotReported, Malformed, Unfinished, WrongCount}
 use Rattle.dump_file.specs.declared.row.Row.{Row}
 use Rattle.dump_file.specs.declared.table.Table.{Table}
-use Rattle.dump_file.specs.Dump.{count_told, dump_of}
+use Rattle.dump_file.specs.Dump.{count_reported, dump_of}
 use Rattle.dump_file.specs.Heading.{heading_in}
 use Rattle.dump_file.specs.Parts.{trimmed}
 use Rattle.dump_file.specs.Row.{is_said_otherwise, may_follow, row_in}
@@ -28,9 +28,9 @@ pub record HeadingsAreRead : Type 0 where
 abbrev one_row : Row
 one_row = record { line = 4; lid = 3; port = 3; destination = ChannelAdapter 0x111 }
 
--- an entry of 255, of which nothing is told, and one of 254, whose end port has the greatest GUID
+-- an entry of 255, of which nothing is reported, and one of 254, whose end port has the greatest GUID
 abbrev closed_row : Row
-closed_row = record { line = 5; lid = 4; port = 255; destination = NotTold }
+closed_row = record { line = 5; lid = 4; port = 255; destination = NotReported }
 
 abbrev last_port_row : Row
 last_port_row = record { line = 6; lid = 5; port = 254; destination = Router 0xffffffffffffffff }
@@ -42,10 +42,10 @@ pub record RowsAreRead : Type 0 where
   pub router : row_in 6 (codes "0x0005 007 : (Router portguid 0x7cfe9003009f0a11: 'gateway 1')") ≡ Ok (record { line = 6; lid = 5; port = 7; destination = Router 0x7cfe9003009f0a11 })
   pub further : row_in 5 (codes "0x0004 003 : (path #2 out of 2: portguid 0x0000000000000111)") ≡ Ok (record { line = 5; lid = 4; port = 3; destination = FurtherLid 0x111 })
   pub nobody : row_in 5 (codes "0x0015 002 : (node info not available fabric scan)") ≡ Ok (record { line = 5; lid = 21; port = 2; destination = Nobody })
-  pub illegal : row_in 5 (codes "0x0001 255 : (illegal port)") ≡ Ok (record { line = 5; lid = 1; port = 255; destination = NotTold })
-  pub illegal_path : row_in 4 (codes "0x0000 255 : (path #0 - illegal port)") ≡ Ok (record { line = 4; lid = 0; port = 255; destination = NotTold })
+  pub illegal : row_in 5 (codes "0x0001 255 : (illegal port)") ≡ Ok (record { line = 5; lid = 1; port = 255; destination = NotReported })
+  pub illegal_path : row_in 4 (codes "0x0000 255 : (path #0 - illegal port)") ≡ Ok (record { line = 4; lid = 0; port = 255; destination = NotReported })
   pub last_port : row_in 6 (codes "0x0005 254 : (Router portguid 0xffffffffffffffff: '')") ≡ Ok last_port_row
-  pub without_end : row_in 4 (codes "0x0003 003") ≡ Err EndNotTold
+  pub without_end : row_in 4 (codes "0x0003 003") ≡ Err EndNotReported
   pub top_follows : may_follow 4 (one_row ∷ []) 4 ≡ true
   pub same_does_not : may_follow 4 (one_row ∷ []) 3 ≡ false
   pub past_the_top_does_not : may_follow 4 (one_row ∷ []) 5 ≡ false
@@ -53,11 +53,11 @@ pub record RowsAreRead : Type 0 where
   pub further_of_one : is_said_otherwise (one_row ∷ []) (record one_row { destination = FurtherLid 0x111 }) ≡ false
   pub of_router : is_said_otherwise (last_port_row ∷ []) (record last_port_row { destination = Switch 0x20 }) ≡ true
   pub of_nobody : is_said_otherwise (one_row ∷ []) (record one_row { destination = Nobody }) ≡ false
-  pub counted : count_told (one_row ∷ []) (trimmed (codes "1 valid lids dumped \r\n")) ≡ Ok 1
-  pub miscounted : count_told (one_row ∷ []) (codes "2 lids dumped") ≡ Err WrongCount
+  pub counted : count_reported (one_row ∷ []) (trimmed (codes "1 valid lids dumped \r\n")) ≡ Ok 1
+  pub miscounted : count_reported (one_row ∷ []) (codes "2 lids dumped") ≡ Err WrongCount
   -- entries of 255 are counted where all are, and those of 254 always
-  pub valid_counted : count_told (closed_row ∷ one_row ∷ last_port_row ∷ last_port_row ∷ []) (codes "3 valid lids dumped") ≡ Ok 3
-  pub all_counted : count_told (one_row ∷ closed_row ∷ last_port_row ∷ []) (codes "3 lids dumped") ≡ Ok 3
+  pub valid_counted : count_reported (closed_row ∷ one_row ∷ last_port_row ∷ last_port_row ∷ []) (codes "3 valid lids dumped") ≡ Ok 3
+  pub all_counted : count_reported (one_row ∷ closed_row ∷ last_port_row ∷ []) (codes "3 lids dumped") ≡ Ok 3
 
 -- ---- a whole text: comments, lines with nothing on them, multicast tables and a warning are passed over, and a table may
 -- have no rows
@@ -86,7 +86,7 @@ pub record TextsAreRead : Type 0 where
   pub of_one_switch : dump_of (heading_text ++ codes "0 lids dumped\n" ++ heading_text) ≡ Err (record { line = 5; cause = DuplicateTable })
 
 -- ---- dumps that are not sound
-pub record UnsoundAreTold : Type 0 where
+pub record UnsoundAreReported : Type 0 where
   pub of_one_switch : IsDistinct shares_switch (first_table ∷ record first_table { line = 17 } ∷ []) → ⊥
   pub twice : is_rising (record first_table { rows = one_row ∷ one_row ∷ [] }) ≡ false
   pub falling : is_rising (record first_table { rows = closed_row ∷ one_row ∷ [] }) ≡ false

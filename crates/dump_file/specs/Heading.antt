@@ -1,7 +1,7 @@
 -- The first line of a table.
 use Rattle.std.specs.Prelude.{ℕ, Bool, ◌||◌, nat_eq, List, codes, Result}
 use Rattle.std.specs.List.{starts_with, ends_with}
-use Rattle.result_words.specs.Steps.{◌>>=◌}
+use Rattle.step_results.specs.Steps.{◌>>=◌}
 use Rattle.dump_file.specs.declared.heading.Heading.{Heading}
 use Rattle.dump_file.specs.declared.fault.DumpCause.{DumpCause}
 use Rattle.dump_file.specs.Parts.{behind, between, cut, guid_in, lid_in, only_if}

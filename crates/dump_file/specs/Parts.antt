@@ -3,7 +3,7 @@ use Rattle.std.specs.Prelude.{ℕ, Bool, ◌-◌, ◌^◌, ◌==◌, nat_eq, Lis
 use Rattle.std.specs.List.{starts_with, ends_with, suffix_len}
 use Rattle.std.specs.Char.{is_ascii_whitespace}
 use Rattle.std.specs.Option.{ok_or}
-use Rattle.result_words.specs.Steps.{◌>>=◌}
+use Rattle.step_results.specs.Steps.{◌>>=◌}
 use Rattle.text_words.specs.Cut.{cut_at}
 use Rattle.text_words.specs.Number.{if_under, number_in, u16_in}
 use Rattle.dump_file.specs.declared.fault.DumpCause.{DumpCause}

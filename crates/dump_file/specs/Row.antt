@@ -1,11 +1,11 @@
 -- The rows of a table.
 use Rattle.std.specs.Prelude.{ℕ, Bool, true, false, not, ◌-◌, ◌==◌, ◌&&◌, nat_le, nat_lt, List, [], ◌∷◌, length, slice_get, count_by, if◌then◌else◌, Option, Some, None, Result, Ok, Err}
 use Rattle.std.specs.Option.{option_map_or, option_or}
-use Rattle.result_words.specs.Steps.{◌>>=◌}
+use Rattle.step_results.specs.Steps.{◌>>=◌}
 use Rattle.text_words.specs.Cut.{cut_at}
 use Rattle.dump_file.specs.declared.row.Row.{Row}
 use Rattle.dump_file.specs.declared.fault.DumpCause.{DumpCause}
-use Rattle.dump_file.specs.declared.fault.DumpCause.TheVariants.{EndNotTold}
+use Rattle.dump_file.specs.declared.fault.DumpCause.TheVariants.{EndNotReported}
 use Rattle.dump_file.specs.Destination.{destination_in, guid_said}
 use Rattle.dump_file.specs.Parts.{cut, lid_in, port_in}
 
@@ -13,7 +13,7 @@ use Rattle.dump_file.specs.Parts.{cut, lid_in, port_in}
 -- a row that ends behind its port says nothing of its LID
 abbrev pub cut_behind_port : List ℕ → Option (List ℕ × List ℕ) → Result (List ℕ × List ℕ) DumpCause
 cut_behind_port text (Some parts) = Ok parts
-cut_behind_port text None = port_in text >>= λ port. Err EndNotTold
+cut_behind_port text None = port_in text >>= λ port. Err EndNotReported
 
 unfoldable pub row_in : ℕ → List ℕ → Result Row DumpCause
 row_in line text = do

@@ -32,7 +32,7 @@ pub enum Destination {
     /// The fabric has no such LID.
     Nobody,
     /// Nothing is said, since the entry leads to no port of the switch.
-    NotTold,
+    NotReported,
 }
 
 impl Destination {
@@ -45,7 +45,7 @@ impl Destination {
             | Destination::Switch { guid }
             | Destination::Router { guid }
             | Destination::FurtherLid { guid } => Some(guid),
-            Destination::Nobody | Destination::NotTold => None,
+            Destination::Nobody | Destination::NotReported => None,
         }
     }
 }
@@ -82,17 +82,17 @@ fn end_port_in(text: &[u8]) -> Result<Destination, DumpCause>
 fn named_in(text: &[u8]) -> Result<Destination, DumpCause>
     ensures { result ≡ named_in text.now }
 {
-    let (told, name) = cut(b':', text)?;
+    let (reported, name) = cut(b':', text)?;
     between(b" '", b"'", name)?;
-    end_port_in(told)
+    end_port_in(reported)
 }
 
 #[tactic(auto, unfolding(crate::specs::Destination::further_in))]
 fn further_in(text: &[u8]) -> Result<Destination, DumpCause>
     ensures { result ≡ further_in text.now }
 {
-    let told = behind(b"out of ", text)?;
-    let (count, port) = cut(b':', told)?;
+    let reported = behind(b"out of ", text)?;
+    let (count, port) = cut(b':', reported)?;
     count_in(count)?;
     let word = behind(b" portguid ", port)?;
     let guid = guid_in(word)?;
@@ -103,19 +103,19 @@ fn further_in(text: &[u8]) -> Result<Destination, DumpCause>
 fn path_in(text: &[u8]) -> Result<Destination, DumpCause>
     ensures { result ≡ path_in text.now }
 {
-    let (number, told) = cut(b' ', text)?;
+    let (number, reported) = cut(b' ', text)?;
     count_in(number)?;
-    if told == b"- illegal port".as_slice() {
-        return Ok(Destination::NotTold);
+    if reported == b"- illegal port".as_slice() {
+        return Ok(Destination::NotReported);
     }
-    further_in(told)
+    further_in(reported)
 }
 
 fn said_in(text: &[u8]) -> Result<Destination, DumpCause>
     ensures { result ≡ said_in text.now }
 {
     if text == b"illegal port".as_slice() {
-        return Ok(Destination::NotTold);
+        return Ok(Destination::NotReported);
     }
     if text == b"node info not available fabric scan".as_slice() {
         return Ok(Destination::Nobody);
@@ -130,6 +130,6 @@ fn said_in(text: &[u8]) -> Result<Destination, DumpCause>
 pub(crate) fn destination_in(text: &[u8]) -> Result<Destination, DumpCause>
     ensures { result ≡ destination_in text.now }
 {
-    let told = between(b": (", b")", text)?;
-    said_in(told)
+    let reported = between(b": (", b")", text)?;
+    said_in(reported)
 }

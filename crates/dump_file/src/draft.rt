@@ -1,7 +1,7 @@
 //! A dump of which lines are still to come.
 
 ghost use Rattle.std.specs.Prelude.{◌≡◌, ◌++◌, None, false, true, IfOk, OnErr, OnOk, [], ◌∷◌};
-ghost use Rattle.dump_file.specs.Dump.{count_told, heading_of, heading_told, new_heading, new_row, nothing, row_told, rows_counted, rows_so_far, with_rows};
+ghost use Rattle.dump_file.specs.Dump.{count_reported, heading_of, heading_reported, new_heading, new_row, nothing, row_reported, rows_counted, rows_so_far, with_rows};
 ghost use Rattle.dump_file.specs.Index.{KnowSame, KnowsMore};
 ghost use Rattle.dump_file.specs.Row.{is_said_otherwise, may_follow};
 ghost use Rattle.dump_file.specs.Sound.{may_take};
@@ -17,7 +17,7 @@ use indexmap::IndexMap;
 use std::alloc::{AllocError, Global};
 use std::marker::Model;
 
-/// What the lines so far tell.
+/// What the lines so far report.
 #[derive(Drop)]
 pub(crate) struct Draft {
     pub(crate) tables: TableList,
@@ -59,7 +59,7 @@ impl Draft {
     /// Judges a heading against the tables before it.
     fn new_heading(&self, heading: Heading) -> Result<Heading, DumpCause>
         ensures value { result ≡ new_heading self.now heading }
-        ensures new { IfOk result (λ told. place_of told.guid self.now.tables ≡ None) }
+        ensures new { IfOk result (λ reported. place_of reported.guid self.now.tables ≡ None) }
     {
         if self.tables.place_of(heading.guid).is_some() {
             return Err(DumpCause::DuplicateTable);
@@ -67,11 +67,11 @@ impl Draft {
         Ok(heading)
     }
 
-    /// The heading that a line tells, of a switch that has no table yet.
-    #[tactic(auto, unfolding(crate::specs::Dump::heading_told))]
-    pub(crate) fn heading_told(&self, number: usize, text: &[u8]) -> Result<Heading, DumpCause>
-        ensures value { result ≡ heading_told number self.now text.now }
-        ensures new { IfOk result (λ told. place_of told.guid self.now.tables ≡ None) }
+    /// The heading that a line reports, of a switch that has no table yet.
+    #[tactic(auto, unfolding(crate::specs::Dump::heading_reported))]
+    pub(crate) fn heading_reported(&self, number: usize, text: &[u8]) -> Result<Heading, DumpCause>
+        ensures value { result ≡ heading_reported number self.now text.now }
+        ensures new { IfOk result (λ reported. place_of reported.guid self.now.tables ≡ None) }
     {
         let heading = heading_in(number, text)?;
         self.new_heading(heading)
@@ -87,8 +87,8 @@ impl Draft {
     /// Judges a row of the table that is open against those before it.
     fn new_row(&self, heading: Heading, row: Row) -> Result<Row, DumpCause>
         ensures value { result ≡ new_row self.now heading row }
-        ensures rising { IfOk result (λ told. may_follow heading.top self.now.rows told.lid ≡ true) }
-        ensures one_end { IfOk result (λ told. is_said_otherwise (rows_so_far self.now) told ≡ false) }
+        ensures rising { IfOk result (λ reported. may_follow heading.top self.now.rows reported.lid ≡ true) }
+        ensures one_end { IfOk result (λ reported. is_said_otherwise (rows_so_far self.now) reported ≡ false) }
     {
         if !may_follow(heading.top, self.rows.as_slice(), row.lid) {
             return Err(DumpCause::WrongLid);
@@ -99,23 +99,23 @@ impl Draft {
         Ok(row)
     }
 
-    /// The row that a line tells, of the table that is open.
-    #[tactic(auto, unfolding(crate::specs::Dump::row_told))]
-    pub(crate) fn row_told(
+    /// The row that a line reports, of the table that is open.
+    #[tactic(auto, unfolding(crate::specs::Dump::row_reported))]
+    pub(crate) fn row_reported(
         &self,
         number: usize,
         heading: Heading,
         text: &[u8],
     ) -> Result<Row, DumpCause>
-        ensures value { result ≡ row_told number self.now heading text.now }
-        ensures rising { IfOk result (λ told. may_follow heading.top self.now.rows told.lid ≡ true) }
-        ensures one_end { IfOk result (λ told. is_said_otherwise (rows_so_far self.now) told ≡ false) }
+        ensures value { result ≡ row_reported number self.now heading text.now }
+        ensures rising { IfOk result (λ reported. may_follow heading.top self.now.rows reported.lid ≡ true) }
+        ensures one_end { IfOk result (λ reported. is_said_otherwise (rows_so_far self.now) reported ≡ false) }
     {
         let row = row_in(number, text)?;
         self.new_row(heading, row)
     }
 
-    /// Adds a row to the table that is open. Memory alone can be refused, and then all stays as it was.
+    /// Adds a row to the table that is open. It can only run out of memory, and then all stays as it was.
     pub(crate) fn push(&mut self, row: Row) -> Result<(), AllocError>
         requires open { may_take (heading_of self.old.stage) self.old.rows row ≡ true }
         requires one_end { is_said_otherwise (rows_so_far self.old) row ≡ false }
@@ -129,7 +129,7 @@ impl Draft {
     }
 }
 
-/// Notes whose the row's LID is, if the row says it. Memory alone can be refused, and then all is as before.
+/// Notes whose the row's LID is, if the row says it. It can only run out of memory, and then all is as before.
 fn know_end(ends: &mut IndexMap<u16, u64>, row: Row) -> Result<(), AllocError>
     ensures ok { OnOk result (KnowsMore row ends.old ends.new) }
     ensures err { OnErr result (KnowSame ends.old ends.new) }
@@ -154,9 +154,9 @@ fn rows_counted(rows: &[Row], words: &[u8]) -> Result<usize, DumpCause>
 }
 
 /// What the last line of a table counts, if there are as many rows.
-#[tactic(auto, unfolding(crate::specs::Dump::count_told))]
-pub(crate) fn count_told(rows: &[Row], text: &[u8]) -> Result<u128, DumpCause>
-    ensures { result ≡ count_told rows.now text.now }
+#[tactic(auto, unfolding(crate::specs::Dump::count_reported))]
+pub(crate) fn count_reported(rows: &[Row], text: &[u8]) -> Result<u128, DumpCause>
+    ensures { result ≡ count_reported rows.now text.now }
 {
     let (number, words) = cut(b' ', text)?;
     let number = count_in(number)?;

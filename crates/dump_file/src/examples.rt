@@ -1,7 +1,7 @@
 //! What the definitions give for lines and texts as they are printed. Each function does nothing: its contract is the
 //! example.
 
-ghost use Rattle.dump_file.specs.Examples.{HeadingsAreRead, RowsAreRead, TextsAreRead, UnsoundAreTold};
+ghost use Rattle.dump_file.specs.Examples.{HeadingsAreRead, RowsAreRead, TextsAreRead, UnsoundAreReported};
 
 /// The first line of a table.
 pub fn headings_are_read()
@@ -19,6 +19,6 @@ pub fn texts_are_read()
 {}
 
 /// What is so of every dump that was read is not so of all.
-pub fn unsound_are_told()
-    ensures { UnsoundAreTold }
+pub fn unsound_are_reported()
+    ensures { UnsoundAreReported }
 {}

@@ -3,8 +3,7 @@
 ghost use Rattle.std.specs.Prelude.{◌≡◌};
 ghost use Rattle.dump_file.specs.Fault.{code_of};
 
-use result_words::LineError;
-use std::alloc::AllocError;
+use step_results::{LineError, TextFault};
 use thiserror::Error;
 
 /// What is wrong with a line.
@@ -13,9 +12,9 @@ pub enum DumpCause {
     /// The line is none that `dump_fts` prints, or it stands where it cannot, as a row outside a table.
     #[error("the line is malformed, or stands where it cannot")]
     Malformed,
-    /// The row ends behind its port, as `dump_fts -n` prints it: which end port has the LID is not told.
+    /// The row ends behind its port, as `dump_fts -n` prints it: which end port has the LID is not reported.
     #[error("the row does not tell whose its LID is")]
-    EndNotTold,
+    EndNotReported,
     /// The switch has a table already.
     #[error("the switch has a table already")]
     DuplicateTable,
@@ -25,7 +24,7 @@ pub enum DumpCause {
     /// The last line of a table counts other rows than there are.
     #[error("the table has another number of rows")]
     WrongCount,
-    /// The text ends within a table, or tells of none. It is told for line 0.
+    /// The text ends within a table, or has none. It is reported for line 0.
     #[error("the text ends within a table, or has none")]
     Unfinished,
     /// The LID is said to be another end port's by a row before.
@@ -40,7 +39,7 @@ impl DumpCause {
     {
         match self {
             DumpCause::Malformed => "FT1",
-            DumpCause::EndNotTold => "FT2",
+            DumpCause::EndNotReported => "FT2",
             DumpCause::DuplicateTable => "FT3",
             DumpCause::WrongLid => "FT4",
             DumpCause::WrongCount => "FT5",
@@ -51,37 +50,14 @@ impl DumpCause {
 }
 
 /// Why a text was not read.
-#[derive(Clone, Copy, Debug, PartialEq, Eq, Error)]
-pub enum DumpFault {
-    /// Memory was refused.
-    #[error("out of memory")]
-    NoMemory,
-    /// The first fault of the text.
-    #[error("line {line}: {cause}")]
-    At {
-        /// The line, counted from 1; 0 where the fault is of no line, but of the text as a whole.
-        line: usize,
-        /// What is wrong.
-        cause: DumpCause,
-    },
-}
+pub type DumpFault = TextFault<DumpCause>;
 
 impl From<DumpCause> for LineError<DumpCause> {
-    ghost use Rattle.result_words.specs.declared.line_error.LineError.TheVariants.{Fault};
+    ghost use Rattle.step_results.specs.declared.line_error.LineError.TheVariants.{Fault};
 
     ghost from_gives = { λ cause e. e ≡ Fault cause };
 
     fn from(cause: DumpCause) -> LineError<DumpCause> {
         LineError::Fault(cause)
-    }
-}
-
-impl From<AllocError> for DumpFault {
-    ghost use Rattle.dump_file.specs.declared.fault.DumpFault.TheVariants as text;
-
-    ghost from_gives = { λ _ e. e ≡ text.NoMemory };
-
-    fn from(_error: AllocError) -> DumpFault {
-        DumpFault::NoMemory
     }
 }

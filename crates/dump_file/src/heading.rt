@@ -6,7 +6,7 @@ ghost use Rattle.dump_file.specs.Heading.{guid_behind_way, heading_in, is_way};
 use crate::fault::DumpCause;
 use crate::parts::{behind, between, cut, guid_in, lid_in};
 
-/// What the first line of a table tells.
+/// What the first line of a table reports.
 #[derive(Clone, Copy, Debug)]
 pub(crate) struct Heading {
     pub(crate) line: usize,
@@ -33,7 +33,7 @@ fn guid_behind_way(text: &[u8]) -> Result<u64, DumpCause>
     Ok(guid)
 }
 
-/// The heading that a line tells.
+/// The heading that a line reports.
 #[tactic(auto, unfolding(crate::specs::Heading::heading_in))]
 pub(crate) fn heading_in(line: usize, text: &[u8]) -> Result<Heading, DumpCause>
     ensures { result ≡ heading_in line text.now }

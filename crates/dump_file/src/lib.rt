@@ -1,6 +1,6 @@
 //! Linear forwarding tables of a live fabric, as `dump_fts` of infiniband-diags prints them.
 //!
-//! [`read`] gives the [`Dump`] that a text tells, or the first fault with its line. What a text tells is stated in
+//! [`read`] gives the [`Dump`] that a text reports, or the first fault with its line. What a text reports is stated in
 //! `specs/Dump.antt`, line by line; what the first line of a table says, in `specs/Heading.antt`, and what a row says,
 //! in `specs/Row.antt` and `specs/Destination.antt`. A dump agrees with itself: `specs/Sound.antt` says how.
 #![tactic(auto)]

@@ -1,7 +1,7 @@
 //! Parts of lines, and the numbers in them.
 
 ghost use Rattle.std.specs.Prelude.{◌≡◌, Ok};
-ghost use Rattle.result_words.specs.Gives.{seen_by};
+ghost use Rattle.step_results.specs.Gives.{seen_by};
 ghost use Rattle.text_words.specs.Cut.{both};
 ghost use Rattle.dump_file.specs.Parts.{before, behind, between, count_in, cut, guid_in, lid_in, port_in, trimmed};
 

@@ -1,30 +1,29 @@
 //! The reader of a whole text.
 
 ghost use Rattle.std.specs.Prelude.{◌≡◌, Some, None, IfOk};
-ghost use Rattle.result_words.specs.AtLine.{on_line};
-ghost use Rattle.result_words.specs.Gives.{Gives, LineGives};
+ghost use Rattle.step_results.specs.Gives.{LineGives};
+ghost use Rattle.step_results.specs.TextGives.{TextGives};
 ghost use Rattle.dump_file.specs.Dump.{after_between, after_line, after_multicast, after_rows, after_text, are_mlids_counted};
-ghost use Rattle.dump_file.specs.Dump.{count_told, dump_of, heading_of, heading_told, if_title, is_heading, is_multicast_end, is_multicast_heading};
-ghost use Rattle.dump_file.specs.Dump.{is_passed_over, row_told, told_by, whole, with_heading, with_row, with_table};
-ghost use Rattle.dump_file.specs.Fault.{fault_in};
+ghost use Rattle.dump_file.specs.Dump.{count_reported, dump_of, heading_of, heading_reported, if_title, is_heading, is_multicast_end, is_multicast_heading};
+ghost use Rattle.dump_file.specs.Dump.{is_passed_over, row_reported, whole, with_heading, with_row, with_table};
 ghost use Rattle.dump_file.specs.Sound.{IsSound};
 
-use crate::draft::{Draft, count_told};
+use crate::draft::{Draft, count_reported};
 use crate::dump::Dump;
 use crate::fault::{DumpCause, DumpFault};
 use crate::heading::Heading;
 use crate::parts::trimmed;
 use crate::stage::Stage;
-use result_words::LineError;
 use std::alloc::Global;
-use text_words::{Lines, cut_at, number_in};
+use step_results::LineError;
+use text_words::{LineReader, cut_at, number_in, read_lines};
 
 impl Draft {
     fn take_heading(&mut self, number: usize, text: &[u8]) -> Result<(), LineError<DumpCause>>
         requires between { heading_of self.old.stage ≡ None }
-        ensures { LineGives (λ _. self.new) result (with_heading self.old (heading_told number self.old text.now)) }
+        ensures { LineGives (λ _. self.new) result (with_heading self.old (heading_reported number self.old text.now)) }
     {
-        let heading = self.heading_told(number, text)?;
+        let heading = self.heading_reported(number, text)?;
         self.stage = Stage::FirstTitle(heading);
         Ok(())
     }
@@ -36,9 +35,9 @@ impl Draft {
         text: &[u8],
     ) -> Result<(), LineError<DumpCause>>
         requires open { heading_of self.old.stage ≡ Some heading }
-        ensures { LineGives (λ _. self.new) result (with_row self.old (row_told number self.old heading text.now)) }
+        ensures { LineGives (λ _. self.new) result (with_row self.old (row_reported number self.old heading text.now)) }
     {
-        let row = self.row_told(number, heading, text)?;
+        let row = self.row_reported(number, heading, text)?;
         self.push(row)?;
         Ok(())
     }
@@ -50,9 +49,9 @@ impl Draft {
         text: &[u8],
     ) -> Result<(), LineError<DumpCause>>
         requires open { heading_of self.old.stage ≡ Some heading }
-        ensures { LineGives (λ _. self.new) result (with_table self.old heading (count_told self.old.rows text.now)) }
+        ensures { LineGives (λ _. self.new) result (with_table self.old heading (count_reported self.old.rows text.now)) }
     {
-        count_told(self.rows.as_slice(), text)?;
+        count_reported(self.rows.as_slice(), text)?;
         self.tables.push(alloc, heading, &mut self.rows)?;
         self.stage = Stage::Between;
         Ok(())
@@ -138,40 +137,10 @@ impl Draft {
         }
     }
 
-    #[tactic(auto, unfolding(crate::specs::Dump::after_line))]
-    fn take_line(
-        &mut self,
-        alloc: Global,
-        number: usize,
-        line: &[u8],
-    ) -> Result<(), LineError<DumpCause>>
-        ensures { LineGives (λ _. self.new) result (after_line number self.old line.now) }
-    {
-        let text = trimmed(line);
-        if is_passed_over(text) {
-            return Ok(());
-        }
-        self.take_text(alloc, number, text)
-    }
-
-    /// Takes the line of this number, and tells its fault with the number.
-    fn take_numbered(&mut self, alloc: Global, number: usize, line: &[u8]) -> Result<(), DumpFault>
-        ensures { Gives fault_in (λ _. self.new) result (on_line number (after_line number self.old line.now)) }
-    {
-        match self.take_line(alloc, number, line) {
-            Ok(()) => Ok(()),
-            Err(LineError::NoMemory) => Err(DumpFault::NoMemory),
-            Err(LineError::Fault(cause)) => Err(DumpFault::At {
-                line: number,
-                cause,
-            }),
-        }
-    }
-
     /// The dump, if its last table has ended and there is one.
     #[tactic(auto, unfolding(crate::specs::Dump::whole))]
     fn finish(self) -> Result<Dump, DumpFault>
-        ensures { Gives fault_in (λ dump. dump) result (whole self) }
+        ensures { TextGives (λ dump. dump) result (whole self) }
     {
         if !self.stage.is_between() || self.tables.as_slice().is_empty() {
             return Err(DumpFault::At {
@@ -183,6 +152,26 @@ impl Draft {
             tables: self.tables,
             ends: self.ends,
         })
+    }
+}
+
+impl LineReader for Draft {
+    type Cause = DumpCause;
+
+    ghost after_line = { after_line };
+
+    #[tactic(auto, unfolding(crate::specs::Dump::after_line))]
+    fn take_line(
+        &mut self,
+        alloc: Global,
+        number: usize,
+        line: &[u8],
+    ) -> Result<(), LineError<DumpCause>> {
+        let text = trimmed(line);
+        if is_passed_over(text) {
+            return Ok(());
+        }
+        self.take_text(alloc, number, text)
     }
 }
 
@@ -221,19 +210,7 @@ fn is_passed_over(text: &[u8]) -> bool
     text.is_empty() || text.starts_with(b"#")
 }
 
-fn told_by(alloc: Global, text: &[u8]) -> Result<Draft, DumpFault>
-    ensures { Gives fault_in (λ draft. draft) result (told_by text.now) }
-{
-    let mut draft = Draft::new(alloc);
-    let mut number = 0;
-    for line in Lines::new(text) {
-        number += 1;
-        draft.take_numbered(alloc, number, line)?;
-    }
-    Ok(draft)
-}
-
-/// What a text of `dump_fts` tells, or its first fault with the line.
+/// What a text of `dump_fts` reports, or its first fault with the line.
 ///
 /// Lines are judged in turn, each after those before it; `specs/Dump.antt` says how. Time is linear in the length
 /// of the text, and no name is kept.
@@ -243,12 +220,12 @@ fn told_by(alloc: Global, text: &[u8]) -> Result<Draft, DumpFault>
 /// warning that ends what `dump_mfts` prints. Where a line ends in blanks, or in CR LF, these do not count.
 #[tactic(auto, unfolding(crate::specs::Dump::dump_of))]
 pub fn read(alloc: Global, text: &[u8]) -> Result<Dump, DumpFault>
-    // What the text tells, or its first fault.
-    ensures exact { Gives fault_in (λ dump. dump) result (dump_of text.now) }
+    // What the text reports, or its first fault.
+    ensures exact { TextGives (λ dump. dump) result (dump_of text.now) }
     // No switch has two tables, LIDs rise in each up to its top, and each LID has one end port.
     ensures sound { IfOk result (λ dump. IsSound dump) }
 {
-    let draft = told_by(alloc, text)?;
+    let draft = read_lines(alloc, text, Draft::new(alloc))?;
     let dump = draft.finish()?;
     dump.known_sound();
     Ok(dump)

@@ -1,17 +1,18 @@
 //! The rows of a table.
 
 ghost use Rattle.std.specs.Prelude.{◌≡◌, ◌==◌};
-ghost use Rattle.result_words.specs.Gives.{seen_by};
+ghost use Rattle.step_results.specs.Gives.{seen_by};
 ghost use Rattle.text_words.specs.Cut.{both, cut_at};
 ghost use Rattle.dump_file.specs.Row.{are_two, cut_behind_port, is_above, is_valid, may_follow, row_in, valid_count};
 
 use crate::destination::{Destination, destination_in};
 use crate::fault::DumpCause;
 use crate::parts::{cut, lid_in, port_in};
+use fabric_parts::NO_PORT;
 use std::marker::Model;
 use text_words::cut_at;
 
-/// The entry of a LID, as its row tells it.
+/// The entry of a LID, as its row reports it.
 #[derive(Clone, Copy, Debug, PartialEq, Eq)]
 pub struct Row {
     /// The line.
@@ -62,21 +63,21 @@ fn cut_behind_port(text: &[u8]) -> Result<(&[u8], &[u8]), DumpCause>
         Some(parts) => Ok(parts),
         None => {
             port_in(text)?;
-            Err(DumpCause::EndNotTold)
+            Err(DumpCause::EndNotReported)
         }
     }
 }
 
-/// The row that a line tells.
+/// The row that a line reports.
 #[tactic(auto, unfolding(crate::specs::Row::row_in))]
 pub(crate) fn row_in(line: usize, text: &[u8]) -> Result<Row, DumpCause>
     ensures { result ≡ row_in line text.now }
 {
     let (lid, rest) = cut(b' ', text)?;
     let lid = lid_in(lid)?;
-    let (port, told) = cut_behind_port(rest)?;
+    let (port, reported) = cut_behind_port(rest)?;
     let port = port_in(port)?;
-    let destination = destination_in(told)?;
+    let destination = destination_in(reported)?;
     Ok(Row {
         line,
         lid,
@@ -89,7 +90,7 @@ pub(crate) fn row_in(line: usize, text: &[u8]) -> Result<Row, DumpCause>
 pub(crate) fn valid_count(rows: &[Row]) -> usize
     ensures { result ≡ valid_count rows.now }
 {
-    rows.iter().filter(|row| row.port != 255).count()
+    rows.iter().filter(|row| row.port != NO_PORT).count()
 }
 
 /// Whether the LID is above that of the last row.

@@ -68,7 +68,7 @@ impl TableList {
         self.guids.get_index_of(&guid)
     }
 
-    /// Adds a table at the end, and takes its rows. Memory alone can be refused, and then both stay as they were.
+    /// Adds a table at the end, and takes its rows. It can only run out of memory, and then both stay as they were.
     pub(crate) fn push(
         &mut self,
         alloc: Global,

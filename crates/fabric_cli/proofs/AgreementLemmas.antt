@@ -3,14 +3,14 @@ use Rattle.std.proofs.Common.{ℕ, ◌≡◌, List, [], ◌∷◌, ◌++◌, Opt
 use Rattle.std.specs.List.{All}
 use Rattle.std.specs.Option.{option_to_list}
 use Rattle.std.proofs.lemmas.List.Elements.{All-head, All-tail}
-use Rattle.call_words.specs.Words.{Names, work_names}
-use Rattle.call_words.specs.declared.call.Call.TheVariants.{Audit, Explain, Import, Subnet}
-use Rattle.call_words.specs.declared.call.Work.{Work}
-use Rattle.call_words.specs.declared.call.Work.TheVariants as work
+use Rattle.cli_args.specs.Words.{Names, work_names}
+use Rattle.cli_args.specs.declared.call.Call.TheVariants.{Audit, Explain, Import, Subnet}
+use Rattle.cli_args.specs.declared.call.Work.{Work}
+use Rattle.cli_args.specs.declared.call.Work.TheVariants as work
 use Rattle.fabric_cli.specs.Files.{Contents}
 use Rattle.fabric_cli.specs.Laws.{FilesThatAgreeAreJudgedAlike}
-use Rattle.fabric_cli.specs.Serving.{Bytes, Ending, bytes_if_named, bytes_of, imported, opened_bytes, texts_of, work_of}
-use Rattle.result_words.specs.Steps.{◌>>=◌}
+use Rattle.fabric_cli.specs.Serving.{Ending, bytes_if_named, bytes_of, ended, import_of_file, judged_if_read, opened_bytes, texts_of, work_of}
+use Rattle.step_results.specs.Steps.{◌>>=◌}
 
 module _ (file other : Contents) where
   abbrev agree : List (List ℕ) → Type 0
@@ -28,7 +28,7 @@ module _ (file other : Contents) where
     All-tail (λ one. file one ≡ other one) name more same,
   )
 
-  work_alike : (asked : Work (List ℕ) (List ℕ)) → agree (work_names asked) → work_of file asked ≡ work_of other asked
+  work_alike : (asked : Work (List ℕ) (List ℕ) (List ℕ)) → agree (work_names asked) → work_of file asked ≡ work_of other asked
   work_alike work.Check same = refl
   work_alike (work.Shares port) same = refl
   work_alike (work.Diff None) same = refl
@@ -55,9 +55,9 @@ module _ (file other : Contents) where
 
 pub judged_alike : FilesThatAgreeAreJudgedAlike
 judged_alike file other (Err shown) same = refl
-judged_alike file other (Ok (Subnet names)) same = texts_alike file other names same
+judged_alike file other (Ok (Subnet names)) same = ap judged_if_read (texts_alike file other names same)
 judged_alike file other (Ok (Import netdiscover manager)) same =
-    ap (λ (read : Result (List ℕ) Ending). let judged : Result Bytes Ending = read >>= λ text. Err (imported manager text) in judged)
+    ap (λ (read : Result (List ℕ) Ending). ended (import_of_file manager read))
     (bytes_alike file other netdiscover (All-head (λ name. file name ≡ other name) netdiscover [] same))
 judged_alike file other (Ok (Audit topology dump)) same =
     let more = All-tail (λ name. file name ≡ other name) topology (dump ∷ []) same in

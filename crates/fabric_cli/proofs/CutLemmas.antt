@@ -1,4 +1,4 @@
--- What is told of the loss of cables.
+-- What is reported of the loss of cables.
 use Rattle.std.proofs.Common.{◌≡◌, ◌∙◌, refl, cond, Bool, true, false, List, [], ◌∷◌, Some}
 use Rattle.std.specs.List.{list_any}
 use Rattle.std.proofs.Math.Bool.{or-true}
@@ -15,9 +15,9 @@ use Rattle.subnet_core.specs.BringUp.{IsStarted, SubnetState}
 use Rattle.subnet_fabric.specs.Laws.{all_keys}
 use Rattle.topo_file.specs.Topology.{TopologyState}
 
--- ---- what is told of cables
-pub brought_up : (subnet : SubnetState) → IsStarted subnet → HaveBroughtUp subnet.roster.plan subnet.routes
-brought_up subnet started = record { keys = all_keys subnet.roster.configuration.ports; fabric = subnet.fabric; by = started.up }
+-- ---- what is reported of cables
+pub brought_up : (subnet : SubnetState) → IsStarted subnet → HaveBroughtUp subnet.inventory.plan subnet.routes
+brought_up subnet started = record { keys = all_keys subnet.inventory.configuration.ports; fabric = subnet.fabric; by = started.up }
 
 -- the ends of a cable that words name are those of a cable that can be cut
 end_there : (cables : List Cable) (here there : PortRef) → far_end cables here ≡ Some there → list_any (is_between here there) cables ≡ true

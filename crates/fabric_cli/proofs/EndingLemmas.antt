@@ -10,11 +10,11 @@ use Rattle.fabric_cli.specs.Faults.{line_of, run_line, run_status, status_of}
 use Rattle.fabric_cli.specs.Files.{Contents}
 use Rattle.fabric_cli.specs.declared.answering.Answer.{Answer}
 use Rattle.fabric_cli.specs.declared.answering.Answer.TheVariants.{Complete, Warned}
-use Rattle.fabric_cli.specs.Serving.{AppendsSome, Bytes, Ending, audited, broken_off, complete, faulted, status_in, warned, imported, judged_for, output_in, refused}
-use Rattle.fabric_cli.specs.Serving.{Answers, BreaksOff, Ends, EndsAs, ForEnding, ForSomeBytes, GoesOut, GoesPartly, IsRefusal, IsToldStop, RunStops, Stops, StopsBehind}
+use Rattle.fabric_cli.specs.Serving.{AppendsSome, Ending, Judged, audited, broken_off, complete, faulted, status_in, warned, imported, judged_for, output_in, refused, ended, to_judge}
+use Rattle.fabric_cli.specs.Serving.{Answers, BreaksOff, Ends, EndsAs, ForEnding, ForSomeBytes, GoesOut, GoesPartly, IsRefusal, IsReportedStop, RunStops, Stops, StopsBehind}
 use Rattle.code_texts.specs.Texts.{explained}
-use Rattle.call_words.specs.Words.{Asking}
-use Rattle.call_words.specs.declared.call.Call.TheVariants.{Audit, Explain, Import, Subnet}
+use Rattle.cli_args.specs.Words.{Asking}
+use Rattle.cli_args.specs.declared.call.Call.TheVariants.{Audit, Explain, Import, Subnet}
 use Rattle.text_streams.specs.Writing.{AppendsPart}
 use Rattle.fabric_cli.proofs.JudgedLemmas.{for_ending}
 
@@ -40,81 +40,81 @@ pub answered_below : (answer : Answer) → status_in answer ≢ 3
 answered_below Complete is = omega (arith, is)
 answered_below Warned is = omega (arith, is)
 
-pub done_ends : (judged : Result Bytes Ending) (answer : Answer) (out out' err : Option (List ℕ)) → ForEnding judged (λ ending. GoesOut answer ending out out')
+pub done_ends : (judged : Judged) (answer : Answer) (out out' err : Option (List ℕ)) → ForEnding judged (λ ending. GoesOut answer ending out out')
     → EndsAs judged (status_in answer) out out' err err
 done_ends judged answer out out' err is =
     for_ending judged (λ ending. GoesOut answer ending out out') (λ ending. Ends ending (status_in answer) out out' err err) (goes_out_ends answer out out' err) is
 
 -- a fault that is printed, and is no refusal of the machine
-fault_ends : (judged : Result Bytes Ending) (line : List ℕ) (answer : ℕ) (out out' err err' : Option (List ℕ)) → ForEnding judged (λ ending. ending ≡ faulted 1 line)
+fault_ends : (judged : Judged) (line : List ℕ) (answer : ℕ) (out out' err err' : Option (List ℕ)) → ForEnding judged (λ ending. ending ≡ faulted 1 line)
     → Keeps out out' → answer ≡ 1 → Appends err err' line → EndsAs judged answer out out' err err'
-fault_ends judged line answer out out' err err' is same one told =
-    for_ending judged (λ ending. ending ≡ faulted 1 line) (λ ending. Ends ending answer out out' err err') (λ ending at. rw at (one, same, told)) is
+fault_ends judged line answer out out' err err' is same one reported =
+    for_ending judged (λ ending. ending ≡ faulted 1 line) (λ ending. Ends ending answer out out' err err') (λ ending at. rw at (one, same, reported)) is
 
-run_ends : (judged : Result Bytes Ending) (fault : RunFault) (answer : ℕ) (out out' err err' : Option (List ℕ)) → RunStops judged fault → Keeps out out' → answer ≢ 3
+run_ends : (judged : Judged) (fault : RunFault) (answer : ℕ) (out out' err err' : Option (List ℕ)) → RunStops judged fault → Keeps out out' → answer ≢ 3
     → (answer ≡ run_status fault) × Appends err err' (run_line fault) → EndsAs judged answer out out' err err'
-run_ends judged run.NoMemory answer out out' err err' is same other told = absurd (other told.0)
-run_ends judged (run.Topology line cause) answer out out' err err' is same other told = fault_ends judged _ answer out out' err err' is.1 same told.0 told.1
-run_ends judged (run.Partitions line cause) answer out out' err err' is same other told = fault_ends judged _ answer out out' err err' is.1 same told.0 told.1
-run_ends judged (run.Sweep fault) answer out out' err err' is same other told = fault_ends judged _ answer out out' err err' is.1 same (told.0 ∙ is.0) told.1
-run_ends judged (run.NoLegalPath switch node number) answer out out' err err' is same other told = fault_ends judged _ answer out out' err err' is.1 same told.0 told.1
-run_ends judged (run.Push fault) answer out out' err err' is same other told = fault_ends judged _ answer out out' err err' is.1 same (told.0 ∙ is.0) told.1
-run_ends judged (run.Port cause) answer out out' err err' is same other told = fault_ends judged _ answer out out' err err' is.1 same told.0 told.1
-run_ends judged (run.Script line cause) answer out out' err err' is same other told = fault_ends judged _ answer out out' err err' is.1 same told.0 told.1
-run_ends judged (run.SecondScript line cause) answer out out' err err' is same other told = fault_ends judged _ answer out out' err err' is.1 same told.0 told.1
-run_ends judged run.Read answer out out' err err' is same other told = absurd (other told.0)
-run_ends judged run.Write answer out out' err err' is same other told = absurd (other told.0)
+run_ends judged run.NoMemory answer out out' err err' is same other reported = absurd (other reported.0)
+run_ends judged (run.Topology line cause) answer out out' err err' is same other reported = fault_ends judged _ answer out out' err err' is.1 same reported.0 reported.1
+run_ends judged (run.Partitions line cause) answer out out' err err' is same other reported = fault_ends judged _ answer out out' err err' is.1 same reported.0 reported.1
+run_ends judged (run.Sweep fault) answer out out' err err' is same other reported = fault_ends judged _ answer out out' err err' is.1 same (reported.0 ∙ is.0) reported.1
+run_ends judged (run.NoLegalPath switch node number) answer out out' err err' is same other reported = fault_ends judged _ answer out out' err err' is.1 same reported.0 reported.1
+run_ends judged (run.Push fault) answer out out' err err' is same other reported = fault_ends judged _ answer out out' err err' is.1 same (reported.0 ∙ is.0) reported.1
+run_ends judged (run.Port cause) answer out out' err err' is same other reported = fault_ends judged _ answer out out' err err' is.1 same reported.0 reported.1
+run_ends judged (run.Script line cause) answer out out' err err' is same other reported = fault_ends judged _ answer out out' err err' is.1 same reported.0 reported.1
+run_ends judged (run.SecondScript line cause) answer out out' err err' is same other reported = fault_ends judged _ answer out out' err err' is.1 same reported.0 reported.1
+run_ends judged run.Read answer out out' err err' is same other reported = absurd (other reported.0)
+run_ends judged run.Write answer out out' err err' is same other reported = absurd (other reported.0)
 
 -- refused words, with their text
 refusal_ends : (text : List ℕ) (answer : ℕ) (out out' err err' : Option (List ℕ)) → Keeps out out' → (answer ≡ 2) × Appends err err' text → (ending : Ending)
     → IsRefusal ending text → Ends ending answer out out' err err'
-refusal_ends text answer out out' err err' same told (refused shown) is = (told.0, same, (text, is, told.1))
-refusal_ends text answer out out' err err' same told (faulted status line) is = absurd is
-refusal_ends text answer out out' err err' same told (complete output) is = absurd is
-refusal_ends text answer out out' err err' same told (warned output) is = absurd is
-refusal_ends text answer out out' err err' same told (broken_off line output) is = absurd is
+refusal_ends text answer out out' err err' same reported (refused shown) is = (reported.0, same, (text, is, reported.1))
+refusal_ends text answer out out' err err' same reported (faulted status line) is = absurd is
+refusal_ends text answer out out' err err' same reported (complete output) is = absurd is
+refusal_ends text answer out out' err err' same reported (warned output) is = absurd is
+refusal_ends text answer out out' err err' same reported (broken_off line output) is = absurd is
 
 -- a stop
-pub stop_ends : (judged : Result Bytes Ending) (stop : Stop) (answer : ℕ) (out out' err err' : Option (List ℕ)) → Stops judged stop → Keeps out out' → answer ≢ 3
+pub stop_ends : (judged : Judged) (stop : Stop) (answer : ℕ) (out out' err err' : Option (List ℕ)) → Stops judged stop → Keeps out out' → answer ≢ 3
     → (answer ≡ status_of stop) × Appends err err' (line_of stop) → EndsAs judged answer out out' err err'
-stop_ends judged (Words text) answer out out' err err' is same other told =
+stop_ends judged (Words text) answer out out' err err' is same other reported =
     for_ending judged (λ ending. IsRefusal ending (string_bytes text)) (λ ending. Ends ending answer out out' err err')
-    (refusal_ends (string_bytes text) answer out out' err err' same told) is
-stop_ends judged NoMemory answer out out' err err' is same other told = absurd (other told.0)
-stop_ends judged (Unread name) answer out out' err err' is same other told = absurd (other told.0)
-stop_ends judged Unwritten answer out out' err err' is same other told = absurd is
-stop_ends judged (Run fault) answer out out' err err' is same other told = run_ends judged fault answer out out' err err' is same other told
-stop_ends judged (Second line cause) answer out out' err err' is same other told = fault_ends judged _ answer out out' err err' is same told.0 told.1
-stop_ends judged (Foreign line cause) answer out out' err err' is same other told = fault_ends judged _ answer out out' err err' is same told.0 told.1
+    (refusal_ends (string_bytes text) answer out out' err err' same reported) is
+stop_ends judged NoMemory answer out out' err err' is same other reported = absurd (other reported.0)
+stop_ends judged (Unread name) answer out out' err err' is same other reported = absurd (other reported.0)
+stop_ends judged Unwritten answer out out' err err' is same other reported = absurd is
+stop_ends judged (Run fault) answer out out' err err' is same other reported = run_ends judged fault answer out out' err err' is same other reported
+stop_ends judged (Second line cause) answer out out' err err' is same other reported = fault_ends judged _ answer out out' err err' is same reported.0 reported.1
+stop_ends judged (Foreign line cause) answer out out' err err' is same other reported = fault_ends judged _ answer out out' err err' is same reported.0 reported.1
 
--- a stop behind what was told
+-- a stop behind what was reported
 broken_ends : (stop : Stop) (answer : ℕ) (out out' err err' : Option (List ℕ)) → (answer ≡ status_of stop) × Appends err err' (line_of stop) → (ending : Ending)
     → BreaksOff stop ending out out' → Ends ending answer out out' err err'
-broken_ends stop answer out out' err err' told (refused shown) is = absurd is
-broken_ends stop answer out out' err err' told (faulted status line) is = absurd is
-broken_ends stop answer out out' err err' told (complete output) is = absurd is
-broken_ends stop answer out out' err err' told (warned output) is = absurd is
-broken_ends stop answer out out' err err' told (broken_off line output) is = (told.0 ∙ is.1, is.2, subst (λ (text : List ℕ). Appends err err' text) is.0 told.1)
+broken_ends stop answer out out' err err' reported (refused shown) is = absurd is
+broken_ends stop answer out out' err err' reported (faulted status line) is = absurd is
+broken_ends stop answer out out' err err' reported (complete output) is = absurd is
+broken_ends stop answer out out' err err' reported (warned output) is = absurd is
+broken_ends stop answer out out' err err' reported (broken_off line output) is = (reported.0 ∙ is.1, is.2, subst (λ (text : List ℕ). Appends err err' text) is.0 reported.1)
 
-module _ (judged : Result Bytes Ending) (stop : Stop) (answer : ℕ) (out out' err err' : Option (List ℕ)) where
+module _ (judged : Judged) (stop : Stop) (answer : ℕ) (out out' err err' : Option (List ℕ)) where
   either_ends : (Stops judged stop × Keeps out out') ⊎ ForEnding judged (λ ending. BreaksOff stop ending out out') → answer ≢ 3
       → (answer ≡ status_of stop) × Appends err err' (line_of stop) → EndsAs judged answer out out' err err'
-  either_ends (inl is) other told = stop_ends judged stop answer out out' err err' is.0 is.1 other told
-  either_ends (inr is) other told =
+  either_ends (inl is) other reported = stop_ends judged stop answer out out' err err' is.0 is.1 other reported
+  either_ends (inr is) other reported =
       for_ending judged (λ ending. BreaksOff stop ending out out') (λ ending. Ends ending answer out out' err err')
-      (broken_ends stop answer out out' err err' told) is
+      (broken_ends stop answer out out' err err' reported) is
 
 -- it ends early, with its output written as far as it went
-pub answer_ends : (judged : Result Bytes Ending) (stop : Stop) (answer : ℕ) (a : Bool) (out out' err err' : Option (List ℕ))
+pub answer_ends : (judged : Judged) (stop : Stop) (answer : ℕ) (a : Bool) (out out' err err' : Option (List ℕ))
     → StopsBehind judged stop a out out' → answer ≢ 3
     → (answer ≡ status_of stop) × Appends err err' (line_of stop) → EndsAs judged answer out out' err err'
-answer_ends judged (Words text) answer a out out' err err' is other told = either_ends judged (Words text) answer out out' err err' is other told
-answer_ends judged NoMemory answer a out out' err err' is other told = absurd (other told.0)
-answer_ends judged (Unread name) answer a out out' err err' is other told = absurd (other told.0)
-answer_ends judged Unwritten answer a out out' err err' is other told = absurd (other told.0)
-answer_ends judged (Run fault) answer a out out' err err' is other told = either_ends judged (Run fault) answer out out' err err' is other told
-answer_ends judged (Second line cause) answer a out out' err err' is other told = either_ends judged (Second line cause) answer out out' err err' is other told
-answer_ends judged (Foreign line cause) answer a out out' err err' is other told = either_ends judged (Foreign line cause) answer out out' err err' is other told
+answer_ends judged (Words text) answer a out out' err err' is other reported = either_ends judged (Words text) answer out out' err err' is other reported
+answer_ends judged NoMemory answer a out out' err err' is other reported = absurd (other reported.0)
+answer_ends judged (Unread name) answer a out out' err err' is other reported = absurd (other reported.0)
+answer_ends judged Unwritten answer a out out' err err' is other reported = absurd (other reported.0)
+answer_ends judged (Run fault) answer a out out' err err' is other reported = either_ends judged (Run fault) answer out out' err err' is other reported
+answer_ends judged (Second line cause) answer a out out' err err' is other reported = either_ends judged (Second line cause) answer out out' err err' is other reported
+answer_ends judged (Foreign line cause) answer a out out' err err' is other reported = either_ends judged (Foreign line cause) answer out out' err err' is other reported
 
 -- ---- what has gone out
 take_whole : (text : List ℕ) → take (length text) text ≡ text
@@ -150,7 +150,7 @@ broken_some stop out out' (complete output) is = absurd is
 broken_some stop out out' (warned output) is = absurd is
 broken_some stop out out' (broken_off line output) is = whole_part out out' output is.2
 
-module _ (judged : Result Bytes Ending) (out out' : Option (List ℕ)) where
+module _ (judged : Judged) (out out' : Option (List ℕ)) where
   abbrev some_of : (Ending → Type 0) → Type 0
   some_of Is = ((ending : Ending) → Is ending → AppendsPart out out' (output_in ending)) → ForEnding judged Is → AppendsSome judged out out'
 
@@ -174,59 +174,59 @@ module _ (judged : Result Bytes Ending) (out out' : Option (List ℕ)) where
   answer_some (Foreign line cause) a is = either_some (Foreign line cause) is
 
 -- it is said of files that were read
-pub is_told : (stop : Stop) (answer : ℕ) → answer ≢ 3 → answer ≡ status_of stop → IsToldStop stop
-is_told (Words text) answer other is = tt
-is_told NoMemory answer other is = absurd (other is)
-is_told (Unread name) answer other is = absurd (other is)
-is_told Unwritten answer other is = absurd (other is)
-is_told (Run fault) answer other is = tt
-is_told (Second line cause) answer other is = tt
-is_told (Foreign line cause) answer other is = tt
+pub is_reported : (stop : Stop) (answer : ℕ) → answer ≢ 3 → answer ≡ status_of stop → IsReportedStop stop
+is_reported (Words text) answer other is = tt
+is_reported NoMemory answer other is = absurd (other is)
+is_reported (Unread name) answer other is = absurd (other is)
+is_reported Unwritten answer other is = absurd (other is)
+is_reported (Run fault) answer other is = tt
+is_reported (Second line cause) answer other is = tt
+is_reported (Foreign line cause) answer other is = tt
 
-pub for_some_told : {A B : Contents → Type 0} (told : Option Contents) → ((file : Contents) → A file → B file) → IfSome told A → IfSome told B
-for_some_told None f a = tt
-for_some_told (Some file) f a = f file a
+pub for_some_reported : {A B : Contents → Type 0} (reported : Option Contents) → ((file : Contents) → A file → B file) → IfSome reported A → IfSome reported B
+for_some_reported None f a = tt
+for_some_reported (Some file) f a = f file a
 
-pub for_some_bytes : (asked : Asking) (P Q : Result Bytes Ending → Type 0) → ((judged : Result Bytes Ending) → P judged → Q judged) → ForSomeBytes asked P
+pub for_some_bytes : (asked : Asking) (P Q : Judged → Type 0) → ((judged : Judged) → P judged → Q judged) → ForSomeBytes asked P
     → ForSomeBytes asked Q
-for_some_bytes (Err shown) P Q f some = f (Err (refused shown)) some
-for_some_bytes (Ok (Subnet names)) P Q f some = (some.0, some.1, f (Ok some.0) some.2)
-for_some_bytes (Ok (Import netdiscover manager)) P Q f some = (some.0, f (Err (imported manager some.0)) some.1)
-for_some_bytes (Ok (Audit topology dump)) P Q f some = (some.0, some.1, f (Err (audited some.0 some.1)) some.2)
-for_some_bytes (Ok (Explain code)) P Q f some = f (Err (complete (explained code))) some
+for_some_bytes (Err shown) P Q f some = f (ended (refused shown)) some
+for_some_bytes (Ok (Subnet names)) P Q f some = (some.0, some.1, f (to_judge some.0) some.2)
+for_some_bytes (Ok (Import netdiscover manager)) P Q f some = (some.0, f (ended (imported manager some.0)) some.1)
+for_some_bytes (Ok (Audit topology dump)) P Q f some = (some.0, some.1, f (ended (audited some.0 some.1)) some.2)
+for_some_bytes (Ok (Explain code)) P Q f some = f (ended (complete (explained code))) some
 
 -- what is answered of a file that was read is what is answered of the files
-pub of_file : (told : Option Contents) (name bytes : List ℕ) (manager : Option ℕ) (result : Result Answer Stop) (a : Bool) (out out' : Option (List ℕ))
-    → IfSome told (λ file. file name ≡ Some bytes) → Answers (Err (imported manager bytes)) result a out out'
-    → IfSome told (λ file. Answers (judged_for file (Ok (Import name manager))) result a out out')
+pub of_file : (reported : Option Contents) (name bytes : List ℕ) (manager : Option ℕ) (result : Result Answer Stop) (a : Bool) (out out' : Option (List ℕ))
+    → IfSome reported (λ file. file name ≡ Some bytes) → Answers (ended (imported manager bytes)) result a out out'
+    → IfSome reported (λ file. Answers (judged_for file (Ok (Import name manager))) result a out out')
 of_file None name bytes manager result a out out' is answers = tt
 of_file (Some file) name bytes manager result a out out' is answers = rw is answers
 
 -- and of two files
-pub of_two : (told : Option Contents) (first second one other : List ℕ) (result : Result Answer Stop) (a : Bool) (out out' : Option (List ℕ))
-    → IfSome told (λ file. (file first ≡ Some one) × (file second ≡ Some other)) → Answers (Err (audited one other)) result a out out'
-    → IfSome told (λ file. Answers (judged_for file (Ok (Audit first second))) result a out out')
+pub of_two : (reported : Option Contents) (first second one other : List ℕ) (result : Result Answer Stop) (a : Bool) (out out' : Option (List ℕ))
+    → IfSome reported (λ file. (file first ≡ Some one) × (file second ≡ Some other)) → Answers (ended (audited one other)) result a out out'
+    → IfSome reported (λ file. Answers (judged_for file (Ok (Audit first second))) result a out out')
 of_two None first second one other result a out out' is answers = tt
 of_two (Some file) first second one other result a out out' is answers = rw (is.0, is.1) answers
 
 -- ---- of a call
 -- where the files say what they hold
-module _ (told : Option Contents) (judged : Contents → Result Bytes Ending) where
-  pub told_done_ends : (answer : Answer) (out out' err : Option (List ℕ)) → IfSome told (λ file. ForEnding (judged file) (λ ending. GoesOut answer ending out out'))
-      → IfSome told (λ file. EndsAs (judged file) (status_in answer) out out' err err)
-  told_done_ends answer out out' err is = for_some_told told (λ file one. done_ends (judged file) answer out out' err one) is
+module _ (reported : Option Contents) (judged : Contents → Judged) where
+  pub reported_done_ends : (answer : Answer) (out out' err : Option (List ℕ)) → IfSome reported (λ file. ForEnding (judged file) (λ ending. GoesOut answer ending out out'))
+      → IfSome reported (λ file. EndsAs (judged file) (status_in answer) out out' err err)
+  reported_done_ends answer out out' err is = for_some_reported reported (λ file one. done_ends (judged file) answer out out' err one) is
 
-  pub told_done_some : (answer : Answer) (out out' : Option (List ℕ)) → IfSome told (λ file. ForEnding (judged file) (λ ending. GoesOut answer ending out out'))
-      → IfSome told (λ file. AppendsSome (judged file) out out')
-  told_done_some answer out out' is = for_some_told told (λ file one. done_some (judged file) out out' answer one) is
+  pub reported_done_some : (answer : Answer) (out out' : Option (List ℕ)) → IfSome reported (λ file. ForEnding (judged file) (λ ending. GoesOut answer ending out out'))
+      → IfSome reported (λ file. AppendsSome (judged file) out out')
+  reported_done_some answer out out' is = for_some_reported reported (λ file one. done_some (judged file) out out' answer one) is
 
-  pub told_ends : (stop : Stop) (answer : ℕ) (a : Bool) (out out' err err' : Option (List ℕ)) → IfSome told (λ file. StopsBehind (judged file) stop a out out') → answer ≢ 3
-      → (answer ≡ status_of stop) × Appends err err' (line_of stop) → IfSome told (λ file. EndsAs (judged file) answer out out' err err')
-  told_ends stop answer a out out' err err' is other line = for_some_told told (λ file one. answer_ends (judged file) stop answer a out out' err err' one other line) is
+  pub reported_ends : (stop : Stop) (answer : ℕ) (a : Bool) (out out' err err' : Option (List ℕ)) → IfSome reported (λ file. StopsBehind (judged file) stop a out out') → answer ≢ 3
+      → (answer ≡ status_of stop) × Appends err err' (line_of stop) → IfSome reported (λ file. EndsAs (judged file) answer out out' err err')
+  reported_ends stop answer a out out' err err' is other line = for_some_reported reported (λ file one. answer_ends (judged file) stop answer a out out' err err' one other line) is
 
-  pub told_some : (stop : Stop) (a : Bool) (out out' : Option (List ℕ)) → IfSome told (λ file. StopsBehind (judged file) stop a out out')
-      → IfSome told (λ file. AppendsSome (judged file) out out')
-  told_some stop a out out' is = for_some_told told (λ file one. answer_some (judged file) out out' stop a one) is
+  pub reported_some : (stop : Stop) (a : Bool) (out out' : Option (List ℕ)) → IfSome reported (λ file. StopsBehind (judged file) stop a out out')
+      → IfSome reported (λ file. AppendsSome (judged file) out out')
+  reported_some stop a out out' is = for_some_reported reported (λ file one. answer_some (judged file) out out' stop a one) is
 
 -- and where they do not
 pub any_done_ends : (asked : Asking) (answer : Answer) (out out' err : Option (List ℕ)) → ForSomeBytes asked (λ judged. ForEnding judged (λ ending. GoesOut answer ending out out'))

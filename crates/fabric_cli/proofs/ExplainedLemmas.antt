@@ -22,7 +22,7 @@ use Rattle.table_push.specs.declared.fault.PushFault.TheVariants as push
 use Rattle.data_packet.specs.Refusal.{code_of as refusal_code}
 use Rattle.data_packet.specs.declared.refusal.Refusal.{Refusal}
 use Rattle.data_packet.specs.declared.refusal.Refusal.TheVariants as refusal
-use Rattle.fabric_cli.specs.Explained.{IsExplained, NamesCode, TellsCode, told_word}
+use Rattle.fabric_cli.specs.Explained.{IsExplained, NamesCode, ReportsCode, reported_word}
 use Rattle.dump_file.specs.declared.fault.DumpCause.{DumpCause}
 use Rattle.dump_file.specs.declared.fault.DumpCause.TheVariants as dump
 use Rattle.netdiscover_file.specs.declared.fault.DiscoveryCause.{DiscoveryCause}
@@ -38,140 +38,140 @@ explained_as : (c : Code) → code_of (spelling c) ≡ Some c → IsExplained (s
 explained_as c read = record { code = c; read = read; begins = begins_with_code c }
 
 -- a line with this code behind `fault `, and a blank behind that
-told_as : (c : Code) (line : List ℕ) → begins_with (codes "fault ") line ≡ true → told_word line ≡ spelling c → code_of (spelling c) ≡ Some c → TellsCode line
-told_as c line begins word read = record { begins = begins; explained = rw word (explained_as c read) }
+reported_as : (c : Code) (line : List ℕ) → begins_with (codes "fault ") line ≡ true → reported_word line ≡ spelling c → code_of (spelling c) ≡ Some c → ReportsCode line
+reported_as c line begins word read = record { begins = begins; explained = rw word (explained_as c read) }
 
-topology_told : (cause : TopologyCause) (number : ℕ) → TellsCode (topology_line (topology_code cause) number)
-topology_told topology.Malformed number = told_as code.Tf1 _ refl refl refl
-topology_told topology.DuplicateName number = told_as code.Tf2 _ refl refl refl
-topology_told topology.DuplicateGuid number = told_as code.Tf3 _ refl refl refl
-topology_told topology.UnknownNode number = told_as code.Tf4 _ refl refl refl
-topology_told topology.NoSuchPort number = told_as code.Tf5 _ refl refl refl
-topology_told topology.PortTaken number = told_as code.Tf6 _ refl refl refl
-topology_told topology.WrongCableEnds number = told_as code.Tf7 _ refl refl refl
-topology_told topology.WrongManager number = told_as code.Tf8 _ refl refl refl
-topology_told topology.Disconnected number = told_as code.Tf9 _ refl refl refl
-topology_told topology.OverLimit number = told_as code.Tf10 _ refl refl refl
-topology_told topology.ManagerUncabled number = told_as code.Tf11 _ refl refl refl
-topology_told topology.RootNotSwitch number = told_as code.Tf12 _ refl refl refl
+topology_reported : (cause : TopologyCause) (number : ℕ) → ReportsCode (topology_line (topology_code cause) number)
+topology_reported topology.Malformed number = reported_as code.Tf1 _ refl refl refl
+topology_reported topology.DuplicateName number = reported_as code.Tf2 _ refl refl refl
+topology_reported topology.DuplicateGuid number = reported_as code.Tf3 _ refl refl refl
+topology_reported topology.UnknownNode number = reported_as code.Tf4 _ refl refl refl
+topology_reported topology.NoSuchPort number = reported_as code.Tf5 _ refl refl refl
+topology_reported topology.PortTaken number = reported_as code.Tf6 _ refl refl refl
+topology_reported topology.WrongCableEnds number = reported_as code.Tf7 _ refl refl refl
+topology_reported topology.WrongManager number = reported_as code.Tf8 _ refl refl refl
+topology_reported topology.Disconnected number = reported_as code.Tf9 _ refl refl refl
+topology_reported topology.OverLimit number = reported_as code.Tf10 _ refl refl refl
+topology_reported topology.ManagerUncabled number = reported_as code.Tf11 _ refl refl refl
+topology_reported topology.RootNotSwitch number = reported_as code.Tf12 _ refl refl refl
 
-partitions_told : (cause : PartitionCause) (number : ℕ) → TellsCode (partitions_line (partitions_code cause) number)
-partitions_told partitions.BadCharacter number = told_as code.Pf1 _ refl refl refl
-partitions_told partitions.BadNumber number = told_as code.Pf2 _ refl refl refl
-partitions_told partitions.ReservedKey number = told_as code.Pf3 _ refl refl refl
-partitions_told partitions.UnknownFlag number = told_as code.Pf4 _ refl refl refl
-partitions_told partitions.BothMembership number = told_as code.Pf5 _ refl refl refl
-partitions_told partitions.MgidItem number = told_as code.Pf6 _ refl refl refl
-partitions_told partitions.TooManyPartitions number = told_as code.Pf7 _ refl refl refl
-partitions_told partitions.Unfinished number = told_as code.Pf8 _ refl refl refl
-partitions_told partitions.BadFlagValue number = told_as code.Pf9 _ refl refl refl
+partitions_reported : (cause : PartitionCause) (number : ℕ) → ReportsCode (partitions_line (partitions_code cause) number)
+partitions_reported partitions.BadCharacter number = reported_as code.Pf1 _ refl refl refl
+partitions_reported partitions.BadNumber number = reported_as code.Pf2 _ refl refl refl
+partitions_reported partitions.ReservedKey number = reported_as code.Pf3 _ refl refl refl
+partitions_reported partitions.UnknownFlag number = reported_as code.Pf4 _ refl refl refl
+partitions_reported partitions.BothMembership number = reported_as code.Pf5 _ refl refl refl
+partitions_reported partitions.MgidItem number = reported_as code.Pf6 _ refl refl refl
+partitions_reported partitions.TooManyPartitions number = reported_as code.Pf7 _ refl refl refl
+partitions_reported partitions.Unfinished number = reported_as code.Pf8 _ refl refl refl
+partitions_reported partitions.BadFlagValue number = reported_as code.Pf9 _ refl refl refl
 
-second_told : (cause : PartitionCause) (number : ℕ) → TellsCode (second_line (partitions_code cause) number)
-second_told partitions.BadCharacter number = told_as code.Pf1 _ refl refl refl
-second_told partitions.BadNumber number = told_as code.Pf2 _ refl refl refl
-second_told partitions.ReservedKey number = told_as code.Pf3 _ refl refl refl
-second_told partitions.UnknownFlag number = told_as code.Pf4 _ refl refl refl
-second_told partitions.BothMembership number = told_as code.Pf5 _ refl refl refl
-second_told partitions.MgidItem number = told_as code.Pf6 _ refl refl refl
-second_told partitions.TooManyPartitions number = told_as code.Pf7 _ refl refl refl
-second_told partitions.Unfinished number = told_as code.Pf8 _ refl refl refl
-second_told partitions.BadFlagValue number = told_as code.Pf9 _ refl refl refl
+second_reported : (cause : PartitionCause) (number : ℕ) → ReportsCode (second_line (partitions_code cause) number)
+second_reported partitions.BadCharacter number = reported_as code.Pf1 _ refl refl refl
+second_reported partitions.BadNumber number = reported_as code.Pf2 _ refl refl refl
+second_reported partitions.ReservedKey number = reported_as code.Pf3 _ refl refl refl
+second_reported partitions.UnknownFlag number = reported_as code.Pf4 _ refl refl refl
+second_reported partitions.BothMembership number = reported_as code.Pf5 _ refl refl refl
+second_reported partitions.MgidItem number = reported_as code.Pf6 _ refl refl refl
+second_reported partitions.TooManyPartitions number = reported_as code.Pf7 _ refl refl refl
+second_reported partitions.Unfinished number = reported_as code.Pf8 _ refl refl refl
+second_reported partitions.BadFlagValue number = reported_as code.Pf9 _ refl refl refl
 
-script_told : (cause : ScriptCause) (number : ℕ) → TellsCode (script_line (script_code cause) number)
-script_told script.Malformed number = told_as code.Sf1 _ refl refl refl
-script_told script.UnknownPort number = told_as code.Sf2 _ refl refl refl
-script_told script.ManagerPort number = told_as code.Sf3 _ refl refl refl
-script_told script.UncabledPort number = told_as code.Sf4 _ refl refl refl
-script_told script.PayloadTooLong number = told_as code.Sf5 _ refl refl refl
-script_told script.BadField number = told_as code.Sf6 _ refl refl refl
-script_told script.UnknownCable number = told_as code.Sf7 _ refl refl refl
+script_reported : (cause : ScriptCause) (number : ℕ) → ReportsCode (script_line (script_code cause) number)
+script_reported script.Malformed number = reported_as code.Sf1 _ refl refl refl
+script_reported script.UnknownPort number = reported_as code.Sf2 _ refl refl refl
+script_reported script.ManagerPort number = reported_as code.Sf3 _ refl refl refl
+script_reported script.UncabledPort number = reported_as code.Sf4 _ refl refl refl
+script_reported script.PayloadTooLong number = reported_as code.Sf5 _ refl refl refl
+script_reported script.BadField number = reported_as code.Sf6 _ refl refl refl
+script_reported script.UnknownCable number = reported_as code.Sf7 _ refl refl refl
 
-second_script_told : (cause : ScriptCause) (number : ℕ) → TellsCode (second_script_line (script_code cause) number)
-second_script_told script.Malformed number = told_as code.Sf1 _ refl refl refl
-second_script_told script.UnknownPort number = told_as code.Sf2 _ refl refl refl
-second_script_told script.ManagerPort number = told_as code.Sf3 _ refl refl refl
-second_script_told script.UncabledPort number = told_as code.Sf4 _ refl refl refl
-second_script_told script.PayloadTooLong number = told_as code.Sf5 _ refl refl refl
-second_script_told script.BadField number = told_as code.Sf6 _ refl refl refl
-second_script_told script.UnknownCable number = told_as code.Sf7 _ refl refl refl
+second_script_reported : (cause : ScriptCause) (number : ℕ) → ReportsCode (second_script_line (script_code cause) number)
+second_script_reported script.Malformed number = reported_as code.Sf1 _ refl refl refl
+second_script_reported script.UnknownPort number = reported_as code.Sf2 _ refl refl refl
+second_script_reported script.ManagerPort number = reported_as code.Sf3 _ refl refl refl
+second_script_reported script.UncabledPort number = reported_as code.Sf4 _ refl refl refl
+second_script_reported script.PayloadTooLong number = reported_as code.Sf5 _ refl refl refl
+second_script_reported script.BadField number = reported_as code.Sf6 _ refl refl refl
+second_script_reported script.UnknownCable number = reported_as code.Sf7 _ refl refl refl
 
-port_told : (cause : ScriptCause) → TellsCode (port_line (script_code cause))
-port_told script.Malformed = told_as code.Sf1 _ refl refl refl
-port_told script.UnknownPort = told_as code.Sf2 _ refl refl refl
-port_told script.ManagerPort = told_as code.Sf3 _ refl refl refl
-port_told script.UncabledPort = told_as code.Sf4 _ refl refl refl
-port_told script.PayloadTooLong = told_as code.Sf5 _ refl refl refl
-port_told script.BadField = told_as code.Sf6 _ refl refl refl
-port_told script.UnknownCable = told_as code.Sf7 _ refl refl refl
+port_reported : (cause : ScriptCause) → ReportsCode (port_line (script_code cause))
+port_reported script.Malformed = reported_as code.Sf1 _ refl refl refl
+port_reported script.UnknownPort = reported_as code.Sf2 _ refl refl refl
+port_reported script.ManagerPort = reported_as code.Sf3 _ refl refl refl
+port_reported script.UncabledPort = reported_as code.Sf4 _ refl refl refl
+port_reported script.PayloadTooLong = reported_as code.Sf5 _ refl refl refl
+port_reported script.BadField = reported_as code.Sf6 _ refl refl refl
+port_reported script.UnknownCable = reported_as code.Sf7 _ refl refl refl
 
-sweep_told : (fault : SweepFault) → TellsCode (run_line (run.Sweep fault))
-sweep_told sweep.NoMemory = told_as code.Memory _ refl refl refl
-sweep_told sweep.NoReply = told_as code.Sw1 _ refl refl refl
-sweep_told sweep.WrongReply = told_as code.Sw2 _ refl refl refl
-sweep_told sweep.TooManyHops = told_as code.Sw3 _ refl refl refl
-sweep_told sweep.TooManyNodes = told_as code.Sw4 _ refl refl refl
+sweep_reported : (fault : SweepFault) → ReportsCode (run_line (run.Sweep fault))
+sweep_reported sweep.NoMemory = reported_as code.Memory _ refl refl refl
+sweep_reported sweep.NoReply = reported_as code.Sw1 _ refl refl refl
+sweep_reported sweep.WrongReply = reported_as code.Sw2 _ refl refl refl
+sweep_reported sweep.TooManyHops = reported_as code.Sw3 _ refl refl refl
+sweep_reported sweep.TooManyNodes = reported_as code.Sw4 _ refl refl refl
 
-push_told : (fault : PushFault) → TellsCode (run_line (run.Push fault))
-push_told push.NoReply = told_as code.Tp1 _ refl refl refl
-push_told push.Refused = told_as code.Tp2 _ refl refl refl
-push_told push.NotAsSet = told_as code.Tp3 _ refl refl refl
+push_reported : (fault : PushFault) → ReportsCode (run_line (run.Push fault))
+push_reported push.NoReply = reported_as code.Tp1 _ refl refl refl
+push_reported push.Refused = reported_as code.Tp2 _ refl refl refl
+push_reported push.NotAsSet = reported_as code.Tp3 _ refl refl refl
 
-discovery_told : (cause : DiscoveryCause) (number : ℕ) → TellsCode (foreign_line (Discovery cause) number)
-discovery_told discovery.Malformed number = told_as code.Nd1 _ refl refl refl
-discovery_told discovery.NoSuchPort number = told_as code.Nd2 _ refl refl refl
-discovery_told discovery.DuplicateGuid number = told_as code.Nd3 _ refl refl refl
-discovery_told discovery.WrongFarEnd number = told_as code.Nd4 _ refl refl refl
+discovery_reported : (cause : DiscoveryCause) (number : ℕ) → ReportsCode (foreign_line (Discovery cause) number)
+discovery_reported discovery.Malformed number = reported_as code.Nd1 _ refl refl refl
+discovery_reported discovery.NoSuchPort number = reported_as code.Nd2 _ refl refl refl
+discovery_reported discovery.DuplicateGuid number = reported_as code.Nd3 _ refl refl refl
+discovery_reported discovery.WrongFarEnd number = reported_as code.Nd4 _ refl refl refl
 
-refused_told : (cause : TopologyCause) (number : ℕ) → TellsCode (foreign_line (Import (import.Refused cause)) number)
-refused_told topology.Malformed number = told_as code.Tf1 _ refl refl refl
-refused_told topology.DuplicateName number = told_as code.Tf2 _ refl refl refl
-refused_told topology.DuplicateGuid number = told_as code.Tf3 _ refl refl refl
-refused_told topology.UnknownNode number = told_as code.Tf4 _ refl refl refl
-refused_told topology.NoSuchPort number = told_as code.Tf5 _ refl refl refl
-refused_told topology.PortTaken number = told_as code.Tf6 _ refl refl refl
-refused_told topology.WrongCableEnds number = told_as code.Tf7 _ refl refl refl
-refused_told topology.WrongManager number = told_as code.Tf8 _ refl refl refl
-refused_told topology.Disconnected number = told_as code.Tf9 _ refl refl refl
-refused_told topology.OverLimit number = told_as code.Tf10 _ refl refl refl
-refused_told topology.ManagerUncabled number = told_as code.Tf11 _ refl refl refl
-refused_told topology.RootNotSwitch number = told_as code.Tf12 _ refl refl refl
+refused_reported : (cause : TopologyCause) (number : ℕ) → ReportsCode (foreign_line (Import (import.Refused cause)) number)
+refused_reported topology.Malformed number = reported_as code.Tf1 _ refl refl refl
+refused_reported topology.DuplicateName number = reported_as code.Tf2 _ refl refl refl
+refused_reported topology.DuplicateGuid number = reported_as code.Tf3 _ refl refl refl
+refused_reported topology.UnknownNode number = reported_as code.Tf4 _ refl refl refl
+refused_reported topology.NoSuchPort number = reported_as code.Tf5 _ refl refl refl
+refused_reported topology.PortTaken number = reported_as code.Tf6 _ refl refl refl
+refused_reported topology.WrongCableEnds number = reported_as code.Tf7 _ refl refl refl
+refused_reported topology.WrongManager number = reported_as code.Tf8 _ refl refl refl
+refused_reported topology.Disconnected number = reported_as code.Tf9 _ refl refl refl
+refused_reported topology.OverLimit number = reported_as code.Tf10 _ refl refl refl
+refused_reported topology.ManagerUncabled number = reported_as code.Tf11 _ refl refl refl
+refused_reported topology.RootNotSwitch number = reported_as code.Tf12 _ refl refl refl
 
-dump_told : (cause : DumpCause) (number : ℕ) → TellsCode (foreign_line (Dump cause) number)
-dump_told dump.Malformed number = told_as code.Ft1 _ refl refl refl
-dump_told dump.EndNotTold number = told_as code.Ft2 _ refl refl refl
-dump_told dump.DuplicateTable number = told_as code.Ft3 _ refl refl refl
-dump_told dump.WrongLid number = told_as code.Ft4 _ refl refl refl
-dump_told dump.WrongCount number = told_as code.Ft5 _ refl refl refl
-dump_told dump.Unfinished number = told_as code.Ft6 _ refl refl refl
-dump_told dump.TwoEndPorts number = told_as code.Ft7 _ refl refl refl
+dump_reported : (cause : DumpCause) (number : ℕ) → ReportsCode (foreign_line (Dump cause) number)
+dump_reported dump.Malformed number = reported_as code.Ft1 _ refl refl refl
+dump_reported dump.EndNotReported number = reported_as code.Ft2 _ refl refl refl
+dump_reported dump.DuplicateTable number = reported_as code.Ft3 _ refl refl refl
+dump_reported dump.WrongLid number = reported_as code.Ft4 _ refl refl refl
+dump_reported dump.WrongCount number = reported_as code.Ft5 _ refl refl refl
+dump_reported dump.Unfinished number = reported_as code.Ft6 _ refl refl refl
+dump_reported dump.TwoEndPorts number = reported_as code.Ft7 _ refl refl refl
 
-foreign_told : (cause : ForeignCause) (number : ℕ) → TellsCode (foreign_line cause number)
-foreign_told (Discovery cause) number = discovery_told cause number
-foreign_told (Import (import.GuidTaken port guid)) number = told_as code.Nd5 _ refl refl refl
-foreign_told (Import import.UnknownManager) number = told_as code.Nd6 _ refl refl refl
-foreign_told (Import import.Unlike) number = told_as code.Nd7 _ refl refl refl
-foreign_told (Import (import.Refused cause)) number = refused_told cause number
-foreign_told (Dump cause) number = dump_told cause number
-foreign_told Smps number = told_as code.Mf1 _ refl refl refl
+foreign_reported : (cause : ForeignCause) (number : ℕ) → ReportsCode (foreign_line cause number)
+foreign_reported (Discovery cause) number = discovery_reported cause number
+foreign_reported (Import (import.GuidTaken port guid)) number = reported_as code.Nd5 _ refl refl refl
+foreign_reported (Import import.UnknownManager) number = reported_as code.Nd6 _ refl refl refl
+foreign_reported (Import import.Unlike) number = reported_as code.Nd7 _ refl refl refl
+foreign_reported (Import (import.Refused cause)) number = refused_reported cause number
+foreign_reported (Dump cause) number = dump_reported cause number
+foreign_reported Smps number = reported_as code.Mf1 _ refl refl refl
 
-pub stops_are_told : (stop : Stop) → NamesCode stop
-stops_are_told (Words text) = tt
-stops_are_told NoMemory = told_as code.Memory _ refl refl refl
-stops_are_told (Unread name) = told_as code.Read _ refl refl refl
-stops_are_told Unwritten = told_as code.Write _ refl refl refl
-stops_are_told (Run run.NoMemory) = told_as code.Memory _ refl refl refl
-stops_are_told (Run (run.Topology line cause)) = topology_told cause line
-stops_are_told (Run (run.Partitions line cause)) = partitions_told cause line
-stops_are_told (Run (run.Sweep fault)) = sweep_told fault
-stops_are_told (Run (run.NoLegalPath switch node number)) = told_as code.Ur1 _ refl refl refl
-stops_are_told (Run (run.Push fault)) = push_told fault
-stops_are_told (Run (run.Port cause)) = port_told cause
-stops_are_told (Run (run.Script line cause)) = script_told cause line
-stops_are_told (Run (run.SecondScript line cause)) = second_script_told cause line
-stops_are_told (Run run.Read) = told_as code.Read _ refl refl refl
-stops_are_told (Run run.Write) = told_as code.Write _ refl refl refl
-stops_are_told (Second line cause) = second_told cause line
-stops_are_told (Foreign line cause) = foreign_told cause line
+pub stops_are_reported : (stop : Stop) → NamesCode stop
+stops_are_reported (Words text) = tt
+stops_are_reported NoMemory = reported_as code.Memory _ refl refl refl
+stops_are_reported (Unread name) = reported_as code.Read _ refl refl refl
+stops_are_reported Unwritten = reported_as code.Write _ refl refl refl
+stops_are_reported (Run run.NoMemory) = reported_as code.Memory _ refl refl refl
+stops_are_reported (Run (run.Topology line cause)) = topology_reported cause line
+stops_are_reported (Run (run.Partitions line cause)) = partitions_reported cause line
+stops_are_reported (Run (run.Sweep fault)) = sweep_reported fault
+stops_are_reported (Run (run.NoLegalPath switch node number)) = reported_as code.Ur1 _ refl refl refl
+stops_are_reported (Run (run.Push fault)) = push_reported fault
+stops_are_reported (Run (run.Port cause)) = port_reported cause
+stops_are_reported (Run (run.Script line cause)) = script_reported cause line
+stops_are_reported (Run (run.SecondScript line cause)) = second_script_reported cause line
+stops_are_reported (Run run.Read) = reported_as code.Read _ refl refl refl
+stops_are_reported (Run run.Write) = reported_as code.Write _ refl refl refl
+stops_are_reported (Second line cause) = second_reported cause line
+stops_are_reported (Foreign line cause) = foreign_reported cause line
 
 pub refusals_are_explained : (refusal : Refusal) → IsExplained (refusal_code refusal)
 refusals_are_explained refusal.KeyNotHeld = explained_as code.Ar1 refl

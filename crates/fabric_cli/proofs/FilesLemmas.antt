@@ -5,14 +5,14 @@ use Rattle.std.proofs.Math.Seq.{take-append-add, take-append_seam}
 use Rattle.std.proofs.lemmas.List.Folds.{list_all-append}
 use Rattle.std.specs.Borrow.{Bor}
 use Rattle.std.specs.Option.{option_to_list}
-use Rattle.result_words.specs.Steps.{◌>>=◌}
+use Rattle.step_results.specs.Steps.{◌>>=◌}
 use Rattle.fabric_cli.specs.declared.faults.Stop.{Stop}
 use Rattle.fabric_cli.specs.declared.faults.Stop.TheVariants.{Words, NoMemory, Unread, Unwritten, Run, Second, Foreign}
 use Rattle.fabric_cli.specs.Faults.{NamesUnread}
 use Rattle.fabric_cli.specs.Files.{Contents, OpensAll, OpensInOrder, StopsAt, all_open}
-use Rattle.fabric_cli.specs.Serving.{Bytes, Ending, OfScript, bytes_if_named, left_in, opened_bytes, script_in, texts_in, texts_of}
+use Rattle.fabric_cli.specs.Serving.{Judged, OfScript, judged_if_read, to_judge, bytes_if_named, left_in, opened_bytes, script_in, texts_in, texts_of}
 use Rattle.fabric_cli.specs.declared.texts.Texts.{Texts}
-use Rattle.call_words.specs.Words.{Names}
+use Rattle.cli_args.specs.Words.{Names}
 use Rattle.text_streams.specs.Reading.{IsEndless}
 
 then_more : (old : Option (List (List ℕ))) (names more : List (List ℕ))
@@ -44,15 +44,15 @@ opens_whole before after names opened =
     rw append-nil at all
 
 -- reading stopped at the one name
-pub stops_here : (told : Option Contents) (reads : Bool) (old new : Option (List (List ℕ))) (name : Bor (List ℕ)) → OpensAll old new (name.now ∷ [])
-    → IfSome told (λ file. reads ≡ true → IsEndless (file name.now))
-    → NamesUnread told reads old new (name.now ∷ []) (Unread name)
+pub stops_here : (reported : Option Contents) (reads : Bool) (old new : Option (List (List ℕ))) (name : Bor (List ℕ)) → OpensAll old new (name.now ∷ [])
+    → IfSome reported (λ file. reads ≡ true → IsEndless (file name.now))
+    → NamesUnread reported reads old new (name.now ∷ []) (Unread name)
 stops_here None reads old new name opened unread = tt
 stops_here (Some file) reads old new name opened unread = record { before = []; after = []; cut = refl; opened = opened; open_before = refl; unread = unread }
 
 -- where reading stopped among some names, it stopped among more
-pub unread_first : (told : Option Contents) (reads : Bool) (old new : Option (List (List ℕ))) (names more : List (List ℕ)) (stop : Stop)
-    → NamesUnread told reads old new names stop → NamesUnread told reads old new (names ++ more) stop
+pub unread_first : (reported : Option Contents) (reads : Bool) (old new : Option (List (List ℕ))) (names more : List (List ℕ)) (stop : Stop)
+    → NamesUnread reported reads old new names stop → NamesUnread reported reads old new (names ++ more) stop
 unread_first None reads old new names more stop unread = tt
 unread_first (Some file) reads old new names more (Unread name) unread = record {
   before = unread.before;
@@ -82,10 +82,10 @@ stops_after file reads first before after names more name opened read then = rec
   unread = then.unread;
 }
 
-pub unread_after : (told now : Option Contents) (reads reading : Bool) (first before after : Option (List (List ℕ))) (names more : List (List ℕ)) (stop : Stop)
-    → now ≡ told → reading ≡ reads
-    → OpensAll first before names → IfSome told (λ file. all_open file names ≡ true)
-    → NamesUnread now reading before after more stop → NamesUnread told reads first after (names ++ more) stop
+pub unread_after : (reported now : Option Contents) (reads reading : Bool) (first before after : Option (List (List ℕ))) (names more : List (List ℕ)) (stop : Stop)
+    → now ≡ reported → reading ≡ reads
+    → OpensAll first before names → IfSome reported (λ file. all_open file names ≡ true)
+    → NamesUnread now reading before after more stop → NamesUnread reported reads first after (names ++ more) stop
 unread_after None now reads reading first before after names more stop same stays opened read unread = tt
 unread_after (Some file) now reads reading first before after names more (Unread name) same stays opened read unread =
     stops_after file reads first before after names more name.now opened read (rw (same, stays) at unread)
@@ -97,8 +97,8 @@ unread_after (Some file) now reads reading first before after names more (Second
 unread_after (Some file) now reads reading first before after names more (Foreign line cause) same stays opened read unread = tt
 
 -- a name with bytes behind it opens to them
-pub one_open : (told : Option Contents) (name bytes : List ℕ) → IfSome told (λ file. file name ≡ Some bytes)
-    → IfSome told (λ file. all_open file (name ∷ []) ≡ true)
+pub one_open : (reported : Option Contents) (name bytes : List ℕ) → IfSome reported (λ file. file name ≡ Some bytes)
+    → IfSome reported (λ file. all_open file (name ∷ []) ≡ true)
 one_open None name bytes is = tt
 one_open (Some file) name bytes is = rw is refl
 
@@ -112,9 +112,9 @@ named_opens : (file : Contents) (name : Option (List ℕ)) (bytes : Option (List
 named_opens file None bytes is = refl
 named_opens file (Some name) bytes is = rw (gives_bytes name (file name) bytes is) refl
 
-pub named_open : (told : Option Contents) (name : Option (List ℕ)) (bytes : Option (List ℕ))
-    → IfSome told (λ file. bytes_if_named file name ≡ Ok bytes)
-    → IfSome told (λ file. all_open file (option_to_list name) ≡ true)
+pub named_open : (reported : Option Contents) (name : Option (List ℕ)) (bytes : Option (List ℕ))
+    → IfSome reported (λ file. bytes_if_named file name ≡ Ok bytes)
+    → IfSome reported (λ file. all_open file (option_to_list name) ≡ true)
 named_open None name bytes is = tt
 named_open (Some file) name bytes is = named_opens file name bytes is
 
@@ -123,8 +123,8 @@ none_opens None is = tt
 none_opens (Some bytes) is = cc
 
 -- a name that opens to nothing is unread
-pub no_file : (told : Option Contents) (reads : Bool) (name : List ℕ) → IfSome told (λ file. None ≡ option_map Some (file name))
-    → IfSome told (λ file. reads ≡ true → IsEndless (file name))
+pub no_file : (reported : Option Contents) (reads : Bool) (name : List ℕ) → IfSome reported (λ file. None ≡ option_map Some (file name))
+    → IfSome reported (λ file. reads ≡ true → IsEndless (file name))
 no_file None reads name is = tt
 no_file (Some file) reads name is = λ sure. none_opens (file name) is
 
@@ -134,17 +134,17 @@ bytes_endless None known is endless = tt
 bytes_endless (Some bytes) known is endless = let e : known ≡ Some bytes = cc in rw e at endless
 
 -- so is one that opens to bytes without an end
-pub endless_file : (told : Option Contents) (reads : Bool) (name : List ℕ) (known : Option (List ℕ))
-    → IfSome told (λ file. Some known ≡ option_map Some (file name))
-    → (reads ≡ true → IsEndless known) → IfSome told (λ file. reads ≡ true → IsEndless (file name))
+pub endless_file : (reported : Option Contents) (reads : Bool) (name : List ℕ) (known : Option (List ℕ))
+    → IfSome reported (λ file. Some known ≡ option_map Some (file name))
+    → (reads ≡ true → IsEndless known) → IfSome reported (λ file. reads ≡ true → IsEndless (file name))
 endless_file None reads name known is endless = tt
 endless_file (Some file) reads name known is endless = λ sure. bytes_endless (file name) known is (endless sure)
 
 -- ---- a script that is open
 -- reading it stops at its name
-pub open_last : (told : Option Contents) (reads is_sure : Bool) (old new : Option (List (List ℕ))) (name word : List ℕ) (known : Option (List ℕ))
-    → OpensAll old new (name ∷ []) → IfSome told (λ file. Some known ≡ option_map Some (file name)) → (reads ≡ true → is_sure ≡ true)
-    → (word ≡ name) × (is_sure ≡ true → IsEndless known) → IfSome told (λ file. StopsAt file reads old new (name ∷ []) word)
+pub open_last : (reported : Option Contents) (reads is_sure : Bool) (old new : Option (List (List ℕ))) (name word : List ℕ) (known : Option (List ℕ))
+    → OpensAll old new (name ∷ []) → IfSome reported (λ file. Some known ≡ option_map Some (file name)) → (reads ≡ true → is_sure ≡ true)
+    → (word ≡ name) × (is_sure ≡ true → IsEndless known) → IfSome reported (λ file. StopsAt file reads old new (name ∷ []) word)
 open_last None reads is_sure old new name word known opened is sure endless = tt
 open_last (Some file) reads is_sure old new name word known opened is sure endless =
     let here : StopsAt file reads old new (name ∷ []) name = record {
@@ -158,10 +158,10 @@ open_last (Some file) reads is_sure old new name word known opened is sure endle
     subst (λ (w : List ℕ). StopsAt file reads old new (name ∷ []) w) (sym endless.0) here
 
 -- and of more names, too, behind those that opened to bytes
-pub last_after : (told now : Option Contents) (reads reading : Bool) (first before after : Option (List (List ℕ))) (names more : List (List ℕ)) (word : List ℕ)
-    → now ≡ told → reading ≡ reads
-    → OpensAll first before names → IfSome told (λ file. all_open file names ≡ true)
-    → IfSome now (λ file. StopsAt file reading before after more word) → IfSome told (λ file. StopsAt file reads first after (names ++ more) word)
+pub last_after : (reported now : Option Contents) (reads reading : Bool) (first before after : Option (List (List ℕ))) (names more : List (List ℕ)) (word : List ℕ)
+    → now ≡ reported → reading ≡ reads
+    → OpensAll first before names → IfSome reported (λ file. all_open file names ≡ true)
+    → IfSome now (λ file. StopsAt file reading before after more word) → IfSome reported (λ file. StopsAt file reads first after (names ++ more) word)
 last_after None now reads reading first before after names more word same stays opened read last = tt
 last_after (Some file) now reads reading first before after names more word same stays opened read last =
     stops_after file reads first before after names more word opened read (rw (same, stays) at last)
@@ -171,10 +171,10 @@ script_known : (known : Option (List ℕ)) (Is : List ℕ → Type 0) → is_som
 script_known None Is some of = absurd cc
 script_known (Some all) Is some of = subst Is of.1 of.2
 
-pub told_texts : {I : Type 0} (told : Option Contents) (names : Names) (texts : Texts I) (remaining : I → Option (List ℕ)) (Is : Result Bytes Ending → Type 0)
-    → IfSome told (λ _. is_some (left_in remaining texts.task) ≡ true)
-    → IfSome told (λ file. texts_of file names ≡ Ok (texts_in (script_in remaining texts.task) texts))
-    → OfScript (left_in remaining texts.task) (λ script. Is (Ok (texts_in script texts))) → IfSome told (λ file. Is (texts_of file names))
-told_texts None names texts remaining Is known are of = tt
-told_texts (Some file) names texts remaining Is known are of =
-    subst Is (sym are) (script_known (left_in remaining texts.task) (λ script. Is (Ok (texts_in script texts))) known of)
+pub reported_texts : {I : Type 0} (reported : Option Contents) (names : Names) (texts : Texts I) (remaining : I → Option (List ℕ)) (Is : Judged → Type 0)
+    → IfSome reported (λ _. is_some (left_in remaining texts.work) ≡ true)
+    → IfSome reported (λ file. texts_of file names ≡ Ok (texts_in (script_in remaining texts.work) texts))
+    → OfScript (left_in remaining texts.work) (λ script. Is (to_judge (texts_in script texts))) → IfSome reported (λ file. Is (judged_if_read (texts_of file names)))
+reported_texts None names texts remaining Is known are of = tt
+reported_texts (Some file) names texts remaining Is known are of =
+    subst Is (sym (ap judged_if_read are)) (script_known (left_in remaining texts.work) (λ script. Is (to_judge (texts_in script texts))) known of)

@@ -2,16 +2,17 @@
 use Rattle.std.proofs.Common.{ℕ, ◌≡◌, Bool, false, List, [], Option, Some, None, Result, Ok, Err, Vec, Global, inl, inr, refl, sym, ◌∙◌, ap, subst}
 use Rattle.std.specs.Prelude.{◌⊎◌, IfErr, IfOk, IsErr}
 use Rattle.std.specs.declared.alloc.AllocError.{AllocError}
-use Rattle.result_words.specs.AtLine.{AtLine}
-use Rattle.result_words.specs.Gives.{Fails}
-use Rattle.result_words.proofs.StepLemmas.{same_err}
+use Rattle.step_results.specs.AtLine.{AtLine}
+use Rattle.step_results.specs.Gives.{Fails}
+use Rattle.step_results.proofs.StepLemmas.{same_err}
 use Rattle.topo_file.specs.Topology.{TopologyState, topology_of}
 use Rattle.partition_file.specs.declared.partition.Partition.{Partition}
 use Rattle.fabric_parts.specs.declared.cable.PortRef.{PortRef}
 use Rattle.subnet_core.specs.After.{IsLeftBy, TurnsAfter, left_from, script_read}
-use Rattle.subnet_core.specs.BringUp.{Becomes, FailsWith, IsStarted, SubnetState, Turns, WithFabric, stop_of, up_from, up_in}
+use Rattle.subnet_core.specs.BringUp.{Becomes, IsStarted, SubnetState, Turns, stop_of, up_in}
+use Rattle.subnet_core.specs.Fate.{FailsWith, WithFabric, up_from}
 use Rattle.subnet_core.specs.Listing.{listing_text}
-use Rattle.subnet_core.specs.Roster.{RosterState, fault_in, of_text, partitions_for, roster_of}
+use Rattle.subnet_core.specs.Inventory.{InventoryState, fault_in, of_text, partitions_for, inventory_of}
 use Rattle.subnet_core.specs.Comparison.{Compares, TwoRunsState, TwoScriptsState, of_port, two_runs_of, two_scripts_of}
 use Rattle.subnet_core.specs.declared.comparing.Comparison.{Comparison}
 use Rattle.script_lines.specs.NamedPort.{named_adapter_port}
@@ -23,17 +24,17 @@ use Rattle.subnet_fabric.specs.BringUp.{BroughtUpState}
 use Rattle.subnet_model.specs.declared.command.Command.{Command}
 use Rattle.sweep.specs.declared.fault.SweepFault.TheVariants as sweep
 use Rattle.fabric_cli.specs.Faults.{port_line, run_line, run_status, IsOfRun}
-use Rattle.fabric_cli.specs.Serving.{Answers, AppendsSome, BreaksOff, Bytes, Comes, ComesTo, CutComes, CutsAreTold, Ending, Finding, ForEnding, RunStops, Stops, TellsCuts, cut_told, cuts_in, comparison_text, complete, ending_over, faulted, looked_at, run_in, seen_after, smps_seen, second_stop, shares_in, changes_in, texts_with}
-use Rattle.call_words.specs.declared.call.Inspection.{Inspection}
+use Rattle.fabric_cli.specs.Serving.{Answers, AppendsSome, BreaksOff, Comes, ComesTo, CutComes, CutsAreReported, Ending, Finding, ForEnding, Judged, RunStops, Stops, ReportsCuts, cut_reported, cuts_in, comparison_text, complete, ending_over, faulted, looked_at, run_in, seen_after, smps_seen, second_stop, shares_in, changes_in, texts_with, ended, to_judge}
+use Rattle.cli_args.specs.declared.call.Inspection.{Inspection}
 use Rattle.fabric_cli.specs.declared.faults.Stop.{Stop}
 use Rattle.fabric_cli.specs.declared.faults.Stop.TheVariants.{Words, NoMemory, Unread, Unwritten, Run, Second, Foreign}
-use Rattle.call_words.specs.declared.call.CutView.{CutView}
+use Rattle.cli_args.specs.declared.call.CutView.{CutView}
 use Rattle.script_lines.specs.ScriptCause.{code_of as script_code}
-use Rattle.subnet_core.proofs.BringUpLemmas.{same_roster}
+use Rattle.subnet_core.proofs.BringUpLemmas.{same_inventory}
 use Rattle.std.specs.Io.KnownBytes.{Keeps}
-use Rattle.call_words.specs.declared.call.Work.{Work}
+use Rattle.cli_args.specs.declared.call.Work.{Work}
 use Rattle.fabric_cli.specs.declared.answering.Answer.{Answer}
-use Rattle.call_words.specs.declared.call.Work.TheVariants as work
+use Rattle.cli_args.specs.declared.call.Work.TheVariants as work
 
 -- ---- no fault of a text or of its fabric has another status than 1
 of_text_at_one : {X Cause : Type 0} (make : ℕ → Cause → RunFault) → ((line : ℕ) (cause : Cause) → run_status (make line cause) ≡ 1)
@@ -45,9 +46,9 @@ partitions_at_one : (partitions : Option (List ℕ)) (fault : RunFault) → part
 partitions_at_one None fault is = absurd cc
 partitions_at_one (Some text) fault is = of_text_at_one run.Partitions (λ line cause. refl) _ fault is
 
-pub roster_at_one : (topology : List ℕ) (partitions : Option (List ℕ)) (fault : RunFault) → roster_of topology partitions ≡ Err fault → run_status fault ≡ 1
-unfolding roster_of
-roster_at_one topology partitions fault is = by (of_text run.Topology (topology_of topology)) refl (partitions_for partitions) refl
+pub inventory_at_one : (topology : List ℕ) (partitions : Option (List ℕ)) (fault : RunFault) → inventory_of topology partitions ≡ Err fault → run_status fault ≡ 1
+unfolding inventory_of
+inventory_at_one topology partitions fault is = by (of_text run.Topology (topology_of topology)) refl (partitions_for partitions) refl
   where
     by : (read : Result TopologyState RunFault) → of_text run.Topology (topology_of topology) ≡ read → (all : Result (List Partition) RunFault) → partitions_for partitions ≡ all
         → run_status fault ≡ 1
@@ -55,35 +56,35 @@ roster_at_one topology partitions fault is = by (of_text run.Topology (topology_
     by (Ok plan) e (Err other) p = let same : other ≡ fault = same_err _ _ (rw (e, p) at is) in partitions_at_one partitions fault (p ∙ ap Err same)
     by (Ok plan) e (Ok all) p = let none : Ok _ ≡ Err fault = rw (e, p) at is in absurd cc
 
-stop_at_one : (roster : RosterState) (fault : RunFault) → Becomes (Ok roster) (Some fault) → run_status fault ≡ 1
-stop_at_one roster run.NoMemory is = absurd is
-stop_at_one roster (run.Topology line cause) is = absurd is
-stop_at_one roster (run.Partitions line cause) is = absurd is
-stop_at_one roster (run.Sweep sweep.NoMemory) is = absurd is
-stop_at_one roster (run.Sweep sweep.NoReply) is = absurd is
-stop_at_one roster (run.Sweep sweep.WrongReply) is = absurd is
-stop_at_one roster (run.Sweep sweep.TooManyHops) is = refl
-stop_at_one roster (run.Sweep sweep.TooManyNodes) is = absurd is
-stop_at_one roster (run.NoLegalPath switch node number) is = refl
-stop_at_one roster (run.Push fault) is = absurd is
-stop_at_one roster (run.Port cause) is = absurd is
-stop_at_one roster (run.Script line cause) is = absurd is
-stop_at_one roster (run.SecondScript line cause) is = absurd is
-stop_at_one roster run.Read is = absurd is
-stop_at_one roster run.Write is = absurd is
+stop_at_one : (inventory : InventoryState) (fault : RunFault) → Becomes (Ok inventory) (Some fault) → run_status fault ≡ 1
+stop_at_one inventory run.NoMemory is = absurd is
+stop_at_one inventory (run.Topology line cause) is = absurd is
+stop_at_one inventory (run.Partitions line cause) is = absurd is
+stop_at_one inventory (run.Sweep sweep.NoMemory) is = absurd is
+stop_at_one inventory (run.Sweep sweep.NoReply) is = absurd is
+stop_at_one inventory (run.Sweep sweep.WrongReply) is = absurd is
+stop_at_one inventory (run.Sweep sweep.TooManyHops) is = refl
+stop_at_one inventory (run.Sweep sweep.TooManyNodes) is = absurd is
+stop_at_one inventory (run.NoLegalPath switch node number) is = refl
+stop_at_one inventory (run.Push fault) is = absurd is
+stop_at_one inventory (run.Port cause) is = absurd is
+stop_at_one inventory (run.Script line cause) is = absurd is
+stop_at_one inventory (run.SecondScript line cause) is = absurd is
+stop_at_one inventory run.Read is = absurd is
+stop_at_one inventory run.Write is = absurd is
 
-up_at_one : (topology : List ℕ) (partitions : Option (List ℕ)) (stop : Option RunFault) (fault : RunFault) → Becomes (roster_of topology partitions) stop
-    → up_from (roster_of topology partitions) stop ≡ Err fault → run_status fault ≡ 1
+up_at_one : (topology : List ℕ) (partitions : Option (List ℕ)) (stop : Option RunFault) (fault : RunFault) → Becomes (inventory_of topology partitions) stop
+    → up_from (inventory_of topology partitions) stop ≡ Err fault → run_status fault ≡ 1
 unfolding up_from
-up_at_one topology partitions stop fault becomes is = by (roster_of topology partitions) refl stop refl
+up_at_one topology partitions stop fault becomes is = by (inventory_of topology partitions) refl stop refl
   where
-    by : (given : Result RosterState RunFault) → roster_of topology partitions ≡ given → (s : Option RunFault) → stop ≡ s → run_status fault ≡ 1
-    by (Err other) e s at = let same : other ≡ fault = same_err _ _ (rw e at is) in roster_at_one topology partitions fault (e ∙ ap Err same)
-    by (Ok roster) e None at = let none : Ok roster ≡ Err fault = rw (e, at) at is in absurd cc
-    by (Ok roster) e (Some other) at =
+    by : (given : Result InventoryState RunFault) → inventory_of topology partitions ≡ given → (s : Option RunFault) → stop ≡ s → run_status fault ≡ 1
+    by (Err other) e s at = let same : other ≡ fault = same_err _ _ (rw e at is) in inventory_at_one topology partitions fault (e ∙ ap Err same)
+    by (Ok inventory) e None at = let none : Ok inventory ≡ Err fault = rw (e, at) at is in absurd cc
+    by (Ok inventory) e (Some other) at =
         let same : other ≡ fault = same_err _ _ (rw (e, at) at is) in
-        let here : Becomes (Ok roster) (Some other) = rw (e, at) at becomes in
-        rw (sym same) (stop_at_one roster other here)
+        let here : Becomes (Ok inventory) (Some other) = rw (e, at) at becomes in
+        rw (sym same) (stop_at_one inventory other here)
 
 two_scripts_at_one : (plan : TopologyState) (first second port : List ℕ) (fault : RunFault) → two_scripts_of plan first second port ≡ Err fault → run_status fault ≡ 1
 unfolding two_scripts_of
@@ -105,26 +106,26 @@ two_scripts_at_one plan first second port fault is = by (named_adapter_port plan
     by (Ok guid) p = first_by guid (rw p refl) (of_text run.Script (commands_in plan first)) refl
 
 two_runs_at_one : (topology : List ℕ) (partitions : Option (List ℕ)) (first second port : List ℕ) (stop : Option RunFault) (fault : RunFault)
-    → Becomes (roster_of topology partitions) stop → two_runs_of topology partitions first second port stop ≡ Err fault → run_status fault ≡ 1
+    → Becomes (inventory_of topology partitions) stop → two_runs_of topology partitions first second port stop ≡ Err fault → run_status fault ≡ 1
 unfolding two_runs_of
-two_runs_at_one topology partitions first second port stop fault becomes is = by (up_from (roster_of topology partitions) stop) refl
+two_runs_at_one topology partitions first second port stop fault becomes is = by (up_from (inventory_of topology partitions) stop) refl
   where
-    scripts_by : (roster : RosterState) → up_from (roster_of topology partitions) stop ≡ Ok roster
-        → (scripts : Result TwoScriptsState RunFault) → two_scripts_of roster.plan first second port ≡ scripts → run_status fault ≡ 1
-    scripts_by roster e (Err other) c = let same : other ≡ fault = same_err _ _ (rw (e, c) at is) in two_scripts_at_one roster.plan first second port fault (c ∙ ap Err same)
-    scripts_by roster e (Ok scripts) c = let none : Ok _ ≡ Err fault = rw (e, c) at is in absurd cc
+    scripts_by : (inventory : InventoryState) → up_from (inventory_of topology partitions) stop ≡ Ok inventory
+        → (scripts : Result TwoScriptsState RunFault) → two_scripts_of inventory.plan first second port ≡ scripts → run_status fault ≡ 1
+    scripts_by inventory e (Err other) c = let same : other ≡ fault = same_err _ _ (rw (e, c) at is) in two_scripts_at_one inventory.plan first second port fault (c ∙ ap Err same)
+    scripts_by inventory e (Ok scripts) c = let none : Ok _ ≡ Err fault = rw (e, c) at is in absurd cc
 
-    by : (up : Result RosterState RunFault) → up_from (roster_of topology partitions) stop ≡ up → run_status fault ≡ 1
+    by : (up : Result InventoryState RunFault) → up_from (inventory_of topology partitions) stop ≡ up → run_status fault ≡ 1
     by (Err other) e = let same : other ≡ fault = same_err _ _ (rw e at is) in up_at_one topology partitions stop fault becomes (e ∙ ap Err same)
-    by (Ok roster) e = scripts_by roster e (two_scripts_of roster.plan first second port) refl
+    by (Ok inventory) e = scripts_by inventory e (two_scripts_of inventory.plan first second port) refl
 
 -- ---- one ending
-pub for_ending : (judged : Result Bytes Ending) (P Q : Ending → Type 0) → ((ending : Ending) → P ending → Q ending) → ForEnding judged P → ForEnding judged Q
-for_ending (Ok texts) P Q f so = record { outcome = so.outcome; finding = so.finding; comes = so.comes; is = f _ so.is }
-for_ending (Err ending) P Q f so = f ending so
+pub for_ending : (judged : Judged) (P Q : Ending → Type 0) → ((ending : Ending) → P ending → Q ending) → ForEnding judged P → ForEnding judged Q
+for_ending (to_judge texts) P Q f so = record { outcome = so.outcome; finding = so.finding; comes = so.comes; is = f _ so.is }
+for_ending (ended ending) P Q f so = f ending so
 
--- a text that is made comes as it is, unless memory for it is refused
-pub made_comes : (judged : Result Bytes Ending) (made : Result (Vec ℕ Global) AllocError) (result : Result (Vec ℕ Global) Stop)
+-- a text that is made comes as it is, unless an allocation for it fails
+pub made_comes : (judged : Judged) (made : Result (Vec ℕ Global) AllocError) (result : Result (Vec ℕ Global) Stop)
     → IfOk made (λ text. ForEnding judged (λ ending. ending ≡ complete text.items)) → IfOk result (λ text. made ≡ Ok text)
     → IfErr result (λ stop. (stop ≡ NoMemory) × IsErr made) → ComesTo (λ text. text.items) judged result
 made_comes judged made (Ok text) is same refused = rw same at is
@@ -138,8 +139,8 @@ pub ok_then : {X E : Type 0} (P Q : X → Type 0) → ((x : X) → P x → Q x) 
 ok_then P Q f (Ok x) is = f x is
 ok_then P Q f (Err error) is = tt
 
--- a fault is printed where it is no want of memory
-pub stopped_by : (judged : Result Bytes Ending) (fault : RunFault)
+-- a fault is printed if it is not out of memory
+pub stopped_by : (judged : Judged) (fault : RunFault)
     → (fault_in fault ≡ Some fault → (run_status fault ≡ 1) × ForEnding judged (λ ending. ending ≡ faulted 1 (run_line fault))) → RunStops judged fault
 stopped_by judged run.NoMemory f = tt
 stopped_by judged (run.Topology line cause) f = f refl
@@ -171,21 +172,21 @@ nothing_up = record {
 abbrev nothing_found : Finding
 nothing_found = record { comparison = record { scripts_agree = false; events_equal = false }; cuts = [] }
 
-outcome_of : (given : Result RosterState RunFault) (stop : Option RunFault) → Becomes given stop
+outcome_of : (given : Result InventoryState RunFault) (stop : Option RunFault) → Becomes given stop
     → (outcome : Result BroughtUpState RunFault) × Turns given outcome × (stop_of outcome ≡ stop)
-outcome_of (Ok roster) None becomes = (Ok becomes.0, becomes.1, refl)
-outcome_of (Ok roster) (Some fault) becomes = (Err fault, becomes, refl)
+outcome_of (Ok inventory) None becomes = (Ok becomes.0, becomes.1, refl)
+outcome_of (Ok inventory) (Some fault) becomes = (Err fault, becomes, refl)
 outcome_of (Err fault) None becomes = (Ok nothing_up, tt, refl)
 outcome_of (Err fault) (Some other) becomes = (Err other, tt, refl)
 
-module _ (topology : List ℕ) (partitions : Option (List ℕ)) (asked : Work (List ℕ) (List ℕ)) where
-  abbrev texts : Result Bytes Ending
+module _ (topology : List ℕ) (partitions : Option (List ℕ)) (asked : Work (List ℕ) (List ℕ) (List ℕ)) where
+  abbrev texts : Judged
   texts = texts_with topology partitions asked
 
   -- where this becomes of their fabric
   module _ (outcome : Result BroughtUpState RunFault) (finding : Finding) (comes : Comes topology partitions asked outcome finding) where
-    abbrev over : Result Bytes Ending
-    over = Err (ending_over topology partitions asked outcome finding)
+    abbrev over : Judged
+    over = ended (ending_over topology partitions asked outcome finding)
 
     for_over : (Is : Ending → Type 0) → ForEnding over Is → ForEnding texts Is
     for_over Is is = record { outcome = outcome; finding = finding; comes = comes; is = is }
@@ -236,100 +237,100 @@ module _ (topology : List ℕ) (partitions : Option (List ℕ)) (asked : Work (L
     comes_over (Err stop) is = stops_over stop is
 
 -- ---- a fabric that is not brought up, or a script that has a fault
-stop_turns : (found : Result RosterState RunFault) (script : Option (List ℕ)) (stop : Option RunFault) (fault : RunFault) → Becomes found stop
+stop_turns : (found : Result InventoryState RunFault) (script : Option (List ℕ)) (stop : Option RunFault) (fault : RunFault) → Becomes found stop
     → left_from found script stop ≡ Err fault
     → (outcome : Result BroughtUpState RunFault) × TurnsAfter found script outcome
-    × ((see : RosterState → BroughtUpState → Ending) → seen_after found see script outcome ≡ faulted (run_status fault) (run_line fault))
+    × ((see : InventoryState → BroughtUpState → Ending) → seen_after found see script outcome ≡ faulted (run_status fault) (run_line fault))
 unfolding left_from up_from
-stop_turns (Ok roster) None None fault becomes is = absurd cc
-stop_turns (Ok roster) (Some script) None fault becomes is = by (commands_in roster.plan script) refl
+stop_turns (Ok inventory) None None fault becomes is = absurd cc
+stop_turns (Ok inventory) (Some script) None fault becomes is = by (commands_in inventory.plan script) refl
   where
-    by : (read : Result (List Command) (AtLine ScriptCause)) → commands_in roster.plan script ≡ read
-        → (outcome : Result BroughtUpState RunFault) × TurnsAfter (Ok roster) (Some script) outcome
-        × ((see : RosterState → BroughtUpState → Ending) → seen_after (Ok roster) see (Some script) outcome ≡ faulted (run_status fault) (run_line fault))
+    by : (read : Result (List Command) (AtLine ScriptCause)) → commands_in inventory.plan script ≡ read
+        → (outcome : Result BroughtUpState RunFault) × TurnsAfter (Ok inventory) (Some script) outcome
+        × ((see : InventoryState → BroughtUpState → Ending) → seen_after (Ok inventory) see (Some script) outcome ≡ faulted (run_status fault) (run_line fault))
     by (Ok commands) e = let none : Ok commands ≡ Err fault = rw e at is in absurd cc
     by (Err at) e =
         let same : run.Script at.line at.cause ≡ fault = same_err _ _ (rw e at is) in
         (Ok becomes.0, rw e becomes.1, λ see. rw (e, sym same) refl)
-stop_turns (Ok roster) script (Some other) fault becomes is = (Err fault, rw (same_err other fault is) at becomes, λ see. refl)
+stop_turns (Ok inventory) script (Some other) fault becomes is = (Err fault, rw (same_err other fault is) at becomes, λ see. refl)
 stop_turns (Err other) script stop fault becomes is = (Err fault, tt, λ see. rw (same_err other fault is) refl)
 
--- where the fabric is not brought up, nothing is told of its cables
-cuts_turn : (found : Result RosterState RunFault) (stop : Option RunFault) (fault : RunFault) (view : CutView (List ℕ)) → Becomes found stop
+-- where the fabric is not brought up, nothing is reported of its cables
+cuts_turn : (found : Result InventoryState RunFault) (stop : Option RunFault) (fault : RunFault) (view : CutView (List ℕ)) → Becomes found stop
     → up_from found stop ≡ Err fault
-    → (outcome : Result BroughtUpState RunFault) × Turns found outcome × CutsAreTold found outcome view []
+    → (outcome : Result BroughtUpState RunFault) × Turns found outcome × CutsAreReported found outcome view []
     × (cuts_in (up_from found (stop_of outcome)) view [] ≡ faulted (run_status fault) (run_line fault))
 unfolding up_from
-cuts_turn (Ok roster) None fault view becomes is = absurd cc
-cuts_turn (Ok roster) (Some other) fault view becomes is =
+cuts_turn (Ok inventory) None fault view becomes is = absurd cc
+cuts_turn (Ok inventory) (Some other) fault view becomes is =
     (Err fault, rw (same_err other fault is) at becomes, tt, refl)
 cuts_turn (Err other) stop fault view becomes is = (Err fault, tt, tt, rw (same_err other fault is) refl)
 
 module _ (topology : List ℕ) (partitions : Option (List ℕ)) where
-  abbrev given : Result RosterState RunFault
-  given = roster_of topology partitions
+  abbrev given : Result InventoryState RunFault
+  given = inventory_of topology partitions
 
   -- ---- a listing
-  pub listing_stops : (fault : RunFault) → FailsWith given (fault_in fault) (up_from given)
+  pub listing_stops : (fault : RunFault) → FailsWith (Becomes given) (fault_in fault) (up_from given)
       → RunStops (texts_with topology partitions work.Check) fault
   listing_stops fault fails =
-      stopped_by (texts_with topology partitions work.Check) fault (λ told.
-      let up : WithFabric given (λ stop. up_from given stop ≡ Err fault) = rw told at fails in
+      stopped_by (texts_with topology partitions work.Check) fault (λ reported.
+      let up : WithFabric (Becomes given) (λ stop. up_from given stop ≡ Err fault) = rw reported at fails in
       let turns = outcome_of given up.stop up.becomes in
       let one : run_status fault ≡ 1 = up_at_one topology partitions up.stop fault up.becomes up.is in
       (one, record { outcome = turns.0; finding = nothing_found; comes = turns.1; is = rw (turns.2, up.is, one) refl }))
 
-  pub is_listed : (roster : RosterState) (text : List ℕ) → WithFabric given (λ stop. up_from given stop ≡ Ok roster) → text ≡ listing_text roster.configuration
+  pub is_listed : (inventory : InventoryState) (text : List ℕ) → WithFabric (Becomes given) (λ stop. up_from given stop ≡ Ok inventory) → text ≡ listing_text inventory.configuration
       → ForEnding (texts_with topology partitions work.Check) (λ ending. ending ≡ complete text)
-  is_listed roster text up told =
+  is_listed inventory text up reported =
       let turns = outcome_of given up.stop up.becomes in
-      record { outcome = turns.0; finding = nothing_found; comes = turns.1; is = rw (turns.2, up.is, told) refl }
+      record { outcome = turns.0; finding = nothing_found; comes = turns.1; is = rw (turns.2, up.is, reported) refl }
 
   -- ---- a run
-  pub run_stops : (script : List ℕ) (fault : RunFault) → FailsWith given (fault_in fault) (up_from given)
+  pub run_stops : (script : List ℕ) (fault : RunFault) → FailsWith (Becomes given) (fault_in fault) (up_from given)
       → RunStops (texts_with topology partitions (work.Run script)) fault
   run_stops script fault fails =
-      stopped_by (texts_with topology partitions (work.Run script)) fault (λ told.
-      let up : WithFabric given (λ stop. up_from given stop ≡ Err fault) = rw told at fails in
+      stopped_by (texts_with topology partitions (work.Run script)) fault (λ reported.
+      let up : WithFabric (Becomes given) (λ stop. up_from given stop ≡ Err fault) = rw reported at fails in
       let turns = outcome_of given up.stop up.becomes in
       let one : run_status fault ≡ 1 = up_at_one topology partitions up.stop fault up.becomes up.is in
       (one, record { outcome = turns.0; finding = nothing_found; comes = turns.1; is = rw (turns.2, up.is, one) refl }))
 
-  pub run_ends_so : (script : List ℕ) (roster : RosterState) (Is : Ending → Type 0) → WithFabric given (λ stop. up_from given stop ≡ Ok roster)
-      → Is (run_in (Ok roster) script) → ForEnding (texts_with topology partitions (work.Run script)) Is
-  run_ends_so script roster Is up is =
+  pub run_ends_so : (script : List ℕ) (inventory : InventoryState) (Is : Ending → Type 0) → WithFabric (Becomes given) (λ stop. up_from given stop ≡ Ok inventory)
+      → Is (run_in (Ok inventory) script) → ForEnding (texts_with topology partitions (work.Run script)) Is
+  run_ends_so script inventory Is up is =
       let turns = outcome_of given up.stop up.becomes in
-      let comes : run_in (up_from given (stop_of turns.0)) script ≡ run_in (Ok roster) script = rw (turns.2, up.is) refl in
+      let comes : run_in (up_from given (stop_of turns.0)) script ≡ run_in (Ok inventory) script = rw (turns.2, up.is) refl in
       record { outcome = turns.0; finding = nothing_found; comes = turns.1; is = subst Is (sym comes) is }
 
   -- ---- two scripts, compared
-  pub comparison_stops : (first second port : List ℕ) (fault : RunFault) → FailsWith given (fault_in fault) (two_runs_of topology partitions first second port)
+  pub comparison_stops : (first second port : List ℕ) (fault : RunFault) → FailsWith (Becomes given) (fault_in fault) (two_runs_of topology partitions first second port)
       → RunStops (texts_with topology partitions (work.Compare first second port)) fault
   comparison_stops first second port fault fails =
-      stopped_by (texts_with topology partitions (work.Compare first second port)) fault (λ told.
-      let up : WithFabric given (λ stop. two_runs_of topology partitions first second port stop ≡ Err fault) = rw told at fails in
+      stopped_by (texts_with topology partitions (work.Compare first second port)) fault (λ reported.
+      let up : WithFabric (Becomes given) (λ stop. two_runs_of topology partitions first second port stop ≡ Err fault) = rw reported at fails in
       let turns = outcome_of given up.stop up.becomes in
       let one : run_status fault ≡ 1 = two_runs_at_one topology partitions first second port up.stop fault up.becomes up.is in
       (one, record { outcome = turns.0; finding = nothing_found; comes = (turns.1, rw (turns.2, up.is) tt); is = rw (turns.2, up.is, one) refl }))
 
   pub is_compared : (first second port : List ℕ) (comparison : Comparison) (text : List ℕ) (runs : TwoRunsState)
-      → WithFabric given (λ stop. two_runs_of topology partitions first second port stop ≡ Ok runs) → Compares runs comparison → text ≡ comparison_text comparison
+      → WithFabric (Becomes given) (λ stop. two_runs_of topology partitions first second port stop ≡ Ok runs) → Compares runs comparison → text ≡ comparison_text comparison
       → ForEnding (texts_with topology partitions (work.Compare first second port)) (λ ending. ending ≡ complete text)
-  is_compared first second port comparison text runs up compares told =
+  is_compared first second port comparison text runs up compares reported =
       let turns = outcome_of given up.stop up.becomes in
       record {
         outcome = turns.0;
         finding = record { comparison = comparison; cuts = [] };
         comes = (turns.1, rw (turns.2, up.is) compares);
-        is = rw (turns.2, up.is, told) refl;
+        is = rw (turns.2, up.is, reported) refl;
       }
 
   -- ---- the loss of cables
-  pub cuts_stop : (view : CutView (List ℕ)) (fault : RunFault) → FailsWith given (fault_in fault) (up_from given)
+  pub cuts_stop : (view : CutView (List ℕ)) (fault : RunFault) → FailsWith (Becomes given) (fault_in fault) (up_from given)
       → RunStops (texts_with topology partitions (work.Cuts view)) fault
   cuts_stop view fault fails =
-      stopped_by (texts_with topology partitions (work.Cuts view)) fault (λ told.
-      let up : WithFabric given (λ stop. up_from given stop ≡ Err fault) = rw told at fails in
+      stopped_by (texts_with topology partitions (work.Cuts view)) fault (λ reported.
+      let up : WithFabric (Becomes given) (λ stop. up_from given stop ≡ Err fault) = rw reported at fails in
       let turns = cuts_turn given up.stop fault view up.becomes up.is in
       let one : run_status fault ≡ 1 = up_at_one topology partitions up.stop fault up.becomes up.is in (
         one,
@@ -342,50 +343,50 @@ module _ (topology : List ℕ) (partitions : Option (List ℕ)) where
       ))
 
   pub cuts_come : (view : CutView (List ℕ)) (subnet : SubnetState) (result : Result (Vec ℕ Global) Stop)
-      → WithFabric given (λ stop. up_from given stop ≡ Ok subnet.roster) → IsStarted subnet → CutComes subnet.roster (up_in subnet) view result
+      → WithFabric (Becomes given) (λ stop. up_from given stop ≡ Ok subnet.inventory) → IsStarted subnet → CutComes subnet.inventory (up_in subnet) view result
       → ComesTo (λ text. text.items) (texts_with topology partitions (work.Cuts view)) result
   unfolding up_from
   cuts_come view subnet result up started comes = by result comes
     where
-      is : given ≡ Ok subnet.roster
-      is = same_roster given up.stop subnet.roster up.is
+      is : given ≡ Ok subnet.inventory
+      is = same_inventory given up.stop subnet.inventory up.is
 
       finding : List ℕ → Finding
-      finding told = record { comparison = record { scripts_agree = false; events_equal = false }; cuts = told }
+      finding reported = record { comparison = record { scripts_agree = false; events_equal = false }; cuts = reported }
 
-      told_so : (told : List ℕ) → TellsCuts subnet.roster (up_in subnet) view told
-          → Comes topology partitions (work.Cuts view) (Ok (up_in subnet)) (finding told)
-      told_so told tells = (rw is started.up, rw is tells)
+      said_so : (reported : List ℕ) → ReportsCuts subnet.inventory (up_in subnet) view reported
+          → Comes topology partitions (work.Cuts view) (Ok (up_in subnet)) (finding reported)
+      said_so reported reports = (rw is started.up, rw is reports)
 
-      ends_so : (told : List ℕ) → ending_over topology partitions (work.Cuts view) (Ok (up_in subnet)) (finding told) ≡ cut_told subnet.roster.plan told view
-      ends_so told = rw is refl
+      ends_so : (reported : List ℕ) → ending_over topology partitions (work.Cuts view) (Ok (up_in subnet)) (finding reported) ≡ cut_reported subnet.inventory.plan reported view
+      ends_so reported = rw is refl
 
-      by : (r : Result (Vec ℕ Global) Stop) → CutComes subnet.roster (up_in subnet) view r
+      by : (r : Result (Vec ℕ Global) Stop) → CutComes subnet.inventory (up_in subnet) view r
           → ComesTo (λ text. text.items) (texts_with topology partitions (work.Cuts view)) r
-      by (Ok text) told = record {
+      by (Ok text) reported = record {
         outcome = Ok (up_in subnet);
         finding = finding text.items;
-        comes = told_so text.items told.0;
-        is = ends_so text.items ∙ told.1;
+        comes = said_so text.items reported.0;
+        is = ends_so text.items ∙ reported.1;
       }
       by (Err stop) (inl memory) = rw memory tt
       by (Err stop) (inr none) =
-          let tells : TellsCuts subnet.roster (up_in subnet) view [] = rw (none.view_is, none.named) tt in
-          let ending : cut_told subnet.roster.plan [] view ≡ faulted 1 (port_line (script_code none.cause)) = rw (none.view_is, none.named) refl in
-          rw none.stop_is (refl, record { outcome = Ok (up_in subnet); finding = finding []; comes = told_so [] tells; is = ends_so [] ∙ ending })
+          let reports : ReportsCuts subnet.inventory (up_in subnet) view [] = rw (none.view_is, none.named) tt in
+          let ending : cut_reported subnet.inventory.plan [] view ≡ faulted 1 (port_line (script_code none.cause)) = rw (none.view_is, none.named) refl in
+          rw none.stop_is (refl, record { outcome = Ok (up_in subnet); finding = finding []; comes = said_so [] reports; is = ends_so [] ∙ ending })
 
   -- ---- what a fabric holds, after a script, if there is one
-  left_turns : (found : Result RosterState RunFault) (script : Option (List ℕ)) (left : SubnetState) → found ≡ Ok left.roster → IsLeftBy script left
-      → TurnsAfter found script (Ok (up_in left)) × ((see : RosterState → BroughtUpState → Ending) → seen_after found see script (Ok (up_in left)) ≡ see left.roster (up_in left))
+  left_turns : (found : Result InventoryState RunFault) (script : Option (List ℕ)) (left : SubnetState) → found ≡ Ok left.inventory → IsLeftBy script left
+      → TurnsAfter found script (Ok (up_in left)) × ((see : InventoryState → BroughtUpState → Ending) → seen_after found see script (Ok (up_in left)) ≡ see left.inventory (up_in left))
   left_turns found None left is by = (rw is by.up, λ see. rw is refl)
   left_turns found (Some script) left is by = (rw (is, by.1) by.2.up, λ see. rw (is, by.1) refl)
 
   pub is_inspected : (what : Inspection (List ℕ)) (script : Option (List ℕ)) (left : SubnetState) (result : Result (Vec ℕ Global) Stop)
-      → given ≡ Ok left.roster → IsLeftBy script left → ComesTo (λ text. text.items) (Err (looked_at left.roster (up_in left) what)) result
+      → given ≡ Ok left.inventory → IsLeftBy script left → ComesTo (λ text. text.items) (ended (looked_at left.inventory (up_in left) what)) result
       → ComesTo (λ text. text.items) (texts_with topology partitions (work.Inspect what script)) result
   is_inspected what script left result is by comes =
       let turns = left_turns given script left is by in
-      comes_over topology partitions (work.Inspect what script) (Ok (up_in left)) nothing_found turns.0 result (rw (turns.1 (λ roster up. looked_at roster up what)) comes)
+      comes_over topology partitions (work.Inspect what script) (Ok (up_in left)) nothing_found turns.0 result (rw (turns.1 (λ inventory up. looked_at inventory up what)) comes)
 
   script_at_one : (plan : TopologyState) (script : Option (List ℕ)) (fault : RunFault) → script_read plan script ≡ Err fault → run_status fault ≡ 1
   script_at_one plan None fault is = absurd cc
@@ -396,17 +397,17 @@ module _ (topology : List ℕ) (partitions : Option (List ℕ)) where
   unfolding left_from
   left_at_one script stop fault becomes is = by (up_from given stop) refl
     where
-      by : (up : Result RosterState RunFault) → up_from given stop ≡ up → run_status fault ≡ 1
+      by : (up : Result InventoryState RunFault) → up_from given stop ≡ up → run_status fault ≡ 1
       by (Err other) e = let same : other ≡ fault = same_err _ _ (rw e at is) in up_at_one topology partitions stop fault becomes (e ∙ ap Err same)
-      by (Ok roster) e = script_at_one roster.plan script fault (rw e at is)
+      by (Ok inventory) e = script_at_one inventory.plan script fault (rw e at is)
 
-  seen_stops : (task : Work (List ℕ) (List ℕ)) (see : RosterState → BroughtUpState → Ending) (script : Option (List ℕ)) (fault : RunFault)
+  seen_stops : (task : Work (List ℕ) (List ℕ) (List ℕ)) (see : InventoryState → BroughtUpState → Ending) (script : Option (List ℕ)) (fault : RunFault)
       → ((outcome : Result BroughtUpState RunFault) → TurnsAfter given script outcome → Comes topology partitions task outcome nothing_found)
       → ((outcome : Result BroughtUpState RunFault) → ending_over topology partitions task outcome nothing_found ≡ seen_after given see script outcome)
-      → FailsWith given (fault_in fault) (left_from given script) → RunStops (texts_with topology partitions task) fault
+      → FailsWith (Becomes given) (fault_in fault) (left_from given script) → RunStops (texts_with topology partitions task) fault
   seen_stops task see script fault comes over fails =
-      stopped_by (texts_with topology partitions task) fault (λ told.
-      let up : WithFabric given (λ stop. left_from given script stop ≡ Err fault) = rw told at fails in
+      stopped_by (texts_with topology partitions task) fault (λ reported.
+      let up : WithFabric (Becomes given) (λ stop. left_from given script stop ≡ Err fault) = rw reported at fails in
       let one : run_status fault ≡ 1 = left_at_one script up.stop fault up.becomes up.is in
       let turns = stop_turns given script up.stop fault up.becomes up.is in (
         one,
@@ -418,65 +419,65 @@ module _ (topology : List ℕ) (partitions : Option (List ℕ)) where
         },
       ))
 
-  pub inspection_stops : (what : Inspection (List ℕ)) (script : Option (List ℕ)) (fault : RunFault) → FailsWith given (fault_in fault) (left_from given script)
+  pub inspection_stops : (what : Inspection (List ℕ)) (script : Option (List ℕ)) (fault : RunFault) → FailsWith (Becomes given) (fault_in fault) (left_from given script)
       → RunStops (texts_with topology partitions (work.Inspect what script)) fault
   inspection_stops what script fault fails =
-      seen_stops (work.Inspect what script) (λ roster up. looked_at roster up what) script fault (λ outcome turns. turns) (λ outcome. refl) fails
+      seen_stops (work.Inspect what script) (λ inventory up. looked_at inventory up what) script fault (λ outcome turns. turns) (λ outcome. refl) fails
 
   -- ---- SMPs, after a script, if there is one
-  pub smps_stop : (script : Option (List ℕ)) (smps : List ℕ) (fault : RunFault) → FailsWith given (fault_in fault) (left_from given script)
+  pub smps_stop : (script : Option (List ℕ)) (smps : List ℕ) (fault : RunFault) → FailsWith (Becomes given) (fault_in fault) (left_from given script)
       → RunStops (texts_with topology partitions (work.Smps script smps)) fault
   smps_stop script smps fault fails =
-      seen_stops (work.Smps script smps) (λ roster up. smps_seen up smps) script fault (λ outcome turns. turns) (λ outcome. refl) fails
+      seen_stops (work.Smps script smps) (λ inventory up. smps_seen up smps) script fault (λ outcome turns. turns) (λ outcome. refl) fails
 
   pub smps_over : (script : Option (List ℕ)) (smps : List ℕ) (left : SubnetState) (result : Result Answer Stop) (sure : Bool) (out out' : Option (List ℕ))
-      → given ≡ Ok left.roster → IsLeftBy script left → Answers (Err (smps_seen (up_in left) smps)) result sure out out'
+      → given ≡ Ok left.inventory → IsLeftBy script left → Answers (ended (smps_seen (up_in left) smps)) result sure out out'
       → Answers (texts_with topology partitions (work.Smps script smps)) result sure out out'
   smps_over script smps left result sure out out' is by answers =
       let turns = left_turns given script left is by in
-      let same = turns.1 (λ roster up. smps_seen up smps) in
+      let same = turns.1 (λ inventory up. smps_seen up smps) in
       answers_over topology partitions (work.Smps script smps) (Ok (up_in left)) nothing_found turns.0 result sure out out'
-      (subst (λ (ending : Ending). Answers (Err ending) result sure out out') (sym same) answers)
+      (subst (λ (ending : Ending). Answers (ended ending) result sure out out') (sym same) answers)
 
   -- ---- shares and changes, which take no fabric
-  pub roster_stops : (fault : RunFault) (ending : Ending) → Fails (fault_in fault) given → (given ≡ Err fault → ending ≡ faulted (run_status fault) (run_line fault))
-      → RunStops (Err ending) fault
-  roster_stops fault ending fails is =
-      stopped_by (Err ending) fault (λ told.
-      let at : given ≡ Err fault = rw told at fails in
-      let one : run_status fault ≡ 1 = roster_at_one topology partitions fault at in
+  pub inventory_stops : (fault : RunFault) (ending : Ending) → Fails (fault_in fault) given → (given ≡ Err fault → ending ≡ faulted (run_status fault) (run_line fault))
+      → RunStops (ended ending) fault
+  inventory_stops fault ending fails is =
+      stopped_by (ended ending) fault (λ reported.
+      let at : given ≡ Err fault = rw reported at fails in
+      let one : run_status fault ≡ 1 = inventory_at_one topology partitions fault at in
       (one, is at ∙ ap (λ (status : ℕ). faulted status (run_line fault)) one))
 
   pub shares_stop : (port : Option (List ℕ)) (fault : RunFault) → Fails (fault_in fault) given → RunStops (texts_with topology partitions (work.Shares port)) fault
   shares_stop port fault fails =
-      run_over topology partitions (work.Shares port) (Err run.NoMemory) nothing_found tt fault (roster_stops fault (shares_in given port) fails (λ at. rw at refl))
+      run_over topology partitions (work.Shares port) (Err run.NoMemory) nothing_found tt fault (inventory_stops fault (shares_in given port) fails (λ at. rw at refl))
 
-  pub shares_come : (port : Option (List ℕ)) (roster : RosterState) (result : Result (Vec ℕ Global) Stop) → given ≡ Ok roster
-      → ComesTo (λ text. text.items) (Err (shares_in (Ok roster) port)) result
+  pub shares_come : (port : Option (List ℕ)) (inventory : InventoryState) (result : Result (Vec ℕ Global) Stop) → given ≡ Ok inventory
+      → ComesTo (λ text. text.items) (ended (shares_in (Ok inventory) port)) result
       → ComesTo (λ text. text.items) (texts_with topology partitions (work.Shares port)) result
-  shares_come port roster result is comes = comes_over topology partitions (work.Shares port) (Err run.NoMemory) nothing_found tt result (rw is comes)
+  shares_come port inventory result is comes = comes_over topology partitions (work.Shares port) (Err run.NoMemory) nothing_found tt result (rw is comes)
 
   pub changes_stop : (second : Option (List ℕ)) (fault : RunFault) → Fails (fault_in fault) given → RunStops (texts_with topology partitions (work.Diff second)) fault
   changes_stop second fault fails =
       run_over topology partitions (work.Diff second) (Err run.NoMemory) nothing_found tt fault
-      (roster_stops fault (changes_in given (roster_of topology second)) fails (λ at. rw at refl))
+      (inventory_stops fault (changes_in given (inventory_of topology second)) fails (λ at. rw at refl))
 
-  pub changes_come : (second : Option (List ℕ)) (before : RosterState) (result : Result (Vec ℕ Global) Stop) → given ≡ Ok before
-      → ComesTo (λ text. text.items) (Err (changes_in (Ok before) (roster_of topology second))) result
+  pub changes_come : (second : Option (List ℕ)) (before : InventoryState) (result : Result (Vec ℕ Global) Stop) → given ≡ Ok before
+      → ComesTo (λ text. text.items) (ended (changes_in (Ok before) (inventory_of topology second))) result
       → ComesTo (λ text. text.items) (texts_with topology partitions (work.Diff second)) result
   changes_come second before result is comes = comes_over topology partitions (work.Diff second) (Err run.NoMemory) nothing_found tt result (rw is comes)
 
 -- the second partitions
-pub second_stops : (before : RosterState) (topology : List ℕ) (second : Option (List ℕ)) (fault : RunFault) → Fails (fault_in fault) (roster_of topology second)
-    → Stops (Err (changes_in (Ok before) (roster_of topology second))) (second_stop fault)
+pub second_stops : (before : InventoryState) (topology : List ℕ) (second : Option (List ℕ)) (fault : RunFault) → Fails (fault_in fault) (inventory_of topology second)
+    → Stops (ended (changes_in (Ok before) (inventory_of topology second))) (second_stop fault)
 second_stops before topology second run.NoMemory fails = tt
-second_stops before topology second (run.Topology line cause) fails = roster_stops topology second (run.Topology line cause) (changes_in (Ok before) (roster_of topology second)) fails (λ at. rw at refl)
+second_stops before topology second (run.Topology line cause) fails = inventory_stops topology second (run.Topology line cause) (changes_in (Ok before) (inventory_of topology second)) fails (λ at. rw at refl)
 second_stops before topology second (run.Partitions line cause) fails = rw fails refl
-second_stops before topology second (run.Sweep fault) fails = roster_stops topology second (run.Sweep fault) (changes_in (Ok before) (roster_of topology second)) fails (λ at. rw at refl)
-second_stops before topology second (run.NoLegalPath switch node number) fails = roster_stops topology second (run.NoLegalPath switch node number) (changes_in (Ok before) (roster_of topology second)) fails (λ at. rw at refl)
-second_stops before topology second (run.Push fault) fails = roster_stops topology second (run.Push fault) (changes_in (Ok before) (roster_of topology second)) fails (λ at. rw at refl)
-second_stops before topology second (run.Port cause) fails = roster_stops topology second (run.Port cause) (changes_in (Ok before) (roster_of topology second)) fails (λ at. rw at refl)
-second_stops before topology second (run.Script line cause) fails = roster_stops topology second (run.Script line cause) (changes_in (Ok before) (roster_of topology second)) fails (λ at. rw at refl)
-second_stops before topology second (run.SecondScript line cause) fails = roster_stops topology second (run.SecondScript line cause) (changes_in (Ok before) (roster_of topology second)) fails (λ at. rw at refl)
-second_stops before topology second run.Read fails = roster_stops topology second run.Read (changes_in (Ok before) (roster_of topology second)) fails (λ at. rw at refl)
-second_stops before topology second run.Write fails = roster_stops topology second run.Write (changes_in (Ok before) (roster_of topology second)) fails (λ at. rw at refl)
+second_stops before topology second (run.Sweep fault) fails = inventory_stops topology second (run.Sweep fault) (changes_in (Ok before) (inventory_of topology second)) fails (λ at. rw at refl)
+second_stops before topology second (run.NoLegalPath switch node number) fails = inventory_stops topology second (run.NoLegalPath switch node number) (changes_in (Ok before) (inventory_of topology second)) fails (λ at. rw at refl)
+second_stops before topology second (run.Push fault) fails = inventory_stops topology second (run.Push fault) (changes_in (Ok before) (inventory_of topology second)) fails (λ at. rw at refl)
+second_stops before topology second (run.Port cause) fails = inventory_stops topology second (run.Port cause) (changes_in (Ok before) (inventory_of topology second)) fails (λ at. rw at refl)
+second_stops before topology second (run.Script line cause) fails = inventory_stops topology second (run.Script line cause) (changes_in (Ok before) (inventory_of topology second)) fails (λ at. rw at refl)
+second_stops before topology second (run.SecondScript line cause) fails = inventory_stops topology second (run.SecondScript line cause) (changes_in (Ok before) (inventory_of topology second)) fails (λ at. rw at refl)
+second_stops before topology second run.Read fails = inventory_stops topology second run.Read (changes_in (Ok before) (inventory_of topology second)) fails (λ at. rw at refl)
+second_stops before topology second run.Write fails = inventory_stops topology second run.Write (changes_in (Ok before) (inventory_of topology second)) fails (λ at. rw at refl)

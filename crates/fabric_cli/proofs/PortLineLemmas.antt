@@ -18,9 +18,10 @@ use Rattle.fabric_parts.specs.NodeType.{most_ports}
 use Rattle.fabric_parts.specs.declared.cable.PortRef.{PortRef}
 use Rattle.fabric_parts.specs.declared.node_type.NodeType.{NodeType}
 use Rattle.fabric_parts.specs.declared.node_type.NodeType.TheVariants.{ChannelAdapter, Switch}
-use Rattle.line_parts.specs.Parts.{hex_text, port_text}
+use Rattle.line_parts.specs.Ports.{port_text}
+use Rattle.text_parts.specs.Parts.{hex_text}
 use Rattle.partition_file.specs.declared.partition.Partition.{Partition}
-use Rattle.result_words.proofs.ListLemmas.{all_have, all_joined, all_there}
+use Rattle.step_results.proofs.ListLemmas.{all_have, all_joined, all_there}
 use Rattle.subnet_core.specs.EventLines.{line_text, name_text, outcome_text, packet_text, payload_text, report_text, trimmed}
 use Rattle.subnet_model.proofs.IsolationLemmas.{found_guid}
 use Rattle.subnet_model.specs.Delivery.{port_with_guid}

@@ -1,15 +1,15 @@
 -- What runs print of a port depends only on the ports near it.
 use Rattle.std.proofs.Common.{ℕ, ◌≡◌, ◌∙◌, ap, refl, sym, List, map, Option, Some, None, Result, Ok, Err}
 use Rattle.partition_file.specs.declared.partition.Partition.{Partition}
-use Rattle.result_words.proofs.StepLemmas.{bind_ok, same_ok}
-use Rattle.result_words.specs.AtLine.{AtLine}
+use Rattle.step_results.proofs.StepLemmas.{bind_ok, same_ok}
+use Rattle.step_results.specs.AtLine.{AtLine}
 use Rattle.sa_runs.proofs.ApartLemmas.{runs_are_isolated}
 use Rattle.sa_runs.specs.Administration.{subnet_administration}
 use Rattle.subnet_core.proofs.TopologyLemmas.{topology_is_sound}
-use Rattle.subnet_core.specs.BringUp.{up_from}
+use Rattle.subnet_core.specs.Fate.{up_from}
 use Rattle.subnet_core.specs.EventLines.{line_text}
-use Rattle.subnet_core.specs.Roster.{RosterState, of_text, partitions_for, roster_of, rostered}
-use Rattle.subnet_core.specs.Stream.{commands_before_fault, judged as judged_lines, told_of_lines}
+use Rattle.subnet_core.specs.Inventory.{InventoryState, of_text, partitions_for, inventory_of, inventoried}
+use Rattle.subnet_core.specs.Stream.{commands_before_fault, judged as judged_lines, reported_of_lines}
 use Rattle.subnet_core.specs.declared.fault.RunFault.TheVariants.{Topology}
 use Rattle.subnet_model.specs.Delivery.{port_with_guid}
 use Rattle.subnet_model.specs.Report.{report_by}
@@ -27,55 +27,55 @@ use Rattle.fabric_cli.proofs.RunLemmas.{script_output}
 use Rattle.fabric_cli.specs.Printed.{APortsLinesAreItsEvents, PrintedLinesKeepPartitionsApart, lines_at, near_commands}
 use Rattle.fabric_cli.specs.Serving.{output_in, run_in}
 
--- the roster of two texts is that of a sound topology, under some partitions
-record IsOf (roster : RosterState) : Type 0 where
+-- the inventory of two texts is that of a sound topology, under some partitions
+record IsOf (inventory : InventoryState) : Type 0 where
   plan : TopologyState
   sound : IsSound plan
   partitions : List Partition
-  is : roster ≡ rostered plan partitions
+  is : inventory ≡ inventoried plan partitions
 
 read_as : (found : Result TopologyState (AtLine TopologyCause)) (plan : TopologyState) → of_text Topology found ≡ Ok plan → found ≡ Ok plan
 read_as (Ok other) plan is = ap (λ (one : TopologyState). Ok one) (same_ok other plan is)
 read_as (Err at) plan is = absurd cc
 
-is_of : (topology : List ℕ) (partitions : Option (List ℕ)) (roster : RosterState) → roster_of topology partitions ≡ Ok roster → IsOf roster
-unfolding roster_of
-is_of topology partitions roster given =
-    let plan = bind_ok (of_text Topology (topology_of topology)) _ roster given in
-    let all = bind_ok (partitions_for partitions) _ roster plan.2 in
+is_of : (topology : List ℕ) (partitions : Option (List ℕ)) (inventory : InventoryState) → inventory_of topology partitions ≡ Ok inventory → IsOf inventory
+unfolding inventory_of
+is_of topology partitions inventory given =
+    let plan = bind_ok (of_text Topology (topology_of topology)) _ inventory given in
+    let all = bind_ok (partitions_for partitions) _ inventory plan.2 in
     record {
       plan = plan.0;
       sound = topology_is_sound topology plan.0 (read_as (topology_of topology) plan.0 plan.1);
       partitions = all.0;
-      is = sym (same_ok (rostered plan.0 all.0) roster all.2);
+      is = sym (same_ok (inventoried plan.0 all.0) inventory all.2);
     }
 
 pub a_ports_lines_are_its_events : APortsLinesAreItsEvents
-a_ports_lines_are_its_events topology partitions roster p port events given found =
-    let of = is_of topology partitions roster given in
-    let here : port_with_guid (ports_of of.partitions of.plan) p ≡ Some port = ap (λ (one : RosterState). port_with_guid one.configuration.ports p) (sym of.is) ∙ found in
+a_ports_lines_are_its_events topology partitions inventory p port events given found =
+    let of = is_of topology partitions inventory given in
+    let here : port_with_guid (ports_of of.partitions of.plan) p ≡ Some port = ap (λ (one : InventoryState). port_with_guid one.configuration.ports p) (sym of.is) ∙ found in
     rw of.is (own_lines of.plan of.partitions of.sound p port here events)
 
-module _ (topology : List ℕ) (partitions : Option (List ℕ)) (roster : RosterState) (p : ℕ) (port : SubnetPort)
-    (given : roster_of topology partitions ≡ Ok roster) (found : port_with_guid roster.configuration.ports p ≡ Some port) where
+module _ (topology : List ℕ) (partitions : Option (List ℕ)) (inventory : InventoryState) (p : ℕ) (port : SubnetPort)
+    (given : inventory_of topology partitions ≡ Ok inventory) (found : port_with_guid inventory.configuration.ports p ≡ Some port) where
   -- the events of the commands that a script gives up to its first fault
   abbrev events_of : List Command → List PortEvent
-  events_of commands = report_by subnet_administration roster.configuration commands
+  events_of commands = report_by subnet_administration inventory.configuration commands
 
   abbrev printed : List ℕ → List ℕ
-  printed script = output_in (run_in (Ok roster) script)
+  printed script = output_in (run_in (Ok inventory) script)
 
-  by_near : (script : List ℕ) → lines_at port (printed script) ≡ map (line_text roster.configuration.ports) (events_at p (events_of (near_commands roster p script)))
+  by_near : (script : List ℕ) → lines_at port (printed script) ≡ map (line_text inventory.configuration.ports) (events_at p (events_of (near_commands inventory p script)))
   by_near script =
-      let commands = commands_before_fault roster.plan (lines script) in
-      ap (lines_at port) (script_output (told_of_lines roster (lines script)) (judged_lines roster.plan (lines script)))
-      ∙ a_ports_lines_are_its_events topology partitions roster p port (events_of commands) given found
-      ∙ ap (map (line_text roster.configuration.ports)) (runs_are_isolated roster.configuration commands p).0
+      let commands = commands_before_fault inventory.plan (lines script) in
+      ap (lines_at port) (script_output (reported_of_lines inventory (lines script)) (judged_lines inventory.plan (lines script)))
+      ∙ a_ports_lines_are_its_events topology partitions inventory p port (events_of commands) given found
+      ∙ ap (map (line_text inventory.configuration.ports)) (runs_are_isolated inventory.configuration commands p).0
 
 pub printed_lines_keep_partitions_apart : PrintedLinesKeepPartitionsApart
 unfolding up_from
-printed_lines_keep_partitions_apart topology partitions None roster p port first second given found same =
-    rw given (by_near topology partitions roster p port given found first
-    ∙ ap (λ (commands : List Command). map (line_text roster.configuration.ports) (events_at p (report_by subnet_administration roster.configuration commands))) same
-    ∙ sym (by_near topology partitions roster p port given found second))
-printed_lines_keep_partitions_apart topology partitions (Some fault) roster p port first second given found same = rw given refl
+printed_lines_keep_partitions_apart topology partitions None inventory p port first second given found same =
+    rw given (by_near topology partitions inventory p port given found first
+    ∙ ap (λ (commands : List Command). map (line_text inventory.configuration.ports) (events_at p (report_by subnet_administration inventory.configuration commands))) same
+    ∙ sym (by_near topology partitions inventory p port given found second))
+printed_lines_keep_partitions_apart topology partitions (Some fault) inventory p port first second given found same = rw given refl

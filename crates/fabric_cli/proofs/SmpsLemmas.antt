@@ -2,12 +2,12 @@
 use Rattle.std.proofs.Common.{ℕ, ◌≡◌, inl, inr, ap, refl, subst, Bool, true, List, [], Option, Some, None, Result, Ok, Err, IfSome, IsErrOf, unwrap_or}
 use Rattle.std.specs.Borrow.{Bor}
 use Rattle.std.specs.Io.KnownBytes.{Appends}
-use Rattle.call_words.specs.declared.call.Work.TheVariants as work
+use Rattle.cli_args.specs.declared.call.Work.TheVariants as work
 use Rattle.fabric_cli.proofs.EndingLemmas.{kept, whole_part}
 use Rattle.fabric_cli.proofs.JudgedLemmas.{smps_over, smps_stop as smps_stopped}
 use Rattle.fabric_cli.proofs.RunLemmas.{what_is_known}
 use Rattle.fabric_cli.specs.Faults.{smps_stop}
-use Rattle.fabric_cli.specs.Serving.{Answers, AppendsSome, Ending, GoesOut, GoesPartly, OfScript, StopsBehind, output_in, smps_by, smps_seen, smps_told, texts_with}
+use Rattle.fabric_cli.specs.Serving.{Answers, AppendsSome, Ending, ended, GoesOut, GoesPartly, OfScript, StopsBehind, output_in, smps_by, smps_seen, smps_reported, texts_with}
 use Rattle.fabric_cli.specs.declared.answering.Answer.{Answer}
 use Rattle.fabric_cli.specs.declared.answering.Answer.TheVariants.{Complete}
 use Rattle.fabric_cli.specs.declared.faults.Stop.{Stop}
@@ -17,29 +17,30 @@ use Rattle.smp_lines.specs.declared.stop.SmpStop.{SmpStop}
 use Rattle.smp_lines.specs.declared.stop.SmpStop.TheVariants as smp
 use Rattle.smp_wire.specs.FabricState.{FabricState}
 use Rattle.subnet_core.specs.After.{IsLeftBy, left_from}
-use Rattle.subnet_core.specs.BringUp.{FailsWith, SubnetState, up_in}
-use Rattle.subnet_core.specs.Roster.{fault_in, roster_of}
+use Rattle.subnet_core.specs.BringUp.{Becomes, SubnetState, up_in}
+use Rattle.subnet_core.specs.Fate.{FailsWith}
+use Rattle.subnet_core.specs.Inventory.{fault_in, inventory_of}
 use Rattle.subnet_core.specs.declared.fault.RunFault.{RunFault}
 use Rattle.subnet_fabric.specs.BringUp.{BroughtUpState}
 use Rattle.text_streams.specs.Writing.{AppendsPart}
 use Rattle.text_words.specs.Lines.{lines}
 
-smps_output : (output : List ℕ) (faulty : Option ℕ) → output_in (smps_told output faulty) ≡ output
+smps_output : (output : List ℕ) (faulty : Option ℕ) → output_in (smps_reported output faulty) ≡ output
 smps_output output None = refl
 smps_output output (Some line) = refl
 
-smps_partly : (output : List ℕ) (faulty : Option ℕ) (old new : Option (List ℕ)) → AppendsPart old new output → GoesPartly (smps_told output faulty) old new
+smps_partly : (output : List ℕ) (faulty : Option ℕ) (old new : Option (List ℕ)) → AppendsPart old new output → GoesPartly (smps_reported output faulty) old new
 smps_partly output None old new part = part
 smps_partly output (Some line) old new part = part
 
 module _ (up : BroughtUpState) (known old new : Option (List ℕ)) (sure : Bool) where
   abbrev of_smps : Result Answer Stop → Type 0
-  of_smps result = OfScript known (λ smps. Answers (Err (smps_seen up smps)) result sure old new)
+  of_smps result = OfScript known (λ smps. Answers (ended (smps_seen up smps)) result sure old new)
 
   whole : (all : Answered) → all.faulty ≡ None → Appends old new all.output → GoesOut Complete (smps_by all) old new
   whole all none wrote = rw none wrote
 
-  some : (all : Answered) → AppendsPart old new all.output → AppendsSome (Err (smps_by all)) old new
+  some : (all : Answered) → AppendsPart old new all.output → AppendsSome (ended (smps_by all)) old new
   some all part = inr (rw (smps_output all.output all.faulty) part)
 
   module _ (X : Type 0) where
@@ -68,11 +69,11 @@ module _ (topology : List ℕ) (partitions script : Option (List ℕ)) (known : 
   abbrev of_texts : (old new : Option (List ℕ)) → Result Answer Stop → Type 0
   of_texts old new result = OfScript known (λ smps. Answers (texts_with topology partitions (work.Smps script smps)) result sure old new)
 
-  pub smps_after : (left : SubnetState) (result : Result Answer Stop) (old new : Option (List ℕ)) → roster_of topology partitions ≡ Ok left.roster → IsLeftBy script left
-      → OfScript known (λ smps. Answers (Err (smps_seen (up_in left) smps)) result sure old new) → of_texts old new result
+  pub smps_after : (left : SubnetState) (result : Result Answer Stop) (old new : Option (List ℕ)) → inventory_of topology partitions ≡ Ok left.inventory → IsLeftBy script left
+      → OfScript known (λ smps. Answers (ended (smps_seen (up_in left) smps)) result sure old new) → of_texts old new result
   smps_after left result old new is by (smps, same, answers) = (smps, same, smps_over topology partitions script smps left result sure old new is by answers)
 
-  pub smps_unanswered : (fault : RunFault) (out : Option (List ℕ)) → FailsWith (roster_of topology partitions) (fault_in fault) (left_from (roster_of topology partitions) script)
+  pub smps_unanswered : (fault : RunFault) (out : Option (List ℕ)) → FailsWith (Becomes (inventory_of topology partitions)) (fault_in fault) (left_from (inventory_of topology partitions) script)
       → of_texts out out (Err (Run fault))
   smps_unanswered fault out fails =
       (unwrap_or known [], what_is_known known, inl (smps_stopped topology partitions script (unwrap_or known []) fault fails, kept out))

@@ -19,14 +19,14 @@ abbrev pub ends_word : ℕ → Bool
 ends_word byte = (byte == 32) || (byte == 10)
 
 -- the token after `fault `
-abbrev pub told_word : List ℕ → List ℕ
-told_word line = before_first ends_word (drop 6 line)
+abbrev pub reported_word : List ℕ → List ℕ
+reported_word line = before_first ends_word (drop 6 line)
 
 -- the line on standard error has a code after `fault `, unless it is the text of refused arguments
-pub record TellsCode (line : List ℕ) : Type 0 where
+pub record ReportsCode (line : List ℕ) : Type 0 where
   pub begins : begins_with (codes "fault ") line ≡ true
-  pub explained : IsExplained (told_word line)
+  pub explained : IsExplained (reported_word line)
 
 abbrev pub NamesCode : Stop → Type 0
 NamesCode (Words text) = Unit {0}
-NamesCode stop = TellsCode (line_of stop)
+NamesCode stop = ReportsCode (line_of stop)

@@ -3,8 +3,8 @@ use Rattle.std.specs.Prelude.{ℕ, Bool, List, ◌++◌, codes, decimal, Option,
 use Rattle.std.specs.Option.{option_map_or}
 use Rattle.std.specs.Borrow.{Bor}
 use Rattle.std.specs.Global.{Global}
-use Rattle.call_words.specs.declared.call.Refused.{Refused}
-use Rattle.call_words.specs.declared.call.Refused.TheVariants as refused
+use Rattle.cli_args.specs.declared.call.Refused.{Refused}
+use Rattle.cli_args.specs.declared.call.Refused.TheVariants as refused
 use Rattle.topo_file.specs.Fault.{code_of as topology_code}
 use Rattle.partition_file.specs.Fault.{code_of as partitions_code}
 use Rattle.script_lines.specs.ScriptCause.{code_of as script_code}
@@ -20,7 +20,7 @@ use Rattle.fabric_cli.specs.declared.faults.ForeignCause.TheVariants.{Discovery,
 use Rattle.fabric_cli.specs.declared.faults.Stop.{Stop}
 use Rattle.fabric_cli.specs.declared.faults.Stop.TheVariants.{Words, NoMemory, Unread, Unwritten, Run, Second, Foreign}
 use Rattle.dump_file.specs.Fault.{code_of as dump_code}
-use Rattle.line_parts.specs.Parts.{hex_text}
+use Rattle.text_parts.specs.Parts.{hex_text}
 use Rattle.netdiscover_file.specs.Fault.{code_of as discovery_code}
 use Rattle.smp_lines.specs.declared.stop.SmpStop.{SmpStop}
 use Rattle.smp_lines.specs.declared.stop.SmpStop.TheVariants as smp

@@ -22,7 +22,7 @@ OpensInOrder old new names = (k : ℕ) × OpensAll old new (take k names)
 
 -- if the contents of the files are known, a name opens to its bytes
 abbrev pub Opens : {I : Type 0} → (I → Option (List ℕ)) → Option Contents → List ℕ → Option I → Type 0
-Opens remaining told name input = IfSome told (λ file. option_map remaining input ≡ option_map Some (file name))
+Opens remaining reported name input = IfSome reported (λ file. option_map remaining input ≡ option_map Some (file name))
 
 -- each of these names opens to bytes
 abbrev pub all_open : Contents → List (List ℕ) → Bool

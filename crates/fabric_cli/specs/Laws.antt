@@ -1,13 +1,13 @@
 -- What holds of all invocations: the statements of laws of `src/laws.rt`.
 use Rattle.std.specs.Prelude.{ℕ, ◌≡◌, Bool, true, false, List, Option}
 use Rattle.std.specs.List.{All}
-use Rattle.call_words.specs.Words.{Asking, opened_for}
-use Rattle.call_words.specs.declared.call.Work.{Work}
-use Rattle.call_words.specs.declared.call.Work.TheVariants as work
+use Rattle.cli_args.specs.Words.{Asking, opened_for}
+use Rattle.cli_args.specs.declared.call.Work.{Work}
+use Rattle.cli_args.specs.declared.call.Work.TheVariants as work
 use Rattle.fabric_cli.specs.Files.{Contents}
-use Rattle.fabric_cli.specs.Serving.{Bytes, Ending, ForTexts, broken_off, ending_by, faulted, judged_for, reported, run_in}
-use Rattle.subnet_core.specs.BringUp.{up_from}
-use Rattle.subnet_core.specs.Roster.{roster_of}
+use Rattle.fabric_cli.specs.Serving.{Bytes, Ending, ForTexts, broken_off, ending_by, faulted, judged_for, report_or_error, run_in}
+use Rattle.subnet_core.specs.Fate.{up_from}
+use Rattle.subnet_core.specs.Inventory.{inventory_of}
 use Rattle.subnet_core.specs.declared.fault.RunFault.{RunFault}
 
 -- two sources of files in which the needed names open to the same bytes have the same result
@@ -17,18 +17,18 @@ FilesThatAgreeAreJudgedAlike =
     → judged_for file asked ≡ judged_for other asked
 
 -- the ending without the report of the lines before a script's error
-abbrev pub without_told : Ending → Ending
-without_told (broken_off line output) = faulted 1 line
-without_told ending = ending
+abbrev pub without_reported : Ending → Ending
+without_reported (broken_off line output) = faulted 1 line
+without_reported ending = ending
 
 -- a run ends with the report of the whole script, or with its error, after the report of the lines before
 abbrev pub RunsEndAsReports : Type 0
 RunsEndAsReports =
     (topology : List ℕ) (partitions : Option (List ℕ)) (script : List ℕ) (stop : Option RunFault)
-    → without_told (run_in (up_from (roster_of topology partitions) stop) script) ≡ ending_by (reported topology partitions script stop)
+    → without_reported (run_in (up_from (inventory_of topology partitions) stop) script) ≡ ending_by (report_or_error topology partitions script stop)
 
 -- a look at a fabric, and at the loss of its cables, depends on its routes
-abbrev pub needs_no_routes : {W S : Type 0} → Work W S → Bool
+abbrev pub needs_no_routes : {W S R : Type 0} → Work W S R → Bool
 needs_no_routes (work.Inspect what script) = false
 needs_no_routes (work.Smps script smps) = false
 needs_no_routes (work.Cuts view) = false

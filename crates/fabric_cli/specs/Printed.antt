@@ -1,10 +1,10 @@
 -- What a run prints of one port.
 use Rattle.std.specs.Prelude.{ℕ, ◌≡◌, List, ◌++◌, codes, filter, map, nat_eq, Option, Some, Ok}
 use Rattle.std.specs.List.{starts_with}
-use Rattle.line_parts.specs.Parts.{port_text}
-use Rattle.subnet_core.specs.BringUp.{up_from}
+use Rattle.line_parts.specs.Ports.{port_text}
+use Rattle.subnet_core.specs.Fate.{up_from}
 use Rattle.subnet_core.specs.EventLines.{line_text, report_text}
-use Rattle.subnet_core.specs.Roster.{RosterState, roster_of}
+use Rattle.subnet_core.specs.Inventory.{InventoryState, inventory_of}
 use Rattle.subnet_core.specs.Stream.{commands_before_fault}
 use Rattle.subnet_core.specs.declared.fault.RunFault.{RunFault}
 use Rattle.subnet_model.specs.Delivery.{port_with_guid}
@@ -23,21 +23,21 @@ lines_at port output = filter (λ line. starts_with nat_eq line (port_text port 
 -- in a report these are the lines of the port's own events, one for each, in order
 abbrev pub APortsLinesAreItsEvents : Type 0
 APortsLinesAreItsEvents =
-    (topology : List ℕ) (partitions : Option (List ℕ)) (roster : RosterState) (p : ℕ) (port : SubnetPort) (events : List PortEvent)
-    → roster_of topology partitions ≡ Ok roster → port_with_guid roster.configuration.ports p ≡ Some port
-    → lines_at port (report_text roster.configuration.ports events) ≡ map (line_text roster.configuration.ports) (events_at p events)
+    (topology : List ℕ) (partitions : Option (List ℕ)) (inventory : InventoryState) (p : ℕ) (port : SubnetPort) (events : List PortEvent)
+    → inventory_of topology partitions ≡ Ok inventory → port_with_guid inventory.configuration.ports p ≡ Some port
+    → lines_at port (report_text inventory.configuration.ports events) ≡ map (line_text inventory.configuration.ports) (events_at p events)
 
 -- the commands of the ports near a port in a script, up to its first error
-abbrev pub near_commands : RosterState → ℕ → List ℕ → List Command
-near_commands roster p script =
-    commands_of (is_near roster.configuration.ports p) (commands_before_fault roster.plan (lines script))
+abbrev pub near_commands : InventoryState → ℕ → List ℕ → List Command
+near_commands inventory p script =
+    commands_of (is_near inventory.configuration.ports p) (commands_before_fault inventory.plan (lines script))
 
 -- if two scripts have the same of these, their runs print the same lines of that port, byte for byte
 abbrev pub PrintedLinesKeepPartitionsApart : Type 0
 PrintedLinesKeepPartitionsApart =
-    (topology : List ℕ) (partitions : Option (List ℕ)) (stop : Option RunFault) (roster : RosterState) (p : ℕ) (port : SubnetPort)
+    (topology : List ℕ) (partitions : Option (List ℕ)) (stop : Option RunFault) (inventory : InventoryState) (p : ℕ) (port : SubnetPort)
     (first second : List ℕ)
-    → roster_of topology partitions ≡ Ok roster → port_with_guid roster.configuration.ports p ≡ Some port
-    → near_commands roster p first ≡ near_commands roster p second
-    → lines_at port (output_in (run_in (up_from (roster_of topology partitions) stop) first))
-    ≡ lines_at port (output_in (run_in (up_from (roster_of topology partitions) stop) second))
+    → inventory_of topology partitions ≡ Ok inventory → port_with_guid inventory.configuration.ports p ≡ Some port
+    → near_commands inventory p first ≡ near_commands inventory p second
+    → lines_at port (output_in (run_in (up_from (inventory_of topology partitions) stop) first))
+    ≡ lines_at port (output_in (run_in (up_from (inventory_of topology partitions) stop) second))

@@ -2,16 +2,17 @@
 //! script is read.
 
 ghost use Rattle.std.specs.Prelude.{◌≡◌, true, Ok, Result, List, ℕ, option_copied, option_map, IfErr};
-ghost use Rattle.call_words.specs.declared.call.Work.TheVariants as work;
+ghost use Rattle.cli_args.specs.declared.call.Work.TheVariants as work;
 ghost use Rattle.fabric_cli.specs.Faults.{IsOfRun, LeavesUnread};
-ghost use Rattle.fabric_cli.specs.Serving.{audit_ending, ending_of, left_in, smps_seen, status_in, texts_in, texts_with, Answers, Bytes, ComesTo, Ending, EndsIn};
-ghost use Rattle.fabric_cli.specs.Serving.{ForEnding, IsOpenScript, OfScript};
+ghost use Rattle.fabric_cli.specs.Serving.{audit_ending, ending_of, left_in, smps_seen, status_in, ended, texts_in, texts_with, to_judge, Answers, ComesTo, Ending, EndsIn, Judged};
+ghost use Rattle.fabric_cli.specs.Serving.{ForEnding, IsOpenAs, IsOpenScript, OfScript};
 ghost use Rattle.subnet_core.specs.BringUp.{up_in};
-ghost use Rattle.text_streams.specs.Reading.{IsEndless};
 
 use crate::faults::{COMPLETE, FAULT, Stop};
 use crate::outputs::{changed, compared, cut, inspected, listed, shared};
-use crate::texts::{Task, Texts};
+use crate::reading::OpenFile;
+use crate::texts::Texts;
+use cli_args::Work;
 use route_audit::Audit;
 use smp_lines::answer_smps;
 use std::alloc::Global;
@@ -45,41 +46,37 @@ pub fn answered_of_texts<'a, I: Reader + Drop, O: Output>(
     texts: Texts<'a, I>,
     out: &mut O,
 ) -> Result<Answer, Stop<'a>>
-    ensures exact { OfScript (left_in I.remaining texts.entry.task) (λ script.
-        Answers (Ok (texts_in script texts.entry)) result (O.is_sure out.old) (O.contents out.old) (O.contents out.new)) }
-    ensures unread { IfErr result (LeavesUnread (IsOpenScript I.remaining I.is_sure texts.entry.task)) }
+    ensures exact { OfScript (left_in I.remaining texts.entry.work) (λ script.
+        Answers (to_judge (texts_in script texts.entry)) result (O.is_sure out.old) (O.contents out.old) (O.contents out.new)) }
+    ensures unread { IfErr result (LeavesUnread (IsOpenScript I.remaining I.is_sure texts.entry.work)) }
 {
     let Texts {
         topology,
         partitions,
-        task,
+        work,
     } = texts;
     let topology = topology.as_slice();
     let partitions = slice_of(&partitions);
-    match task {
-        Task::Check => written(out, listed(alloc, topology, partitions)),
-        Task::Shares(port) => written(out, shared(alloc, topology, partitions, port)),
-        Task::Diff(second) => {
+    match work {
+        Work::Check => written(out, listed(alloc, topology, partitions)),
+        Work::Shares(port) => written(out, shared(alloc, topology, partitions, port)),
+        Work::Diff(second) => {
             let second = slice_of(&second);
             written(out, changed(alloc, topology, partitions, second))
         }
-        Task::Inspect { what, script } => {
+        Work::Inspect { what, script } => {
             let script = slice_of(&script);
             written(out, inspected(alloc, topology, partitions, &what, script))
         }
-        Task::Cuts(view) => written(out, cut(alloc, topology, partitions, view)),
-        Task::Run { name, mut input } => {
-            streamed(alloc, topology, partitions, name, &mut input, out)
+        Work::Cuts(view) => written(out, cut(alloc, topology, partitions, view)),
+        Work::Run(script) => streamed(alloc, topology, partitions, script, out),
+        Work::Smps { script, smps } => {
+            match left_by(alloc, topology, partitions, slice_of(&script)) {
+                Ok(subnet) => smps_answered(alloc, subnet, smps, out),
+                Err(fault) => Err(Stop::Run(fault)),
+            }
         }
-        Task::Smps {
-            script,
-            name,
-            mut input,
-        } => match left_by(alloc, topology, partitions, slice_of(&script)) {
-            Ok(subnet) => smps_answered(alloc, subnet, name, &mut input, out),
-            Err(fault) => Err(Stop::Run(fault)),
-        },
-        Task::Compare {
+        Work::Compare {
             first,
             second,
             port,
@@ -98,7 +95,7 @@ pub fn written<'a, O: Output>(
     out: &mut O,
     made: Result<Vec<u8>, Stop<'a>>,
 ) -> Result<Answer, Stop<'a>>
-    ensures exact { (judged : Result Bytes Ending) → ComesTo (λ text. text.items) judged made.entry
+    ensures exact { (judged : Judged) → ComesTo (λ text. text.items) judged made.entry
         → Answers judged result (O.is_sure out.old) (O.contents out.old) (O.contents out.new) }
     ensures unread { IfErr made.entry IsOfRun → IfErr result (LeavesUnread (λ _. ⊥)) }
 {
@@ -113,7 +110,7 @@ pub fn written_audit<'a, O: Output>(
     out: &mut O,
     made: Result<Audit, Stop<'a>>,
 ) -> Result<Answer, Stop<'a>>
-    ensures exact { (judged : Result Bytes Ending) → EndsIn audit_ending judged made.entry
+    ensures exact { (judged : Judged) → EndsIn audit_ending judged made.entry
         → Answers judged result (O.is_sure out.old) (O.contents out.old) (O.contents out.new) }
     ensures unread { IfErr made.entry IsOfRun → IfErr result (LeavesUnread (λ _. ⊥)) }
 {
@@ -135,7 +132,7 @@ fn answer_of(audit: &Audit) -> Answer
 
 /// Writes an output that has this result.
 fn written_as<'a, O: Output>(out: &mut O, text: &[u8], answer: Answer) -> Result<Answer, Stop<'a>>
-    ensures exact { (judged : Result Bytes Ending) → ForEnding judged (λ ending. ending ≡ ending_of answer text.now)
+    ensures exact { (judged : Judged) → ForEnding judged (λ ending. ending ≡ ending_of answer text.now)
         → Answers judged result (O.is_sure out.old) (O.contents out.old) (O.contents out.new) }
     ensures unread { IfErr result (LeavesUnread (λ _. ⊥)) }
 {
@@ -147,41 +144,39 @@ fn written_as<'a, O: Output>(out: &mut O, text: &[u8], answer: Answer) -> Result
 }
 
 /// Runs a script while it is read, and writes its report meanwhile.
-fn streamed<'a, R: Reader, O: Output>(
+fn streamed<'a, R: Reader + Drop, O: Output>(
     alloc: Global,
     topology: &[u8],
     partitions: Option<&[u8]>,
-    name: &'a str,
-    input: &mut R,
+    script: OpenFile<'a, R>,
     out: &mut O,
 ) -> Result<Answer, Stop<'a>>
-    ensures exact { OfScript (R.remaining input.old) (λ script.
-        Answers (texts_with topology.now (option_copied partitions.entry) (work.Run script)) result
+    ensures exact { OfScript (R.remaining script.entry.input) (λ read.
+        Answers (texts_with topology.now (option_copied partitions.entry) (work.Run read)) result
         (O.is_sure out.old) (O.contents out.old) (O.contents out.new)) }
-    ensures unread { IfErr result (LeavesUnread (λ word.
-        (word ≡ name.entry.now) × (R.is_sure input.old ≡ true → IsEndless (R.remaining input.old)))) }
+    ensures unread { IfErr result (LeavesUnread (IsOpenAs R.remaining R.is_sure script.entry)) }
 {
-    match run_stream(alloc, topology, partitions, input, out) {
+    let OpenFile { name, mut input } = script;
+    match run_stream(alloc, topology, partitions, &mut input, out) {
         Ok(()) => Ok(Answer::Complete),
         Err(fault) => Err(Stop::of_run(name, fault)),
     }
 }
 
 /// Answers SMPs by the fabric of a subnet, and writes the replies meanwhile.
-fn smps_answered<'a, R: Reader, O: Output>(
+fn smps_answered<'a, R: Reader + Drop, O: Output>(
     alloc: Global,
     subnet: Subnet,
-    name: &'a str,
-    input: &mut R,
+    smps: OpenFile<'a, R>,
     out: &mut O,
 ) -> Result<Answer, Stop<'a>>
-    ensures exact { OfScript (R.remaining input.old) (λ smps. Answers (Err (smps_seen (up_in subnet) smps)) result
+    ensures exact { OfScript (R.remaining smps.entry.input) (λ read. Answers (ended (smps_seen (up_in subnet) read)) result
         (O.is_sure out.old) (O.contents out.old) (O.contents out.new)) }
-    ensures unread { IfErr result (LeavesUnread (λ word.
-        (word ≡ name.entry.now) × (R.is_sure input.old ≡ true → IsEndless (R.remaining input.old)))) }
+    ensures unread { IfErr result (LeavesUnread (IsOpenAs R.remaining R.is_sure smps.entry)) }
 {
     let (_, mut fabric) = subnet.into_parts();
-    match answer_smps(alloc, &mut fabric, input, out) {
+    let OpenFile { name, mut input } = smps;
+    match answer_smps(alloc, &mut fabric, &mut input, out) {
         Ok(()) => Ok(Answer::Complete),
         Err(stop) => Err(Stop::of_smps(name, stop)),
     }

@@ -9,15 +9,15 @@ ghost use Rattle.fabric_cli.specs.declared.faults.Stop.TheVariants.{NoMemory};
 ghost use Rattle.script_lines.specs.ScriptCause.{code_of as script_code};
 ghost use Rattle.partition_file.specs.Fault.{code_of as partitions_code};
 
-use call_words::Refused;
+use cli_args::Refused;
 use dump_file::DumpCause;
-use line_parts::push_hex;
 use netdiscover_file::DiscoveryCause;
 use partition_file::PartitionCause;
 use smp_lines::SmpStop;
 use std::alloc::{AllocError, AllocFailed, Global};
 use subnet_core::{RunFault, ScriptCause};
 use sweep::SweepFault;
+use text_parts::push_hex;
 use topology_import::ImportCause;
 
 /// The exit status of success.

@@ -10,14 +10,14 @@ use text_streams::{Output, Reader};
 
 /// A source that opens names to readers.
 ///
-/// Its ghost members are what a contract may know of it: `told` says to which bytes each name opens, or
+/// Its ghost members are what a contract may know of it: `reported` says to which bytes each name opens, or
 /// that there is no such file; `opened` has the names opened so far. Each may be `None`: nothing is known, or
 /// the names could not be kept. `reads` is whether no read of any of the files fails.
 pub trait Files {
     /// The reader of an open file.
     type Input: Reader + Drop;
 
-    ghost told: { Self → Option Contents };
+    ghost reported: { Self → Option Contents };
 
     ghost opened: { Self → Option (List (List ℕ)) };
 
@@ -26,10 +26,10 @@ pub trait Files {
     /// Opens a name, or returns `None` if there is no such file to read.
     fn open(&mut self, name: &str) -> Option<Self::Input>
         ensures noted { OpensAll (opened self.old) (opened self.new) (name.now ∷ []) }
-        ensures same { told self.new ≡ told self.old }
+        ensures same { reported self.new ≡ reported self.old }
         ensures stays { reads self.new ≡ reads self.old }
         ensures sure { reads self.old ≡ true → IfSome result (λ input. Self.Input.is_sure input ≡ true) }
-        ensures bytes { Opens Self.Input.remaining (told self.old) name.now result };
+        ensures bytes { Opens Self.Input.remaining (reported self.old) name.now result };
 }
 
 /// The machine's files, and `-` for its standard input. Contracts know nothing of their contents.
@@ -67,7 +67,7 @@ impl<'a, R: rt::Files + Input> MachineFiles<'a, R> {
 impl<'a, R: rt::Files + Input> Files for MachineFiles<'a, R> {
     type Input = MachineInput<R>;
 
-    ghost told = { λ _. None };
+    ghost reported = { λ _. None };
 
     ghost opened = { λ _. None };
 

@@ -11,13 +11,13 @@ ghost use Rattle.fabric_cli.specs.declared.faults.Stop.{Stop as AnyStop};
 
 /// Every line that is printed for an error has after `fault` a code that `fabric explain` explains. It also explains every
 /// code for which a port refuses a packet in a report. If `clap` refuses the arguments, the text has no code.
-pub fn every_code_that_is_told_is_explained()
+pub fn every_code_that_is_reported_is_explained()
     ensures faults { (stop : AnyStop) → NamesCode stop }
     ensures refusals { (refusal : AnyRefusal) → IsExplained (refusal_code refusal) }
 {}
 
 /// The result depends only on the bytes of the files that are needed, each by its name in the arguments
-/// (`files_are_named_as_given` of `call_words`): two sources of files that agree on these names have the same result.
+/// (`files_are_named_as_given` of `cli_args`): two sources of files that agree on these names have the same result.
 pub fn files_that_agree_are_judged_alike()
     ensures { FilesThatAgreeAreJudgedAlike }
 {}

@@ -15,7 +15,7 @@ mod texts;
 
 pub use crate::files::{Files, MachineFiles};
 pub use crate::laws::{
-    a_ports_lines_are_its_events, every_code_that_is_told_is_explained,
+    a_ports_lines_are_its_events, every_code_that_is_reported_is_explained,
     files_that_agree_are_judged_alike, one_ending_comes_of_texts,
     printed_lines_keep_partitions_apart, runs_end_as_reports,
 };

@@ -2,24 +2,24 @@
 
 ghost use Rattle.std.specs.Prelude.{◌≡◌, Err, Ok, Some, None, option_copied, option_map, IfErr, IfOk, IsErr};
 ghost use Rattle.cable_cuts.specs.Fate.{HaveBroughtUp};
-ghost use Rattle.call_words.specs.Words.{named_inspection, named_view};
-ghost use Rattle.call_words.specs.declared.call.CutView.TheVariants.{All as AllCuts, One as OneCut, Picture as CutPicture};
-ghost use Rattle.call_words.specs.declared.call.Inspection.TheVariants.{Graph as IsGraph, Keys as IsKeys, Tables as IsTables};
-ghost use Rattle.call_words.specs.declared.call.Work.TheVariants as work;
+ghost use Rattle.cli_args.specs.Words.{named_inspection, named_view};
+ghost use Rattle.cli_args.specs.declared.call.CutView.TheVariants.{All as AllCuts, One as OneCut, Picture as CutPicture};
+ghost use Rattle.cli_args.specs.declared.call.Inspection.TheVariants.{Graph as IsGraph, Keys as IsKeys, Tables as IsTables};
+ghost use Rattle.cli_args.specs.declared.call.Work.TheVariants as work;
 ghost use Rattle.fabric_cli.specs.Faults.{IsOfRun};
 ghost use Rattle.fabric_cli.specs.Serving.{asked_port, changes_in, looked_at, second_stop, shares_in, texts_with, traced};
 ghost use Rattle.fabric_cli.specs.Serving.{ComesTo, CutComes, EndsIn, audit_ending, audited, audited_by, audited_over, comparison_text, discovery_stop, dump_stop};
-ghost use Rattle.fabric_cli.specs.Serving.{import_stop, imported, imported_as, topology_stop, yes_or_no};
+ghost use Rattle.fabric_cli.specs.Serving.{ended, import_stop, imported, imported_as, topology_stop, yes_or_no};
 ghost use Rattle.dump_file.specs.Dump.{dump_of};
 ghost use Rattle.topology_import.specs.Import.{import_of};
 ghost use Rattle.fabric_cli.specs.declared.faults.Stop.TheVariants.{NoMemory};
 ghost use Rattle.subnet_core.specs.BringUp.{up_in};
 ghost use Rattle.script_lines.specs.NamedPort.{adapter_place};
-ghost use Rattle.subnet_core.specs.Roster.{roster_of};
+ghost use Rattle.subnet_core.specs.Inventory.{inventory_of};
 
 use crate::faults::{ForeignCause, Stop};
 use cable_cuts::{cut_text, cuts_text, needed};
-use call_words::{CutView, Inspection};
+use cli_args::{CutView, Inspection};
 use dump_file::DumpFault;
 use fabric_graph::graph_text;
 use fabric_tables::{keys_text, tables_text};
@@ -31,10 +31,11 @@ use route_audit::{Audit, audit};
 use script_lines::named_cable;
 use std::alloc::{AllocError, Global};
 use subnet_core::{
-    Comparison, Roster, RunFault, ScriptCause, Subnet, bring_up, compare, left_by, read_roster,
+    Comparison, Inventory, RunFault, ScriptCause, Subnet, bring_up, compare, left_by,
+    read_inventory,
 };
 use topo_file::{TopoFault, Topology};
-use topology_import::{ImportError, topology_text};
+use topology_import::{ImportFault, topology_text};
 
 /// The listing of a subnet that is brought up.
 pub fn listed<'a>(
@@ -63,28 +64,32 @@ pub fn shared<'a>(
         (texts_with topology.now (option_copied partitions.entry) (work.Shares (option_map (λ word. word.now) port.entry))) result }
     ensures fault { IfErr result IsOfRun }
 {
-    match read_roster(alloc, topology, partitions) {
-        Ok(roster) => shares_in(alloc, &roster, port),
+    match read_inventory(alloc, topology, partitions) {
+        Ok(inventory) => shares_in(alloc, &inventory, port),
         Err(fault) => Err(Stop::Run(fault)),
     }
 }
 
-fn shares_in<'a>(alloc: Global, roster: &Roster, port: Option<&str>) -> Result<Vec<u8>, Stop<'a>>
-    ensures exact { ComesTo (λ text. text.items) (Err (shares_in (Ok roster.now) (option_map (λ word. word.now) port.entry))) result }
+fn shares_in<'a>(
+    alloc: Global,
+    inventory: &Inventory,
+    port: Option<&str>,
+) -> Result<Vec<u8>, Stop<'a>>
+    ensures exact { ComesTo (λ text. text.items) (ended (shares_in (Ok inventory.now) (option_map (λ word. word.now) port.entry))) result }
     ensures fault { IfErr result IsOfRun }
 {
-    match asked_port(roster, port) {
-        Ok(asked) => text_or_stop(shares_text(alloc, roster.configuration().ports(), asked)),
+    match asked_port(inventory, port) {
+        Ok(asked) => text_or_stop(shares_text(alloc, inventory.configuration().ports(), asked)),
         Err(cause) => Err(Stop::Run(RunFault::Port(cause))),
     }
 }
 
 /// The GUID of the port that an argument names, if it is given.
-fn asked_port(roster: &Roster, port: Option<&str>) -> Result<Option<u64>, ScriptCause>
-    ensures { result ≡ asked_port roster.now.plan (option_map (λ word. word.now) port.entry) }
+fn asked_port(inventory: &Inventory, port: Option<&str>) -> Result<Option<u64>, ScriptCause>
+    ensures { result ≡ asked_port inventory.now.plan (option_map (λ word. word.now) port.entry) }
 {
     match port {
-        Some(word) => Ok(Some(roster.named_port(word.as_bytes())?)),
+        Some(word) => Ok(Some(inventory.named_port(word.as_bytes())?)),
         None => Ok(None),
     }
 }
@@ -100,7 +105,7 @@ pub fn changed<'a>(
         (texts_with topology.now (option_copied partitions.entry) (work.Diff (option_copied second.entry))) result }
     ensures fault { IfErr result IsOfRun }
 {
-    match read_roster(alloc, topology, partitions) {
+    match read_inventory(alloc, topology, partitions) {
         Ok(before) => changes_from(alloc, &before, topology, second),
         Err(fault) => Err(Stop::Run(fault)),
     }
@@ -108,15 +113,15 @@ pub fn changed<'a>(
 
 fn changes_from<'a>(
     alloc: Global,
-    before: &Roster,
+    before: &Inventory,
     topology: &[u8],
     second: Option<&[u8]>,
 ) -> Result<Vec<u8>, Stop<'a>>
     ensures exact { ComesTo (λ text. text.items)
-        (Err (changes_in (Ok before.now) (roster_of topology.now (option_copied second.entry)))) result }
+        (ended (changes_in (Ok before.now) (inventory_of topology.now (option_copied second.entry)))) result }
     ensures fault { IfErr result IsOfRun }
 {
-    match read_roster(alloc, topology, second) {
+    match read_inventory(alloc, topology, second) {
         Ok(after) => text_or_stop(changes_text(
             alloc,
             before.configuration(),
@@ -128,7 +133,7 @@ fn changes_from<'a>(
 
 /// The stop for an error of a subnet with the second partition file: the topology is the same.
 fn second_stop<'a>(fault: RunFault) -> Stop<'a>
-    ensures told { result ≡ second_stop fault }
+    ensures reported { result ≡ second_stop fault }
     ensures fault { IsOfRun result }
 {
     match fault {
@@ -161,7 +166,7 @@ fn looked_at<'a>(
     what: &Inspection<&str>,
 ) -> Result<Vec<u8>, Stop<'a>>
     ensures exact { ComesTo (λ text. text.items)
-        (Err (looked_at subnet.now.roster (up_in subnet.now) (named_inspection what.now))) result }
+        (ended (looked_at subnet.now.inventory (up_in subnet.now) (named_inspection what.now))) result }
     ensures fault { IfErr result IsOfRun }
 {
     match what {
@@ -174,35 +179,35 @@ fn looked_at<'a>(
 
 /// The LFTs and MFTs, with the directed routes of the discovery that brought the fabric up.
 fn tabled<'a>(alloc: Global, subnet: &Subnet) -> Result<Vec<u8>, Stop<'a>>
-    ensures exact { ComesTo (λ text. text.items) (Err (looked_at subnet.now.roster (up_in subnet.now) IsTables)) result }
+    ensures exact { ComesTo (λ text. text.items) (ended (looked_at subnet.now.inventory (up_in subnet.now) IsTables)) result }
     ensures fault { IfErr result IsOfRun }
 {
-    let roster = subnet.roster();
-    let ports = roster.configuration().ports();
+    let inventory = subnet.inventory();
+    let ports = inventory.configuration().ports();
     let graph = subnet.routes().graph();
-    text_or_stop(tables_text(alloc, roster.topology(), ports, graph, subnet.fabric()))
+    text_or_stop(tables_text(alloc, inventory.topology(), ports, graph, subnet.fabric()))
 }
 
 /// The P_Key tables.
 fn keyed<'a>(alloc: Global, subnet: &Subnet) -> Result<Vec<u8>, Stop<'a>>
-    ensures exact { ComesTo (λ text. text.items) (Err (looked_at subnet.now.roster (up_in subnet.now) IsKeys)) result }
+    ensures exact { ComesTo (λ text. text.items) (ended (looked_at subnet.now.inventory (up_in subnet.now) IsKeys)) result }
     ensures fault { IfErr result IsOfRun }
 {
-    let roster = subnet.roster();
-    let ports = roster.configuration().ports();
-    text_or_stop(keys_text(alloc, roster.topology(), ports, subnet.fabric()))
+    let inventory = subnet.inventory();
+    let ports = inventory.configuration().ports();
+    text_or_stop(keys_text(alloc, inventory.topology(), ports, subnet.fabric()))
 }
 
 /// The picture, with the ranks that the routes go by.
 fn drawn<'a>(alloc: Global, subnet: &Subnet) -> Result<Vec<u8>, Stop<'a>>
-    ensures exact { ComesTo (λ text. text.items) (Err (looked_at subnet.now.roster (up_in subnet.now) IsGraph)) result }
+    ensures exact { ComesTo (λ text. text.items) (ended (looked_at subnet.now.inventory (up_in subnet.now) IsGraph)) result }
     ensures fault { IfErr result IsOfRun }
 {
-    let roster = subnet.roster();
+    let inventory = subnet.inventory();
     text_or_stop(graph_text(
         alloc,
-        roster.topology(),
-        roster.configuration(),
+        inventory.topology(),
+        inventory.configuration(),
         subnet.routes(),
         subnet.fabric(),
         &[],
@@ -218,14 +223,14 @@ fn traced<'a>(
     p_key: u16,
 ) -> Result<Vec<u8>, Stop<'a>>
     ensures exact { ComesTo (λ text. text.items)
-        (Err (traced subnet.now.roster (up_in subnet.now) dlid p_key (adapter_place subnet.now.roster.plan port.now))) result }
+        (ended (traced subnet.now.inventory (up_in subnet.now) dlid p_key (adapter_place subnet.now.inventory.plan port.now))) result }
     ensures fault { IfErr result IsOfRun }
 {
-    let roster = subnet.roster();
-    match roster.adapter_place(port.as_bytes()) {
+    let inventory = subnet.inventory();
+    match inventory.adapter_place(port.as_bytes()) {
         Ok(from) => text_or_stop(trace_text(
             alloc,
-            roster.topology(),
+            inventory.topology(),
             subnet.fabric(),
             from,
             dlid,
@@ -253,8 +258,8 @@ pub fn cut<'a>(
 }
 
 fn cuts_of<'a>(alloc: Global, subnet: &Subnet, view: CutView<&str>) -> Result<Vec<u8>, Stop<'a>>
-    requires { HaveBroughtUp subnet.now.roster.plan subnet.now.routes }
-    ensures exact { CutComes subnet.now.roster (up_in subnet.now) (named_view view.entry) result }
+    requires { HaveBroughtUp subnet.now.inventory.plan subnet.now.routes }
+    ensures exact { CutComes subnet.now.inventory (up_in subnet.now) (named_view view.entry) result }
     ensures fault { IfErr result IsOfRun }
 {
     match view {
@@ -265,12 +270,12 @@ fn cuts_of<'a>(alloc: Global, subnet: &Subnet, view: CutView<&str>) -> Result<Ve
 }
 
 fn all_cuts_of<'a>(alloc: Global, subnet: &Subnet) -> Result<Vec<u8>, Stop<'a>>
-    requires { HaveBroughtUp subnet.now.roster.plan subnet.now.routes }
-    ensures exact { CutComes subnet.now.roster (up_in subnet.now) AllCuts result }
+    requires { HaveBroughtUp subnet.now.inventory.plan subnet.now.routes }
+    ensures exact { CutComes subnet.now.inventory (up_in subnet.now) AllCuts result }
     ensures fault { IfErr result IsOfRun }
 {
-    let roster = subnet.roster();
-    let (topology, configuration) = (roster.topology(), roster.configuration());
+    let inventory = subnet.inventory();
+    let (topology, configuration) = (inventory.topology(), inventory.configuration());
     text_or_stop(cuts_text(alloc, topology, configuration, subnet.routes()))
 }
 
@@ -280,15 +285,15 @@ fn cut_of<'a>(
     first: &str,
     second: &str,
 ) -> Result<Vec<u8>, Stop<'a>>
-    requires { HaveBroughtUp subnet.now.roster.plan subnet.now.routes }
-    ensures exact { CutComes subnet.now.roster (up_in subnet.now) (OneCut first.now second.now) result }
+    requires { HaveBroughtUp subnet.now.inventory.plan subnet.now.routes }
+    ensures exact { CutComes subnet.now.inventory (up_in subnet.now) (OneCut first.now second.now) result }
     ensures fault { IfErr result IsOfRun }
 {
-    let roster = subnet.roster();
-    let topology = roster.topology();
+    let inventory = subnet.inventory();
+    let topology = inventory.topology();
     match named_cable(topology, first.as_bytes(), second.as_bytes()) {
         Ok(cable) => {
-            let configuration = roster.configuration();
+            let configuration = inventory.configuration();
             text_or_stop(cut_text(alloc, topology, configuration, subnet.routes(), cable))
         }
         Err(cause) => Err(Stop::Run(RunFault::Port(cause))),
@@ -297,12 +302,12 @@ fn cut_of<'a>(
 
 /// The picture with the cables in red that the fabric cannot do without.
 fn needed_drawn<'a>(alloc: Global, subnet: &Subnet) -> Result<Vec<u8>, Stop<'a>>
-    requires { HaveBroughtUp subnet.now.roster.plan subnet.now.routes }
-    ensures exact { CutComes subnet.now.roster (up_in subnet.now) CutPicture result }
+    requires { HaveBroughtUp subnet.now.inventory.plan subnet.now.routes }
+    ensures exact { CutComes subnet.now.inventory (up_in subnet.now) CutPicture result }
     ensures fault { IfErr result IsOfRun }
 {
-    let roster = subnet.roster();
-    let (topology, configuration) = (roster.topology(), roster.configuration());
+    let inventory = subnet.inventory();
+    let (topology, configuration) = (inventory.topology(), inventory.configuration());
     let (routes, fabric) = (subnet.routes(), subnet.fabric());
     let needed = needed(alloc, topology, routes)?;
     text_or_stop(graph_text(
@@ -340,7 +345,7 @@ pub fn imported<'a>(
     netdiscover: &[u8],
     manager: Option<u64>,
 ) -> Result<Vec<u8>, Stop<'a>>
-    ensures exact { ComesTo (λ text. text.items) (Err (imported manager netdiscover.now)) result }
+    ensures exact { ComesTo (λ text. text.items) (ended (imported manager netdiscover.now)) result }
     ensures fault { IfErr result IsOfRun }
 {
     match netdiscover_file::read(alloc, netdiscover) {
@@ -354,7 +359,7 @@ fn import_of<'a>(
     discovery: &Discovery,
     manager: Option<u64>,
 ) -> Result<Vec<u8>, Stop<'a>>
-    ensures exact { ComesTo (λ text. text.items) (Err (imported_as (import_of discovery.now manager))) result }
+    ensures exact { ComesTo (λ text. text.items) (ended (imported_as (import_of discovery.now manager))) result }
     ensures fault { IfErr result IsOfRun }
 {
     match topology_text(alloc, discovery, manager) {
@@ -364,7 +369,7 @@ fn import_of<'a>(
 }
 
 fn discovery_stop<'a>(fault: DiscoveryFault) -> Stop<'a>
-    ensures told { result ≡ discovery_stop fault }
+    ensures reported { result ≡ discovery_stop fault }
     ensures fault { IsOfRun result }
 {
     match fault {
@@ -376,13 +381,13 @@ fn discovery_stop<'a>(fault: DiscoveryFault) -> Stop<'a>
     }
 }
 
-fn import_stop<'a>(error: ImportError) -> Stop<'a>
-    ensures told { result ≡ import_stop error }
+fn import_stop<'a>(error: ImportFault) -> Stop<'a>
+    ensures reported { result ≡ import_stop error }
     ensures fault { IsOfRun result }
 {
     match error {
-        ImportError::NoMemory => Stop::NoMemory,
-        ImportError::At { line, cause } => Stop::Foreign {
+        ImportFault::NoMemory => Stop::NoMemory,
+        ImportFault::At { line, cause } => Stop::Foreign {
             line,
             cause: ForeignCause::Import(cause),
         },
@@ -391,7 +396,7 @@ fn import_stop<'a>(error: ImportError) -> Stop<'a>
 
 /// The audit of a dump's LFTs for a topology.
 pub fn audited<'a>(alloc: Global, topology: &[u8], dump: &[u8]) -> Result<Audit, Stop<'a>>
-    ensures exact { EndsIn audit_ending (Err (audited topology.now dump.now)) result }
+    ensures exact { EndsIn audit_ending (ended (audited topology.now dump.now)) result }
     ensures fault { IfErr result IsOfRun }
 {
     match topo_file::read(alloc, topology) {
@@ -401,7 +406,7 @@ pub fn audited<'a>(alloc: Global, topology: &[u8], dump: &[u8]) -> Result<Audit,
 }
 
 fn audited_over<'a>(alloc: Global, plan: &Topology, dump: &[u8]) -> Result<Audit, Stop<'a>>
-    ensures exact { EndsIn audit_ending (Err (audited_by plan.now (dump_of dump.now))) result }
+    ensures exact { EndsIn audit_ending (ended (audited_by plan.now (dump_of dump.now))) result }
     ensures fault { IfErr result IsOfRun }
 {
     match dump_file::read(alloc, dump) {
@@ -411,7 +416,7 @@ fn audited_over<'a>(alloc: Global, plan: &Topology, dump: &[u8]) -> Result<Audit
 }
 
 fn topology_stop<'a>(fault: TopoFault) -> Stop<'a>
-    ensures told { result ≡ topology_stop fault }
+    ensures reported { result ≡ topology_stop fault }
     ensures fault { IsOfRun result }
 {
     match fault {
@@ -421,7 +426,7 @@ fn topology_stop<'a>(fault: TopoFault) -> Stop<'a>
 }
 
 fn dump_stop<'a>(fault: DumpFault) -> Stop<'a>
-    ensures told { result ≡ dump_stop fault }
+    ensures reported { result ≡ dump_stop fault }
     ensures fault { IsOfRun result }
 {
     match fault {

@@ -9,20 +9,33 @@ use crate::files::Files;
 use std::alloc::Global;
 use text_streams::read_to_end;
 
-/// The reader of a named file, which is opened once.
-pub fn open_file<'a, F: Files>(files: &mut F, name: &'a str) -> Result<F::Input, Stop<'a>>
+/// A file that is open, and that is read while it is carried out.
+#[derive(Drop)]
+pub struct OpenFile<'a, I> {
+    /// Its name.
+    pub name: &'a str,
+    /// Its reader; nothing of it is read yet.
+    pub input: I,
+}
+
+/// A named file, which is opened once.
+pub fn open_file<'a, F: Files>(
+    files: &mut F,
+    name: &'a str,
+) -> Result<OpenFile<'a, F::Input>, Stop<'a>>
     ensures opened { OpensAll (F.opened files.old) (F.opened files.new) (name.entry.now ∷ []) }
-    ensures same { F.told files.new ≡ F.told files.old }
+    ensures same { F.reported files.new ≡ F.reported files.old }
     ensures stays { F.reads files.new ≡ F.reads files.old }
-    ensures bytes { IfOk result (λ input. IfSome (F.told files.old)
-        (λ file. Some (F.Input.remaining input) ≡ option_map Some (file name.entry.now))) }
-    ensures sure { F.reads files.old ≡ true → IfOk result (λ input. F.Input.is_sure input ≡ true) }
+    ensures named { IfOk result (λ given. given.name ≡ name.entry) }
+    ensures bytes { IfOk result (λ given. IfSome (F.reported files.old)
+        (λ file. Some (F.Input.remaining given.input) ≡ option_map Some (file name.entry.now))) }
+    ensures sure { F.reads files.old ≡ true → IfOk result (λ given. F.Input.is_sure given.input ≡ true) }
     ensures fault { IfErr result IsOfFiles }
-    ensures unread { IfErr result (NamesUnread (F.told files.old) (F.reads files.old)
+    ensures unread { IfErr result (NamesUnread (F.reported files.old) (F.reads files.old)
         (F.opened files.old) (F.opened files.new) (name.entry.now ∷ [])) }
 {
     match files.open(name) {
-        Some(input) => Ok(input),
+        Some(input) => Ok(OpenFile { name, input }),
         None => Err(Stop::Unread(name)),
     }
 }
@@ -36,10 +49,10 @@ pub fn read_two<'a, F: Files>(
 ) -> Result<(Vec<u8>, Vec<u8>), Stop<'a>>
     ensures order { OpensInOrder (F.opened files.old) (F.opened files.new) (first.entry.now ∷ second.entry.now ∷ []) }
     ensures all { OnOk result (OpensAll (F.opened files.old) (F.opened files.new) (first.entry.now ∷ second.entry.now ∷ [])) }
-    ensures bytes { IfOk result (λ read. IfSome (F.told files.old)
+    ensures bytes { IfOk result (λ read. IfSome (F.reported files.old)
         (λ file. (file first.entry.now ≡ Some read.0.items) × (file second.entry.now ≡ Some read.1.items))) }
     ensures fault { IfErr result IsOfFiles }
-    ensures unread { IfErr result (NamesUnread (F.told files.old) (F.reads files.old)
+    ensures unread { IfErr result (NamesUnread (F.reported files.old) (F.reads files.old)
         (F.opened files.old) (F.opened files.new) (first.entry.now ∷ second.entry.now ∷ [])) }
 {
     let one = read_file(alloc, files, first)?;
@@ -54,12 +67,12 @@ pub fn read_file<'a, F: Files>(
     name: &'a str,
 ) -> Result<Vec<u8>, Stop<'a>>
     ensures opened { OpensAll (F.opened files.old) (F.opened files.new) (name.entry.now ∷ []) }
-    ensures same { F.told files.new ≡ F.told files.old }
+    ensures same { F.reported files.new ≡ F.reported files.old }
     ensures stays { F.reads files.new ≡ F.reads files.old }
-    ensures bytes { IfOk result (λ bytes. IfSome (F.told files.old)
+    ensures bytes { IfOk result (λ bytes. IfSome (F.reported files.old)
         (λ file. file name.entry.now ≡ Some bytes.items)) }
     ensures fault { IfErr result IsOfFiles }
-    ensures unread { IfErr result (NamesUnread (F.told files.old) (F.reads files.old)
+    ensures unread { IfErr result (NamesUnread (F.reported files.old) (F.reads files.old)
         (F.opened files.old) (F.opened files.new) (name.entry.now ∷ [])) }
 {
     let Some(mut input) = files.open(name) else {

@@ -3,12 +3,12 @@
 ghost use Rattle.std.specs.Prelude.{◌≡◌, ◌≢◌, ◌⊎◌, ◌∷◌, [], Ok, IfErr, IfSome};
 ghost use Rattle.std.specs.Io.KnownBytes.{Appends};
 ghost use Rattle.std.specs.Process.{exit_status};
-ghost use Rattle.call_words.specs.Words.{all_names, asked_by_given, asking, asking_by_clap, given_texts, names, opened_for};
-ghost use Rattle.call_words.specs.declared.call.Call.TheVariants.{Audit as ToAudit, Import as ToImport, Subnet as InSubnet};
+ghost use Rattle.cli_args.specs.Words.{all_names, asked_by_given, asking, asking_by_clap, given_texts, names, opened_for};
+ghost use Rattle.cli_args.specs.declared.call.Call.TheVariants.{Audit as ToAudit, Import as ToImport, Subnet as InSubnet};
 ghost use Rattle.fabric_cli.specs.Faults.{line_of, memory_line, status_of, NamesUnread};
 ghost use Rattle.fabric_cli.specs.Files.{OpensAll, OpensInOrder};
-ghost use Rattle.fabric_cli.specs.Serving.{judged_for, texts_of, Answers, AppendsSomeFor, EndsAs, EndsFor, ForSomeBytes};
-ghost use Rattle.fabric_cli.specs.Serving.{IsRefusedFor, IsTold, TellsStop};
+ghost use Rattle.fabric_cli.specs.Serving.{judged_for, judged_if_read, texts_of, Answers, AppendsSomeFor, EndsAs, EndsFor, ForSomeBytes};
+ghost use Rattle.fabric_cli.specs.Serving.{IsRefusedFor, IsReported, ReportsStop};
 ghost use Rattle.text_streams.specs.Writing.{Writes};
 
 use crate::answering::{Answer, answered_of_texts, written, written_audit};
@@ -17,7 +17,7 @@ use crate::files::Files;
 use crate::outputs::{audited, imported, text_or_stop};
 use crate::reading::{read_file, read_two};
 use crate::texts::read_texts;
-use call_words::{Asked, Call, Clap, Parser, given_words, read_words};
+use cli_args::{Asked, Call, Clap, Parser, given_words, read_words};
 use code_texts::explained;
 use std::alloc::Global;
 use std::env::Args;
@@ -37,17 +37,17 @@ pub fn serve_given<F: Files, O: Output, E: Output>(
     ensures order { OpensInOrder (F.opened files.old) (F.opened files.new) (opened_for (asked_by_given (given_texts given))) }
     ensures all { exit_status result ≢ 3
         → OpensAll (F.opened files.old) (F.opened files.new) (opened_for (asked_by_given (given_texts given))) }
-    ensures exact { exit_status result ≢ 3 → EndsFor (asked_by_given (given_texts given)) (F.told files.old) (exit_status result)
+    ensures exact { exit_status result ≢ 3 → EndsFor (asked_by_given (given_texts given)) (F.reported files.old) (exit_status result)
         (O.contents out.old) (O.contents out.new) (E.contents err.old) (E.contents err.new) }
     ensures any_files { exit_status result ≢ 3 → ForSomeBytes (asked_by_given (given_texts given)) (λ judged.
         EndsAs judged (exit_status result) (O.contents out.old) (O.contents out.new) (E.contents err.old) (E.contents err.new)) }
-    ensures refused { exit_status result ≡ 3 → IsRefusedFor (asked_by_given (given_texts given)) (F.told files.old) (F.reads files.old)
+    ensures refused { exit_status result ≡ 3 → IsRefusedFor (asked_by_given (given_texts given)) (F.reported files.old) (F.reads files.old)
         (F.opened files.old) (F.opened files.new) (O.is_sure out.old) (E.is_sure err.old) (E.contents err.old) (E.contents err.new) }
-    ensures short { AppendsSomeFor (asked_by_given (given_texts given)) (F.told files.old) (O.contents out.old) (O.contents out.new) }
+    ensures short { AppendsSomeFor (asked_by_given (given_texts given)) (F.reported files.old) (O.contents out.old) (O.contents out.new) }
 {
     match given_words(alloc, given) {
         Ok(words) => ExitCode::from(serve(alloc, words.as_slice(), files, out, err)),
-        Err(refused) => ExitCode::from(told_stop(alloc, &Stop::of_words(refused), err)),
+        Err(refused) => ExitCode::from(reported_stop(alloc, &Stop::of_words(refused), err)),
     }
 }
 
@@ -66,13 +66,13 @@ pub fn serve<F: Files, O: Output, E: Output>(
 ) -> u8
     ensures order { OpensInOrder (F.opened files.old) (F.opened files.new) (opened_for (asking_by_clap words.now)) }
     ensures all { result ≢ 3 → OpensAll (F.opened files.old) (F.opened files.new) (opened_for (asking_by_clap words.now)) }
-    ensures exact { result ≢ 3 → EndsFor (asking_by_clap words.now) (F.told files.old) result
+    ensures exact { result ≢ 3 → EndsFor (asking_by_clap words.now) (F.reported files.old) result
         (O.contents out.old) (O.contents out.new) (E.contents err.old) (E.contents err.new) }
     ensures any_files { result ≢ 3 → ForSomeBytes (asking_by_clap words.now) (λ judged.
         EndsAs judged result (O.contents out.old) (O.contents out.new) (E.contents err.old) (E.contents err.new)) }
-    ensures refused { result ≡ 3 → IsRefusedFor (asking_by_clap words.now) (F.told files.old) (F.reads files.old)
+    ensures refused { result ≡ 3 → IsRefusedFor (asking_by_clap words.now) (F.reported files.old) (F.reads files.old)
         (F.opened files.old) (F.opened files.new) (O.is_sure out.old) (E.is_sure err.old) (E.contents err.old) (E.contents err.new) }
-    ensures short { AppendsSomeFor (asking_by_clap words.now) (F.told files.old) (O.contents out.old) (O.contents out.new) }
+    ensures short { AppendsSomeFor (asking_by_clap words.now) (F.reported files.old) (O.contents out.old) (O.contents out.new) }
 {
     serve_by(alloc, &Clap, words, files, out, err)
 }
@@ -89,26 +89,26 @@ pub fn serve_by<P: Parser, F: Files, O: Output, E: Output>(
 ) -> u8
     ensures order { OpensInOrder (F.opened files.old) (F.opened files.new) (opened_for (asking (P.shown parser.now) words.now)) }
     ensures all { result ≢ 3 → OpensAll (F.opened files.old) (F.opened files.new) (opened_for (asking (P.shown parser.now) words.now)) }
-    ensures exact { result ≢ 3 → EndsFor (asking (P.shown parser.now) words.now) (F.told files.old) result
+    ensures exact { result ≢ 3 → EndsFor (asking (P.shown parser.now) words.now) (F.reported files.old) result
         (O.contents out.old) (O.contents out.new) (E.contents err.old) (E.contents err.new) }
     ensures any_files { result ≢ 3 → ForSomeBytes (asking (P.shown parser.now) words.now) (λ judged.
         EndsAs judged result (O.contents out.old) (O.contents out.new) (E.contents err.old) (E.contents err.new)) }
-    ensures refused { result ≡ 3 → IsRefusedFor (asking (P.shown parser.now) words.now) (F.told files.old) (F.reads files.old)
+    ensures refused { result ≡ 3 → IsRefusedFor (asking (P.shown parser.now) words.now) (F.reported files.old) (F.reads files.old)
         (F.opened files.old) (F.opened files.new) (O.is_sure out.old) (E.is_sure err.old) (E.contents err.old) (E.contents err.new) }
-    ensures short { AppendsSomeFor (asking (P.shown parser.now) words.now) (F.told files.old) (O.contents out.old) (O.contents out.new) }
+    ensures short { AppendsSomeFor (asking (P.shown parser.now) words.now) (F.reported files.old) (O.contents out.old) (O.contents out.new) }
 {
     match answered(alloc, parser, words, files, out) {
         Ok(answer) => answer.status(),
-        Err(stop) => told_stop(alloc, &stop, err),
+        Err(stop) => reported_stop(alloc, &stop, err),
     }
 }
 
 /// Writes the line of an error, and returns the exit status. If an allocation fails, it writes that line instead; if the
 /// whole line cannot be written, the status is that of output that cannot be written.
-fn told_stop<E: Output>(alloc: Global, stop: &Stop<'_>, err: &mut E) -> u8
+fn reported_stop<E: Output>(alloc: Global, stop: &Stop<'_>, err: &mut E) -> u8
     ensures whole { result ≢ 3
         → (result ≡ status_of stop.now) × Appends (E.contents err.old) (E.contents err.new) (line_of stop.now) }
-    ensures part { TellsStop stop.now result (E.is_sure err.old) (E.contents err.old) (E.contents err.new)
+    ensures part { ReportsStop stop.now result (E.is_sure err.old) (E.contents err.old) (E.contents err.new)
         ⊎ Writes (E.is_sure err.old) (E.contents err.old) (E.contents err.new) memory_line }
 {
     match stop.line(alloc) {
@@ -136,13 +136,13 @@ fn answered<'a, P: Parser, F: Files, O: Output>(
 ) -> Result<Answer, Stop<'a>>
     ensures order { OpensInOrder (F.opened files.old) (F.opened files.new)
         (opened_for (asking (P.shown parser.now) words.entry.now)) }
-    ensures all { IsTold result → OpensAll (F.opened files.old) (F.opened files.new)
+    ensures all { IsReported result → OpensAll (F.opened files.old) (F.opened files.new)
         (opened_for (asking (P.shown parser.now) words.entry.now)) }
-    ensures exact { IfSome (F.told files.old) (λ file. Answers (judged_for file (asking (P.shown parser.now) words.entry.now))
+    ensures exact { IfSome (F.reported files.old) (λ file. Answers (judged_for file (asking (P.shown parser.now) words.entry.now))
         result (O.is_sure out.old) (O.contents out.old) (O.contents out.new)) }
-    ensures any_files { IsTold result → ForSomeBytes (asking (P.shown parser.now) words.entry.now)
+    ensures any_files { IsReported result → ForSomeBytes (asking (P.shown parser.now) words.entry.now)
         (λ judged. Answers judged result (O.is_sure out.old) (O.contents out.old) (O.contents out.new)) }
-    ensures unread { IfErr result (NamesUnread (F.told files.old) (F.reads files.old) (F.opened files.old) (F.opened files.new)
+    ensures unread { IfErr result (NamesUnread (F.reported files.old) (F.reads files.old) (F.opened files.old) (F.opened files.new)
         (opened_for (asking (P.shown parser.now) words.entry.now))) }
 {
     match read_words(alloc, parser, words) {
@@ -170,11 +170,11 @@ fn answered_of_discovery<'a, F: Files, O: Output>(
     out: &mut O,
 ) -> Result<Answer, Stop<'a>>
     ensures opened { OpensAll (F.opened files.old) (F.opened files.new) (netdiscover.entry.now ∷ []) }
-    ensures exact { IfSome (F.told files.old) (λ file. Answers (judged_for file (Ok (ToImport netdiscover.entry.now manager))) result
+    ensures exact { IfSome (F.reported files.old) (λ file. Answers (judged_for file (Ok (ToImport netdiscover.entry.now manager))) result
         (O.is_sure out.old) (O.contents out.old) (O.contents out.new)) }
-    ensures any_files { IsTold result → ForSomeBytes (Ok (ToImport netdiscover.entry.now manager))
+    ensures any_files { IsReported result → ForSomeBytes (Ok (ToImport netdiscover.entry.now manager))
         (λ judged. Answers judged result (O.is_sure out.old) (O.contents out.old) (O.contents out.new)) }
-    ensures unread { IfErr result (NamesUnread (F.told files.old) (F.reads files.old)
+    ensures unread { IfErr result (NamesUnread (F.reported files.old) (F.reads files.old)
         (F.opened files.old) (F.opened files.new) (netdiscover.entry.now ∷ [])) }
 {
     match read_file(alloc, files, netdiscover) {
@@ -192,12 +192,12 @@ fn answered_of_dump<'a, F: Files, O: Output>(
     out: &mut O,
 ) -> Result<Answer, Stop<'a>>
     ensures order { OpensInOrder (F.opened files.old) (F.opened files.new) (topology.entry.now ∷ dump.entry.now ∷ []) }
-    ensures all { IsTold result → OpensAll (F.opened files.old) (F.opened files.new) (topology.entry.now ∷ dump.entry.now ∷ []) }
-    ensures exact { IfSome (F.told files.old) (λ file. Answers (judged_for file (Ok (ToAudit topology.entry.now dump.entry.now))) result
+    ensures all { IsReported result → OpensAll (F.opened files.old) (F.opened files.new) (topology.entry.now ∷ dump.entry.now ∷ []) }
+    ensures exact { IfSome (F.reported files.old) (λ file. Answers (judged_for file (Ok (ToAudit topology.entry.now dump.entry.now))) result
         (O.is_sure out.old) (O.contents out.old) (O.contents out.new)) }
-    ensures any_files { IsTold result → ForSomeBytes (Ok (ToAudit topology.entry.now dump.entry.now))
+    ensures any_files { IsReported result → ForSomeBytes (Ok (ToAudit topology.entry.now dump.entry.now))
         (λ judged. Answers judged result (O.is_sure out.old) (O.contents out.old) (O.contents out.new)) }
-    ensures unread { IfErr result (NamesUnread (F.told files.old) (F.reads files.old)
+    ensures unread { IfErr result (NamesUnread (F.reported files.old) (F.reads files.old)
         (F.opened files.old) (F.opened files.new) (topology.entry.now ∷ dump.entry.now ∷ [])) }
 {
     match read_two(alloc, files, topology, dump) {
@@ -218,12 +218,12 @@ fn answered_of_files<'a, F: Files, O: Output>(
     out: &mut O,
 ) -> Result<Answer, Stop<'a>>
     ensures order { OpensInOrder (F.opened files.old) (F.opened files.new) (all_names (names asked.now)) }
-    ensures all { IsTold result → OpensAll (F.opened files.old) (F.opened files.new) (all_names (names asked.now)) }
-    ensures exact { IfSome (F.told files.old) (λ file. Answers (texts_of file (names asked.now)) result
+    ensures all { IsReported result → OpensAll (F.opened files.old) (F.opened files.new) (all_names (names asked.now)) }
+    ensures exact { IfSome (F.reported files.old) (λ file. Answers (judged_if_read (texts_of file (names asked.now))) result
         (O.is_sure out.old) (O.contents out.old) (O.contents out.new)) }
-    ensures any_files { IsTold result → ForSomeBytes (Ok (InSubnet (names asked.now)))
+    ensures any_files { IsReported result → ForSomeBytes (Ok (InSubnet (names asked.now)))
         (λ judged. Answers judged result (O.is_sure out.old) (O.contents out.old) (O.contents out.new)) }
-    ensures unread { IfErr result (NamesUnread (F.told files.old) (F.reads files.old)
+    ensures unread { IfErr result (NamesUnread (F.reported files.old) (F.reads files.old)
         (F.opened files.old) (F.opened files.new) (all_names (names asked.now))) }
 {
     match read_texts(alloc, asked, files) {

@@ -11,12 +11,12 @@ use Rattle.std.proofs.lemmas.Map.Keys.{IsDistinct-tail}
 use Rattle.std.proofs.lemmas.Option.{same_Some, slice_get-map, slice_get_within}
 use Rattle.fabric_graph.proofs.DrawnLemmas.{and_both, clashing, listed_is, one_in_range, only}
 use Rattle.fabric_graph.specs.Laws.{EachCableIsDrawnOnce, shows_cable}
-use Rattle.fabric_graph.specs.Lists.{SeatState, is_in_list, is_listed, listed_seat, may_be_listed, places, seat_at, seat_behind, seat_in, seat_of, seats_of}
+use Rattle.fabric_graph.specs.Lists.{AttachmentState, is_in_list, is_listed, listed_attachment, may_be_listed, places, attachment_at, attachment_behind, attachment_in, attachment_of, attachments_of}
 use Rattle.fabric_parts.specs.Cable.{ends_at, far_end, is_same_port, port}
 use Rattle.fabric_parts.specs.declared.cable.Cable.{Cable}
 use Rattle.fabric_parts.specs.declared.cable.PortRef.{PortRef}
-use Rattle.result_words.proofs.DistinctLemmas.{none_shares}
-use Rattle.result_words.proofs.ListLemmas.{all_there, range_at}
+use Rattle.step_results.proofs.DistinctLemmas.{none_shares}
+use Rattle.step_results.proofs.ListLemmas.{all_there, range_at}
 use Rattle.subnet_model.specs.Configuration.{ConfigurationState}
 use Rattle.topo_file.specs.Node.{is_switch, is_switch_at, ports_at}
 use Rattle.topo_file.specs.Sound.{AreSound, ends_at_ports, is_port, joins_right, shares_port}
@@ -77,29 +77,29 @@ found_at (c ∷ cs) (suc k) cable at own there ends = elim (cases_Bool (ends_at 
 ]
 
 -- ---- what is so of a node that stands in a list
-pub record IsListedNode (plan : TopologyState) (subnet : ConfigurationState) (place : ℕ) (seat : SeatState) : Type 0 where
+pub record IsListedNode (plan : TopologyState) (subnet : ConfigurationState) (place : ℕ) (attachment : AttachmentState) : Type 0 where
   pub low : place < length plan.nodes
   pub adapter : is_switch_at plan.nodes place ≡ false
   pub one_port : ports_at plan.nodes place ≡ 1
   pub far : PortRef
   pub far_is : far_end plan.cables (port place 1) ≡ Some far
-  pub switch_is : seat.switch ≡ far.node
-  pub port_is : seat.port ≡ far.port
+  pub switch_is : attachment.switch ≡ far.node
+  pub port_is : attachment.port ≡ far.port
 
 not_true : (b : Bool) → not b ≡ true → b ≡ false
 not_true true e = absurd (clashing (sym e))
 not_true false e = refl
 
 module _ (plan : TopologyState) (subnet : ConfigurationState) where
-  abbrev seats : List (Option SeatState)
-  seats = seats_of plan subnet
+  abbrev attachments : List (Option AttachmentState)
+  attachments = attachments_of plan subnet
 
-  of_far : (place : ℕ) (node : Node) (seat : SeatState) → place < length plan.nodes → slice_get plan.nodes place ≡ Some node
+  of_far : (place : ℕ) (node : Node) (attachment : AttachmentState) → place < length plan.nodes → slice_get plan.nodes place ≡ Some node
       → may_be_listed plan node ≡ true → (far : Option PortRef) → far_end plan.cables (port place 1) ≡ far
-      → option_map (seat_behind subnet node) far ≡ Some seat → IsListedNode plan subnet place seat
-  of_far place node seat low at may None e is = absurd cc
-  of_far place node seat low at may (Some far) e is =
-      let same : seat_behind subnet node far ≡ seat = cc in
+      → option_map (attachment_behind subnet node) far ≡ Some attachment → IsListedNode plan subnet place attachment
+  of_far place node attachment low at may None e is = absurd cc
+  of_far place node attachment low at may (Some far) e is =
+      let same : attachment_behind subnet node far ≡ attachment = cc in
       let parts = and_both (not (is_switch node)) _ may in
       let ports = and_both (node.ports == 1) _ parts.1 in
       record {
@@ -108,35 +108,35 @@ module _ (plan : TopologyState) (subnet : ConfigurationState) where
         one_port = rw at (eqb-true node.ports 1 ports.0);
         far = far;
         far_is = e;
-        switch_is = ap (λ (s : SeatState). s.switch) (sym same);
-        port_is = ap (λ (s : SeatState). s.port) (sym same);
+        switch_is = ap (λ (s : AttachmentState). s.switch) (sym same);
+        port_is = ap (λ (s : AttachmentState). s.port) (sym same);
       }
 
-  of_node : (place : ℕ) (seat : SeatState) → place < length plan.nodes → (node : Option Node) → slice_get plan.nodes place ≡ node
-      → option_and_then (seat_of plan subnet place) node ≡ Some seat → IsListedNode plan subnet place seat
-  of_node place seat low None at is = absurd cc
-  of_node place seat low (Some node) at is = by (may_be_listed plan node) refl
+  of_node : (place : ℕ) (attachment : AttachmentState) → place < length plan.nodes → (node : Option Node) → slice_get plan.nodes place ≡ node
+      → option_and_then (attachment_of plan subnet place) node ≡ Some attachment → IsListedNode plan subnet place attachment
+  of_node place attachment low None at is = absurd cc
+  of_node place attachment low (Some node) at is = by (may_be_listed plan node) refl
     where
-      by : (b : Bool) → may_be_listed plan node ≡ b → IsListedNode plan subnet place seat
-      by true may = of_far place node seat low at may (far_end plan.cables (port place 1)) refl (sym (rw may refl) ∙ is)
+      by : (b : Bool) → may_be_listed plan node ≡ b → IsListedNode plan subnet place attachment
+      by true may = of_far place node attachment low at may (far_end plan.cables (port place 1)) refl (sym (rw may refl) ∙ is)
       by false may = absurd (none (sym (rw may refl) ∙ is))
         where
-          none : None ≡ Some seat → ⊥
+          none : None ≡ Some attachment → ⊥
           none e = cc
 
-  seat_is : (place : ℕ) → seat_in seats place ≡ option_and_then (λ seat. seat) (option_map (seat_at plan subnet) (slice_get (range_with_len 0 (length plan.nodes)) place))
-  seat_is place = ap (option_and_then (λ (seat : Option SeatState). seat)) (slice_get-map (seat_at plan subnet) (range_with_len 0 (length plan.nodes)) place)
+  attachment_is : (place : ℕ) → attachment_in attachments place ≡ option_and_then (λ attachment. attachment) (option_map (attachment_at plan subnet) (slice_get (range_with_len 0 (length plan.nodes)) place))
+  attachment_is place = ap (option_and_then (λ (attachment : Option AttachmentState). attachment)) (slice_get-map (attachment_at plan subnet) (range_with_len 0 (length plan.nodes)) place)
 
-  listed_node : (place : ℕ) (seat : SeatState) → listed_seat seats place ≡ Some seat → IsListedNode plan subnet place seat
-  listed_node place seat listed = by (slice_get (range_with_len 0 (length plan.nodes)) place) refl
+  listed_node : (place : ℕ) (attachment : AttachmentState) → listed_attachment attachments place ≡ Some attachment → IsListedNode plan subnet place attachment
+  listed_node place attachment listed = by (slice_get (range_with_len 0 (length plan.nodes)) place) refl
     where
-      has : option_and_then (λ s. s) (option_map (seat_at plan subnet) (slice_get (range_with_len 0 (length plan.nodes)) place)) ≡ Some seat
-      has = sym (seat_is place) ∙ (listed_is seats place seat listed).0
+      has : option_and_then (λ s. s) (option_map (attachment_at plan subnet) (slice_get (range_with_len 0 (length plan.nodes)) place)) ≡ Some attachment
+      has = sym (attachment_is place) ∙ (listed_is attachments place attachment listed).0
 
-      none : None ≡ Some seat → ⊥
+      none : None ≡ Some attachment → ⊥
       none e = cc
 
-      by : (given : Option ℕ) → slice_get (range_with_len 0 (length plan.nodes)) place ≡ given → IsListedNode plan subnet place seat
+      by : (given : Option ℕ) → slice_get (range_with_len 0 (length plan.nodes)) place ≡ given → IsListedNode plan subnet place attachment
       by None e = absurd (none (sym (rw e refl) ∙ has))
       by (Some k) e =
           let long = length-range_with_len 0 (length plan.nodes) in
@@ -144,7 +144,7 @@ module _ (plan : TopologyState) (subnet : ConfigurationState) where
           let low : place < length plan.nodes = omega (arith, long, within) in
           let there : k ≡ 0 + place = same_Some k (0 + place) (sym e ∙ range_at 0 (length plan.nodes) place low) in
           let here : k ≡ place = omega (arith, there) in
-          of_node place seat low (slice_get plan.nodes place) refl (ap (seat_at plan subnet) (sym here) ∙ sym (rw e refl) ∙ has)
+          of_node place attachment low (slice_get plan.nodes place) refl (ap (attachment_at plan subnet) (sym here) ∙ sym (rw e refl) ∙ has)
 
   module _ (k : ℕ) (cable : Cable) (sound : AreSound plan.nodes plan.cables) (there : slice_get plan.cables k ≡ Some cable) where
     ports_right : ends_at_ports plan.nodes cable ≡ true
@@ -165,9 +165,9 @@ module _ (plan : TopologyState) (subnet : ConfigurationState) where
         ap (port end.node) (omega (arith, low, high, one))
 
     -- ---- the line of a listed node at the cable
-    shown_first : (place : ℕ) (seat : SeatState) → cable.first.node ≡ place → listed_seat seats place ≡ Some seat → shows_cable seats cable place ≡ true
-    shown_first place seat at listed =
-        let is = listed_node place seat listed in
+    shown_first : (place : ℕ) (attachment : AttachmentState) → cable.first.node ≡ place → listed_attachment attachments place ≡ Some attachment → shows_cable attachments cable place ≡ true
+    shown_first place attachment at listed =
+        let is = listed_node place attachment listed in
         let first : cable.first ≡ port place 1 =
         first_port cable.first (and_both (is_port plan.nodes cable.first) _ ports_right).0 (ap (ports_at plan.nodes) at ∙ is.one_port) ∙ ap (λ (n : ℕ). port n 1) at in
         let same = port_same cable.first (port place 1) first in
@@ -175,15 +175,15 @@ module _ (plan : TopologyState) (subnet : ConfigurationState) where
         let found = found_at plan.cables k cable (port place 1) sound.own_ports there ends in
         let far : far_end plan.cables (port place 1) ≡ Some cable.second = rw (found, same) refl in
         let far_is : is.far ≡ cable.second = same_some (sym is.far_is ∙ far) in
-        let second : cable.second ≡ port seat.switch seat.port = sym far_is ∙ ap₂ port (sym is.switch_is) (sym is.port_is) in
-        rw listed (or_left _ _ (and_of _ _ same (port_same cable.second (port seat.switch seat.port) second)))
+        let second : cable.second ≡ port attachment.switch attachment.port = sym far_is ∙ ap₂ port (sym is.switch_is) (sym is.port_is) in
+        rw listed (or_left _ _ (and_of _ _ same (port_same cable.second (port attachment.switch attachment.port) second)))
       where
         same_some : {a b : PortRef} → Some a ≡ Some b → a ≡ b
         same_some e = cc
 
-    shown_second : (place : ℕ) (seat : SeatState) → cable.second.node ≡ place → listed_seat seats place ≡ Some seat → shows_cable seats cable place ≡ true
-    shown_second place seat at listed =
-        let is = listed_node place seat listed in
+    shown_second : (place : ℕ) (attachment : AttachmentState) → cable.second.node ≡ place → listed_attachment attachments place ≡ Some attachment → shows_cable attachments cable place ≡ true
+    shown_second place attachment at listed =
+        let is = listed_node place attachment listed in
         let second : cable.second ≡ port place 1 =
         first_port cable.second (and_both (is_port plan.nodes cable.first) _ ports_right).1 (ap (ports_at plan.nodes) at ∙ is.one_port) ∙ ap (λ (n : ℕ). port n 1) at in
         let same = port_same cable.second (port place 1) second in
@@ -193,48 +193,48 @@ module _ (plan : TopologyState) (subnet : ConfigurationState) where
         let differ : is_same_port cable.first (port place 1) ≡ false = rw elsewhere refl in
         let far : far_end plan.cables (port place 1) ≡ Some cable.first = rw (found, differ) refl in
         let far_is : is.far ≡ cable.first = same_some (sym is.far_is ∙ far) in
-        let first : cable.first ≡ port seat.switch seat.port = sym far_is ∙ ap₂ port (sym is.switch_is) (sym is.port_is) in
-        rw listed (or_right (is_same_port cable.first (port place 1) && is_same_port cable.second (port seat.switch seat.port)) _
-        (and_of _ _ (port_same cable.first (port seat.switch seat.port) first) same))
+        let first : cable.first ≡ port attachment.switch attachment.port = sym far_is ∙ ap₂ port (sym is.switch_is) (sym is.port_is) in
+        rw listed (or_right (is_same_port cable.first (port place 1) && is_same_port cable.second (port attachment.switch attachment.port)) _
+        (and_of _ _ (port_same cable.first (port attachment.switch attachment.port) first) same))
       where
         same_some : {a b : PortRef} → Some a ≡ Some b → a ≡ b
         same_some e = cc
 
     -- ---- a line that shows the cable is one of its ends'
-    shows_end : (place : ℕ) → shows_cable seats cable place ≡ true
-        → ((cable.first.node ≡ place) ⊎ (cable.second.node ≡ place)) × ((seat : SeatState) × (listed_seat seats place ≡ Some seat))
-    shows_end place shows = by (listed_seat seats place) refl
+    shows_end : (place : ℕ) → shows_cable attachments cable place ≡ true
+        → ((cable.first.node ≡ place) ⊎ (cable.second.node ≡ place)) × ((attachment : AttachmentState) × (listed_attachment attachments place ≡ Some attachment))
+    shows_end place shows = by (listed_attachment attachments place) refl
       where
         Ends : Type 0
-        Ends = ((cable.first.node ≡ place) ⊎ (cable.second.node ≡ place)) × ((seat : SeatState) × (listed_seat seats place ≡ Some seat))
+        Ends = ((cable.first.node ≡ place) ⊎ (cable.second.node ≡ place)) × ((attachment : AttachmentState) × (listed_attachment attachments place ≡ Some attachment))
 
-        by_end : (seat : SeatState) → listed_seat seats place ≡ Some seat
-            → (is_same_port cable.first (port place 1) && is_same_port cable.second (port seat.switch seat.port) ≡ true)
-            ⊎ (is_same_port cable.first (port seat.switch seat.port) && is_same_port cable.second (port place 1) ≡ true)
-            → ((cable.first.node ≡ place) ⊎ (cable.second.node ≡ place)) × ((seat : SeatState) × (listed_seat seats place ≡ Some seat))
-        by_end seat e (inl both) =
-            (inl (ap (λ (p : PortRef). p.node) (same_port cable.first (port place 1) (and_both (is_same_port cable.first (port place 1)) _ both).0)), (seat, e))
-        by_end seat e (inr both) =
-            (inr (ap (λ (p : PortRef). p.node) (same_port cable.second (port place 1) (and_both (is_same_port cable.first (port seat.switch seat.port)) _ both).1)), (seat, e))
+        by_end : (attachment : AttachmentState) → listed_attachment attachments place ≡ Some attachment
+            → (is_same_port cable.first (port place 1) && is_same_port cable.second (port attachment.switch attachment.port) ≡ true)
+            ⊎ (is_same_port cable.first (port attachment.switch attachment.port) && is_same_port cable.second (port place 1) ≡ true)
+            → ((cable.first.node ≡ place) ⊎ (cable.second.node ≡ place)) × ((attachment : AttachmentState) × (listed_attachment attachments place ≡ Some attachment))
+        by_end attachment e (inl both) =
+            (inl (ap (λ (p : PortRef). p.node) (same_port cable.first (port place 1) (and_both (is_same_port cable.first (port place 1)) _ both).0)), (attachment, e))
+        by_end attachment e (inr both) =
+            (inr (ap (λ (p : PortRef). p.node) (same_port cable.second (port place 1) (and_both (is_same_port cable.first (port attachment.switch attachment.port)) _ both).1)), (attachment, e))
 
-        by : (given : Option SeatState) → listed_seat seats place ≡ given
-            → ((cable.first.node ≡ place) ⊎ (cable.second.node ≡ place)) × ((seat : SeatState) × (listed_seat seats place ≡ Some seat))
+        by : (given : Option AttachmentState) → listed_attachment attachments place ≡ given
+            → ((cable.first.node ≡ place) ⊎ (cable.second.node ≡ place)) × ((attachment : AttachmentState) × (listed_attachment attachments place ≡ Some attachment))
         by None e = absurd (clashing (sym shows ∙ rw e refl))
-        by (Some seat) e = by_end seat e (or_both _ _ (sym (rw e refl) ∙ shows))
+        by (Some attachment) e = by_end attachment e (or_both _ _ (sym (rw e refl) ∙ shows))
 
     -- not both ends of a cable stand in lists
-    one_listed : (one other : SeatState) → listed_seat seats cable.first.node ≡ Some one → listed_seat seats cable.second.node ≡ Some other → ⊥
+    one_listed : (one other : AttachmentState) → listed_attachment attachments cable.first.node ≡ Some one → listed_attachment attachments cable.second.node ≡ Some other → ⊥
     one_listed one other first second =
         let a = (listed_node cable.first.node one first).adapter in
         let b = (listed_node cable.second.node other second).adapter in
         clashing (sym (and_both (not (cable.first.node == cable.second.node)) _ joined_right).1 ∙ rw (a, b) refl)
 
-    listed_some : (place : ℕ) → is_listed seats place ≡ true → (seat : SeatState) × (listed_seat seats place ≡ Some seat)
-    listed_some place is = by (listed_seat seats place) refl
+    listed_some : (place : ℕ) → is_listed attachments place ≡ true → (attachment : AttachmentState) × (listed_attachment attachments place ≡ Some attachment)
+    listed_some place is = by (listed_attachment attachments place) refl
       where
-        by : (given : Option SeatState) → listed_seat seats place ≡ given → (seat : SeatState) × (listed_seat seats place ≡ Some seat)
+        by : (given : Option AttachmentState) → listed_attachment attachments place ≡ given → (attachment : AttachmentState) × (listed_attachment attachments place ≡ Some attachment)
         by None e = absurd (clashing (sym is ∙ rw e refl))
-        by (Some seat) e = (seat, e)
+        by (Some attachment) e = (attachment, e)
 
     -- ---- how many lines show the cable
     none_kept : (test : ℕ → Bool) → ((place : ℕ) → test place ≡ false) → (xs : List ℕ) → filter test xs ≡ []
@@ -245,63 +245,63 @@ module _ (plan : TopologyState) (subnet : ConfigurationState) where
     same_kept test other same [] = refl
     same_kept test other same (x ∷ xs) = rw (same x, same_kept test other same xs) refl
 
-    one_line : (place : ℕ) → place < length plan.nodes → shows_cable seats cable place ≡ true
-        → ((other : ℕ) → shows_cable seats cable other ≡ true → other ≡ place) → length (filter (shows_cable seats cable) (places seats)) ≡ 1
+    one_line : (place : ℕ) → place < length plan.nodes → shows_cable attachments cable place ≡ true
+        → ((other : ℕ) → shows_cable attachments cable other ≡ true → other ≡ place) → length (filter (shows_cable attachments cable) (places attachments)) ≡ 1
     one_line place low shows alone =
-        let long : length seats ≡ length plan.nodes = length-map (range_with_len 0 (length plan.nodes)) (seat_at plan subnet) ∙ length-range_with_len 0 (length plan.nodes) in
-        ap length (same_kept (shows_cable seats cable) (only place) same (places seats) ∙ one_in_range place 0 (length seats) (omega arith) (omega (arith, long, low)))
+        let long : length attachments ≡ length plan.nodes = length-map (range_with_len 0 (length plan.nodes)) (attachment_at plan subnet) ∙ length-range_with_len 0 (length plan.nodes) in
+        ap length (same_kept (shows_cable attachments cable) (only place) same (places attachments) ∙ one_in_range place 0 (length attachments) (omega arith) (omega (arith, long, low)))
       where
-        same : (other : ℕ) → shows_cable seats cable other ≡ (other == place)
-        same other = by (shows_cable seats cable other) refl (other == place) refl
+        same : (other : ℕ) → shows_cable attachments cable other ≡ (other == place)
+        same other = by (shows_cable attachments cable other) refl (other == place) refl
           where
-            by : (b : Bool) → shows_cable seats cable other ≡ b → (c : Bool) → (other == place) ≡ c → b ≡ c
+            by : (b : Bool) → shows_cable attachments cable other ≡ b → (c : Bool) → (other == place) ≡ c → b ≡ c
             by true e true f = refl
             by true e false f = absurd (clashing (sym (eq-eqb other place (alone other e)) ∙ f))
-            by false e true f = absurd (clashing (sym shows ∙ ap (shows_cable seats cable) (sym (eqb-true other place f)) ∙ e))
+            by false e true f = absurd (clashing (sym shows ∙ ap (shows_cable attachments cable) (sym (eqb-true other place f)) ∙ e))
             by false e false f = refl
 
-    at_first : is_listed seats cable.first.node ≡ true → length (filter (shows_cable seats cable) (places seats)) ≡ 1
+    at_first : is_listed attachments cable.first.node ≡ true → length (filter (shows_cable attachments cable) (places attachments)) ≡ 1
     at_first is =
         let own = listed_some cable.first.node is in
         one_line cable.first.node (listed_node cable.first.node own.0 own.1).low (shown_first cable.first.node own.0 refl own.1)
         (λ other shows. by other own.0 own.1 (shows_end other shows))
       where
-        by : (other : ℕ) (seat : SeatState) → listed_seat seats cable.first.node ≡ Some seat
-            → ((cable.first.node ≡ other) ⊎ (cable.second.node ≡ other)) × ((seat : SeatState) × (listed_seat seats other ≡ Some seat)) → other ≡ cable.first.node
-        by other seat e (inl first, more) = sym first
-        by other seat e (inr second, more) = absurd (one_listed seat more.0 e (ap (listed_seat seats) second ∙ more.1))
+        by : (other : ℕ) (attachment : AttachmentState) → listed_attachment attachments cable.first.node ≡ Some attachment
+            → ((cable.first.node ≡ other) ⊎ (cable.second.node ≡ other)) × ((attachment : AttachmentState) × (listed_attachment attachments other ≡ Some attachment)) → other ≡ cable.first.node
+        by other attachment e (inl first, more) = sym first
+        by other attachment e (inr second, more) = absurd (one_listed attachment more.0 e (ap (listed_attachment attachments) second ∙ more.1))
 
-    at_second : is_listed seats cable.second.node ≡ true → length (filter (shows_cable seats cable) (places seats)) ≡ 1
+    at_second : is_listed attachments cable.second.node ≡ true → length (filter (shows_cable attachments cable) (places attachments)) ≡ 1
     at_second is =
         let own = listed_some cable.second.node is in
         one_line cable.second.node (listed_node cable.second.node own.0 own.1).low (shown_second cable.second.node own.0 refl own.1)
         (λ other shows. by other own.0 own.1 (shows_end other shows))
       where
-        by : (other : ℕ) (seat : SeatState) → listed_seat seats cable.second.node ≡ Some seat
-            → ((cable.first.node ≡ other) ⊎ (cable.second.node ≡ other)) × ((seat : SeatState) × (listed_seat seats other ≡ Some seat)) → other ≡ cable.second.node
-        by other seat e (inl first, more) = absurd (one_listed more.0 seat (ap (listed_seat seats) first ∙ more.1) e)
-        by other seat e (inr second, more) = sym second
+        by : (other : ℕ) (attachment : AttachmentState) → listed_attachment attachments cable.second.node ≡ Some attachment
+            → ((cable.first.node ≡ other) ⊎ (cable.second.node ≡ other)) × ((attachment : AttachmentState) × (listed_attachment attachments other ≡ Some attachment)) → other ≡ cable.second.node
+        by other attachment e (inl first, more) = absurd (one_listed more.0 attachment (ap (listed_attachment attachments) first ∙ more.1) e)
+        by other attachment e (inr second, more) = sym second
 
-    at_none : is_listed seats cable.first.node ≡ false → is_listed seats cable.second.node ≡ false
-        → length (filter (shows_cable seats cable) (places seats)) ≡ 0
-    at_none first second = ap length (none_kept (shows_cable seats cable) none (places seats))
+    at_none : is_listed attachments cable.first.node ≡ false → is_listed attachments cable.second.node ≡ false
+        → length (filter (shows_cable attachments cable) (places attachments)) ≡ 0
+    at_none first second = ap length (none_kept (shows_cable attachments cable) none (places attachments))
       where
-        elsewhere : (place : ℕ) → ((cable.first.node ≡ place) ⊎ (cable.second.node ≡ place)) × ((seat : SeatState) × (listed_seat seats place ≡ Some seat)) → ⊥
-        elsewhere place (inl at, more) = clashing (sym (rw more.1 refl) ∙ ap (is_listed seats) (sym at) ∙ first)
-        elsewhere place (inr at, more) = clashing (sym (rw more.1 refl) ∙ ap (is_listed seats) (sym at) ∙ second)
+        elsewhere : (place : ℕ) → ((cable.first.node ≡ place) ⊎ (cable.second.node ≡ place)) × ((attachment : AttachmentState) × (listed_attachment attachments place ≡ Some attachment)) → ⊥
+        elsewhere place (inl at, more) = clashing (sym (rw more.1 refl) ∙ ap (is_listed attachments) (sym at) ∙ first)
+        elsewhere place (inr at, more) = clashing (sym (rw more.1 refl) ∙ ap (is_listed attachments) (sym at) ∙ second)
 
-        none : (place : ℕ) → shows_cable seats cable place ≡ false
-        none place = by (shows_cable seats cable place) refl
+        none : (place : ℕ) → shows_cable attachments cable place ≡ false
+        none place = by (shows_cable attachments cable place) refl
           where
-            by : (b : Bool) → shows_cable seats cable place ≡ b → b ≡ false
+            by : (b : Bool) → shows_cable attachments cable place ≡ b → b ≡ false
             by true e = absurd (elsewhere place (shows_end place e))
             by false e = refl
 
 pub each_cable_is_drawn_once : EachCableIsDrawnOnce
-each_cable_is_drawn_once plan subnet k cable sound there = by (is_listed (seats_of plan subnet) cable.first.node) refl (is_listed (seats_of plan subnet) cable.second.node) refl
+each_cable_is_drawn_once plan subnet k cable sound there = by (is_listed (attachments_of plan subnet) cable.first.node) refl (is_listed (attachments_of plan subnet) cable.second.node) refl
   where
-    by : (a : Bool) → is_listed (seats_of plan subnet) cable.first.node ≡ a → (b : Bool) → is_listed (seats_of plan subnet) cable.second.node ≡ b
-        → length (filter (shows_cable (seats_of plan subnet) cable) (places (seats_of plan subnet))) ≡ (if is_in_list (seats_of plan subnet) cable then 1 else 0)
+    by : (a : Bool) → is_listed (attachments_of plan subnet) cable.first.node ≡ a → (b : Bool) → is_listed (attachments_of plan subnet) cable.second.node ≡ b
+        → length (filter (shows_cable (attachments_of plan subnet) cable) (places (attachments_of plan subnet))) ≡ (if is_in_list (attachments_of plan subnet) cable then 1 else 0)
     by true e b f = at_first plan subnet k cable sound there e ∙ sym (rw e refl)
     by false e true f = at_second plan subnet k cable sound there f ∙ sym (rw (e, f) refl)
     by false e false f = at_none plan subnet k cable sound there e f ∙ sym (rw (e, f) refl)

@@ -9,8 +9,8 @@ use Rattle.std.proofs.lemmas.Bool.{cases_Bool, eq-eqb, eqb-true}
 use Rattle.std.proofs.lemmas.List.Concat.{flat_map-cons}
 use Rattle.std.proofs.lemmas.List.Elements.{filter-append}
 use Rattle.fabric_graph.specs.Laws.{EachNodeIsDrawnOnce}
-use Rattle.fabric_graph.specs.Lists.{SeatState, drawn_at, if_listed, is_alike, is_beside, is_first, listed_seat, make_list, members, places, seat_in}
-use Rattle.result_words.proofs.ListLemmas.{found_passes}
+use Rattle.fabric_graph.specs.Lists.{AttachmentState, drawn_at, if_listed, is_alike, is_beside, is_first, listed_attachment, make_list, members, places, attachment_in}
+use Rattle.step_results.proofs.ListLemmas.{found_passes}
 
 -- ---- one number among others
 abbrev pub only : ℕ → ℕ → Bool
@@ -91,90 +91,90 @@ module _ (f : ℕ → List ℕ) (place lead : ℕ) (each : (at : ℕ) → filter
     | inr e ↦ rw e (one_in_flat (a + 1) n (after a lead low (differs a lead e)) (omega (arith, high)))
   ]
 
--- ---- seats that are alike
+-- ---- attachments that are alike
 pub and_both : (a b : Bool) → a && b ≡ true → (a ≡ true) × (b ≡ true)
 and_both true true e = (refl, refl)
 and_both true false e = absurd (clashing (sym e))
 and_both false b e = absurd (clashing (sym e))
 
 -- they are the same switch and the same partitions
-alike_same : (switch : ℕ) (partitions : List ℕ) (seat : SeatState) → is_alike switch partitions seat ≡ true
-    → (seat.switch ≡ switch) × (seat.partitions ≡ partitions)
-alike_same switch partitions seat is =
-    let parts = and_both (seat.switch == switch) (bytes_eq seat.partitions partitions) is in
-    (eqb-true seat.switch switch parts.0, (bytes_eq-Decides seat.partitions partitions).0 parts.1)
+alike_same : (switch : ℕ) (partitions : List ℕ) (attachment : AttachmentState) → is_alike switch partitions attachment ≡ true
+    → (attachment.switch ≡ switch) × (attachment.partitions ≡ partitions)
+alike_same switch partitions attachment is =
+    let parts = and_both (attachment.switch == switch) (bytes_eq attachment.partitions partitions) is in
+    (eqb-true attachment.switch switch parts.0, (bytes_eq-Decides attachment.partitions partitions).0 parts.1)
 
-own_alike : (seat : SeatState) → is_alike seat.switch seat.partitions seat ≡ true
-own_alike seat = rw (eq-eqb seat.switch seat.switch refl, (bytes_eq-Decides seat.partitions seat.partitions).1 refl) refl
+own_alike : (attachment : AttachmentState) → is_alike attachment.switch attachment.partitions attachment ≡ true
+own_alike attachment = rw (eq-eqb attachment.switch attachment.switch refl, (bytes_eq-Decides attachment.partitions attachment.partitions).1 refl) refl
 
-module _ (seats : List (Option SeatState)) where
-  -- a place beside a seat has a seat that is alike
-  beside_seat : (switch : ℕ) (partitions : List ℕ) (place : ℕ) → is_beside seats switch partitions place ≡ true
-      → (seat : SeatState) × (seat_in seats place ≡ Some seat) × (seat.switch ≡ switch) × (seat.partitions ≡ partitions)
-  beside_seat switch partitions place is = by (seat_in seats place) refl
+module _ (attachments : List (Option AttachmentState)) where
+  -- a place beside a attachment has a attachment that is alike
+  beside_attachment : (switch : ℕ) (partitions : List ℕ) (place : ℕ) → is_beside attachments switch partitions place ≡ true
+      → (attachment : AttachmentState) × (attachment_in attachments place ≡ Some attachment) × (attachment.switch ≡ switch) × (attachment.partitions ≡ partitions)
+  beside_attachment switch partitions place is = by (attachment_in attachments place) refl
     where
-      by : (given : Option SeatState) → seat_in seats place ≡ given
-          → (seat : SeatState) × (seat_in seats place ≡ Some seat) × (seat.switch ≡ switch) × (seat.partitions ≡ partitions)
+      by : (given : Option AttachmentState) → attachment_in attachments place ≡ given
+          → (attachment : AttachmentState) × (attachment_in attachments place ≡ Some attachment) × (attachment.switch ≡ switch) × (attachment.partitions ≡ partitions)
       by None e = absurd (clashing (sym is ∙ rw e refl))
-      by (Some seat) e = let alike = alike_same switch partitions seat (sym (rw e refl) ∙ is) in (seat, e, alike.0, alike.1)
+      by (Some attachment) e = let alike = alike_same switch partitions attachment (sym (rw e refl) ∙ is) in (attachment, e, alike.0, alike.1)
 
-  beside_own : (place : ℕ) (seat : SeatState) → seat_in seats place ≡ Some seat → is_beside seats seat.switch seat.partitions place ≡ true
-  beside_own place seat at = rw at (own_alike seat)
+  beside_own : (place : ℕ) (attachment : AttachmentState) → attachment_in attachments place ≡ Some attachment → is_beside attachments attachment.switch attachment.partitions place ≡ true
+  beside_own place attachment at = rw at (own_alike attachment)
 
-  -- whether a seat's list is long enough says the same of all in it
-  listed_by : (place : ℕ) (seat : SeatState) → seat_in seats place ≡ Some seat → make_list seats seat ≡ true → listed_seat seats place ≡ Some seat
-  listed_by place seat at enough = rw (at, enough) refl
+  -- whether a attachment's list is long enough says the same of all in it
+  listed_by : (place : ℕ) (attachment : AttachmentState) → attachment_in attachments place ≡ Some attachment → make_list attachments attachment ≡ true → listed_attachment attachments place ≡ Some attachment
+  listed_by place attachment at enough = rw (at, enough) refl
 
-  pub listed_is : (place : ℕ) (seat : SeatState) → listed_seat seats place ≡ Some seat → (seat_in seats place ≡ Some seat) × (make_list seats seat ≡ true)
-  listed_is place seat is = by (seat_in seats place) refl
+  pub listed_is : (place : ℕ) (attachment : AttachmentState) → listed_attachment attachments place ≡ Some attachment → (attachment_in attachments place ≡ Some attachment) × (make_list attachments attachment ≡ true)
+  listed_is place attachment is = by (attachment_in attachments place) refl
     where
-      enough : (s : SeatState) (b : Bool) → make_list seats s ≡ b → if_listed seats s ≡ Some seat → (s ≡ seat) × (make_list seats seat ≡ true)
+      enough : (s : AttachmentState) (b : Bool) → make_list attachments s ≡ b → if_listed attachments s ≡ Some attachment → (s ≡ attachment) × (make_list attachments attachment ≡ true)
       enough s true e is =
-          let same : s ≡ seat = same_seat (sym (rw e refl) ∙ is) in (same, ap (make_list seats) (sym same) ∙ e)
+          let same : s ≡ attachment = same_attachment (sym (rw e refl) ∙ is) in (same, ap (make_list attachments) (sym same) ∙ e)
         where
-          same_seat : Some s ≡ Some seat → s ≡ seat
-          same_seat h = cc
+          same_attachment : Some s ≡ Some attachment → s ≡ attachment
+          same_attachment h = cc
       enough s false e is = absurd (none (sym (rw e refl) ∙ is))
         where
-          none : None ≡ Some seat → ⊥
+          none : None ≡ Some attachment → ⊥
           none h = cc
 
-      by : (given : Option SeatState) → seat_in seats place ≡ given → (seat_in seats place ≡ Some seat) × (make_list seats seat ≡ true)
+      by : (given : Option AttachmentState) → attachment_in attachments place ≡ given → (attachment_in attachments place ≡ Some attachment) × (make_list attachments attachment ≡ true)
       by None e = absurd (none (sym (rw e refl) ∙ is))
         where
-          none : None ≡ Some seat → ⊥
+          none : None ≡ Some attachment → ⊥
           none h = cc
       by (Some s) e =
-          let parts = enough s (make_list seats s) refl (sym (rw e refl) ∙ is) in
-          (e ∙ ap (λ (t : SeatState). Some t) parts.0, parts.1)
+          let parts = enough s (make_list attachments s) refl (sym (rw e refl) ∙ is) in
+          (e ∙ ap (λ (t : AttachmentState). Some t) parts.0, parts.1)
 
-  -- a seat of which another's list is long enough is listed as well
-  listed_beside : (place : ℕ) (seat : SeatState) → make_list seats seat ≡ true → is_beside seats seat.switch seat.partitions place ≡ true
-      → (own : SeatState) × (listed_seat seats place ≡ Some own) × (own.switch ≡ seat.switch) × (own.partitions ≡ seat.partitions)
+  -- a attachment of which another's list is long enough is listed as well
+  listed_beside : (place : ℕ) (attachment : AttachmentState) → make_list attachments attachment ≡ true → is_beside attachments attachment.switch attachment.partitions place ≡ true
+      → (own : AttachmentState) × (listed_attachment attachments place ≡ Some own) × (own.switch ≡ attachment.switch) × (own.partitions ≡ attachment.partitions)
   unfolding make_list
-  listed_beside place seat enough beside =
-      let own = beside_seat seat.switch seat.partitions place beside in
+  listed_beside place attachment enough beside =
+      let own = beside_attachment attachment.switch attachment.partitions place beside in
       (own.0, listed_by place own.0 own.1 (rw (own.2, own.3) enough), own.2, own.3)
 
-  none_is_some : (seat : SeatState) → None ≡ Some seat → ⊥
-  none_is_some seat e = cc
+  none_is_some : (attachment : AttachmentState) → None ≡ Some attachment → ⊥
+  none_is_some attachment e = cc
 
-  same_some : (x y : SeatState) → Some x ≡ Some y → x ≡ y
+  same_some : (x y : AttachmentState) → Some x ≡ Some y → x ≡ y
   same_some x y e = cc
 
   -- what is drawn where a listed node stands
-  drawn_list : (at : ℕ) (seat : SeatState) → listed_seat seats at ≡ Some seat
-      → drawn_at seats at ≡ (if is_first seats seat at then members seats seat else [])
-  drawn_list at seat listed = rw listed refl
+  drawn_list : (at : ℕ) (attachment : AttachmentState) → listed_attachment attachments at ≡ Some attachment
+      → drawn_at attachments at ≡ (if is_first attachments attachment at then members attachments attachment else [])
+  drawn_list at attachment listed = rw listed refl
 
-  module _ (place : ℕ) (low : place < length seats) where
-    others : (at : ℕ) (seat : SeatState) → is_beside seats seat.switch seat.partitions place ≡ false
-        → filter (only place) (if is_first seats seat at then members seats seat else []) ≡ []
+  module _ (place : ℕ) (low : place < length attachments) where
+    others : (at : ℕ) (attachment : AttachmentState) → is_beside attachments attachment.switch attachment.partitions place ≡ false
+        → filter (only place) (if is_first attachments attachment at then members attachments attachment else []) ≡ []
     unfolding members
-    others at seat beside = by (is_first seats seat at)
+    others at attachment beside = by (is_first attachments attachment at)
       where
-        by : (b : Bool) → filter (only place) (if b then members seats seat else []) ≡ []
-        by true = dropped (is_beside seats seat.switch seat.partitions) place (places seats) beside
+        by : (b : Bool) → filter (only place) (if b then members attachments attachment else []) ≡ []
+        by true = dropped (is_beside attachments attachment.switch attachment.partitions) place (places attachments) beside
         by false = refl
 
     alone : (at lead : ℕ) → (at ≡ place → at ≡ lead) → (at ≡ lead → at ≡ place) → filter (only place) (at ∷ []) ≡ (if at == lead then place ∷ [] else [])
@@ -187,78 +187,78 @@ module _ (seats : List (Option SeatState)) where
         by false e false f = rw (e, f) refl
 
     -- of a node that is drawn by itself
-    module _ (unlisted : listed_seat seats place ≡ None) where
-      not_beside : (seat : SeatState) → make_list seats seat ≡ true → is_beside seats seat.switch seat.partitions place ≡ false
-      not_beside seat enough = by (is_beside seats seat.switch seat.partitions place) refl
+    module _ (unlisted : listed_attachment attachments place ≡ None) where
+      not_beside : (attachment : AttachmentState) → make_list attachments attachment ≡ true → is_beside attachments attachment.switch attachment.partitions place ≡ false
+      not_beside attachment enough = by (is_beside attachments attachment.switch attachment.partitions place) refl
         where
-          by : (b : Bool) → is_beside seats seat.switch seat.partitions place ≡ b → b ≡ false
+          by : (b : Bool) → is_beside attachments attachment.switch attachment.partitions place ≡ b → b ≡ false
           by false e = refl
-          by true e = let own = listed_beside place seat enough e in absurd (none_is_some own.0 (sym unlisted ∙ own.1))
+          by true e = let own = listed_beside place attachment enough e in absurd (none_is_some own.0 (sym unlisted ∙ own.1))
 
-      by_itself : (at : ℕ) → filter (only place) (drawn_at seats at) ≡ (if at == place then place ∷ [] else [])
-      by_itself at = by (listed_seat seats at) refl
+      by_itself : (at : ℕ) → filter (only place) (drawn_at attachments at) ≡ (if at == place then place ∷ [] else [])
+      by_itself at = by (listed_attachment attachments at) refl
         where
-          by : (given : Option SeatState) → listed_seat seats at ≡ given → filter (only place) (drawn_at seats at) ≡ (if at == place then place ∷ [] else [])
+          by : (given : Option AttachmentState) → listed_attachment attachments at ≡ given → filter (only place) (drawn_at attachments at) ≡ (if at == place then place ∷ [] else [])
           by None e = rw e (alone at place (λ same. same) (λ same. same))
-          by (Some seat) e =
-              let differ : at ≢ place = λ same. none_is_some seat (sym unlisted ∙ ap (listed_seat seats) (sym same) ∙ e) in
+          by (Some attachment) e =
+              let differ : at ≢ place = λ same. none_is_some attachment (sym unlisted ∙ ap (listed_attachment attachments) (sym same) ∙ e) in
               let other = other_number at place differ in
-              ap (filter (only place)) (drawn_list at seat e) ∙ others at seat (not_beside seat (listed_is at seat e).1) ∙ sym (rw other refl)
+              ap (filter (only place)) (drawn_list at attachment e) ∙ others at attachment (not_beside attachment (listed_is at attachment e).1) ∙ sym (rw other refl)
 
     -- of a node in a list
-    module _ (own : SeatState) (listed : listed_seat seats place ≡ Some own) (lead : ℕ)
-        (first : find (is_beside seats own.switch own.partitions) (places seats) ≡ Some lead) where
-      lead_beside : is_beside seats own.switch own.partitions lead ≡ true
-      lead_beside = found_passes (is_beside seats own.switch own.partitions) (places seats) lead first
+    module _ (own : AttachmentState) (listed : listed_attachment attachments place ≡ Some own) (lead : ℕ)
+        (first : find (is_beside attachments own.switch own.partitions) (places attachments) ≡ Some lead) where
+      lead_beside : is_beside attachments own.switch own.partitions lead ≡ true
+      lead_beside = found_passes (is_beside attachments own.switch own.partitions) (places attachments) lead first
 
-      lead_listed : (seat : SeatState) × (listed_seat seats lead ≡ Some seat) × (seat.switch ≡ own.switch) × (seat.partitions ≡ own.partitions)
+      lead_listed : (attachment : AttachmentState) × (listed_attachment attachments lead ≡ Some attachment) × (attachment.switch ≡ own.switch) × (attachment.partitions ≡ own.partitions)
       lead_listed = listed_beside lead own (listed_is place own listed).1 lead_beside
 
-      own_beside : is_beside seats own.switch own.partitions place ≡ true
+      own_beside : is_beside attachments own.switch own.partitions place ≡ true
       own_beside = beside_own place own (listed_is place own listed).0
 
       -- the list at this place is the node's
-      same_list : (at : ℕ) (seat : SeatState) → seat.switch ≡ own.switch → seat.partitions ≡ own.partitions
-          → filter (only place) (if is_first seats seat at then members seats seat else []) ≡ (if at == lead then place ∷ [] else [])
+      same_list : (at : ℕ) (attachment : AttachmentState) → attachment.switch ≡ own.switch → attachment.partitions ≡ own.partitions
+          → filter (only place) (if is_first attachments attachment at then members attachments attachment else []) ≡ (if at == lead then place ∷ [] else [])
       unfolding members is_first
-      same_list at seat switch partitions = rw (switch, partitions, first) (by (at == lead) refl (lead == at) refl)
+      same_list at attachment switch partitions = rw (switch, partitions, first) (by (at == lead) refl (lead == at) refl)
         where
-          whole : filter (only place) (filter (is_beside seats own.switch own.partitions) (places seats)) ≡ place ∷ []
-          whole = kept (is_beside seats own.switch own.partitions) place (places seats) own_beside ∙ one_in_range place 0 (length seats) (omega arith) (omega (arith, low))
+          whole : filter (only place) (filter (is_beside attachments own.switch own.partitions) (places attachments)) ≡ place ∷ []
+          whole = kept (is_beside attachments own.switch own.partitions) place (places attachments) own_beside ∙ one_in_range place 0 (length attachments) (omega arith) (omega (arith, low))
 
           by : (b : Bool) → (at == lead) ≡ b → (c : Bool) → (lead == at) ≡ c
-              → filter (only place) (if lead == at then filter (is_beside seats own.switch own.partitions) (places seats) else []) ≡ (if at == lead then place ∷ [] else [])
+              → filter (only place) (if lead == at then filter (is_beside attachments own.switch own.partitions) (places attachments) else []) ≡ (if at == lead then place ∷ [] else [])
           by true e true f = rw (e, f) whole
           by true e false f = absurd (clashing (sym (eq-eqb lead at (sym (eqb-true at lead e))) ∙ f))
           by false e true f = absurd (clashing (sym (eq-eqb at lead (sym (eqb-true lead at f))) ∙ e))
           by false e false f = rw (e, f) refl
 
-      in_list : (at : ℕ) → filter (only place) (drawn_at seats at) ≡ (if at == lead then place ∷ [] else [])
-      in_list at = by (listed_seat seats at) refl
+      in_list : (at : ℕ) → filter (only place) (drawn_at attachments at) ≡ (if at == lead then place ∷ [] else [])
+      in_list at = by (listed_attachment attachments at) refl
         where
-          by : (given : Option SeatState) → listed_seat seats at ≡ given → filter (only place) (drawn_at seats at) ≡ (if at == lead then place ∷ [] else [])
+          by : (given : Option AttachmentState) → listed_attachment attachments at ≡ given → filter (only place) (drawn_at attachments at) ≡ (if at == lead then place ∷ [] else [])
           by None e =
               rw e (alone at lead
-              (λ same. absurd (none_is_some own (sym e ∙ ap (listed_seat seats) same ∙ listed)))
-              (λ same. absurd (none_is_some lead_listed.0 (sym e ∙ ap (listed_seat seats) same ∙ lead_listed.1))))
-          by (Some seat) e = ap (filter (only place)) (drawn_list at seat e) ∙ by_list (is_beside seats seat.switch seat.partitions place) refl
+              (λ same. absurd (none_is_some own (sym e ∙ ap (listed_attachment attachments) same ∙ listed)))
+              (λ same. absurd (none_is_some lead_listed.0 (sym e ∙ ap (listed_attachment attachments) same ∙ lead_listed.1))))
+          by (Some attachment) e = ap (filter (only place)) (drawn_list at attachment e) ∙ by_list (is_beside attachments attachment.switch attachment.partitions place) refl
             where
-              by_list : (b : Bool) → is_beside seats seat.switch seat.partitions place ≡ b
-                  → filter (only place) (if is_first seats seat at then members seats seat else []) ≡ (if at == lead then place ∷ [] else [])
+              by_list : (b : Bool) → is_beside attachments attachment.switch attachment.partitions place ≡ b
+                  → filter (only place) (if is_first attachments attachment at then members attachments attachment else []) ≡ (if at == lead then place ∷ [] else [])
               by_list true beside =
-                  let there = beside_seat seat.switch seat.partitions place beside in
+                  let there = beside_attachment attachment.switch attachment.partitions place beside in
                   let same : there.0 ≡ own = same_some there.0 own (sym there.1 ∙ (listed_is place own listed).0) in
-                  same_list at seat (sym there.2 ∙ ap (λ (t : SeatState). t.switch) same) (sym there.3 ∙ ap (λ (t : SeatState). t.partitions) same)
+                  same_list at attachment (sym there.2 ∙ ap (λ (t : AttachmentState). t.switch) same) (sym there.3 ∙ ap (λ (t : AttachmentState). t.partitions) same)
               by_list false beside =
                   let differ : at ≢ lead = λ same. elsewhere same in
                   let other = other_number at lead differ in
-                  others at seat beside ∙ sym (rw other refl)
+                  others at attachment beside ∙ sym (rw other refl)
                 where
                   elsewhere : at ≡ lead → ⊥
                   elsewhere same =
-                      let seat_is : seat ≡ lead_listed.0 = same_some seat lead_listed.0 (sym e ∙ ap (listed_seat seats) same ∙ lead_listed.1) in
-                      let switch : seat.switch ≡ own.switch = ap (λ (t : SeatState). t.switch) seat_is ∙ lead_listed.2 in
-                      let partitions : seat.partitions ≡ own.partitions = ap (λ (t : SeatState). t.partitions) seat_is ∙ lead_listed.3 in
+                      let attachment_is : attachment ≡ lead_listed.0 = same_some attachment lead_listed.0 (sym e ∙ ap (listed_attachment attachments) same ∙ lead_listed.1) in
+                      let switch : attachment.switch ≡ own.switch = ap (λ (t : AttachmentState). t.switch) attachment_is ∙ lead_listed.2 in
+                      let partitions : attachment.partitions ≡ own.partitions = ap (λ (t : AttachmentState). t.partitions) attachment_is ∙ lead_listed.3 in
                       clashing (sym own_beside ∙ sym (rw (switch, partitions) refl) ∙ beside)
 
 -- ---- the law
@@ -277,10 +277,10 @@ find_there test a (suc n) place passes low high = elim (cases_Bool (test a)) [
 ]
 
 pub each_node_is_drawn_once : EachNodeIsDrawnOnce
-each_node_is_drawn_once seats place low = by (listed_seat seats place) refl
+each_node_is_drawn_once attachments place low = by (listed_attachment attachments place) refl
   where
-    by : (given : Option SeatState) → listed_seat seats place ≡ given → filter (only place) (flat_map (drawn_at seats) (places seats)) ≡ place ∷ []
-    by None e = one_in_flat (drawn_at seats) place place (by_itself seats place low e) 0 (length seats) (omega arith) (omega (arith, low))
+    by : (given : Option AttachmentState) → listed_attachment attachments place ≡ given → filter (only place) (flat_map (drawn_at attachments) (places attachments)) ≡ place ∷ []
+    by None e = one_in_flat (drawn_at attachments) place place (by_itself attachments place low e) 0 (length attachments) (omega arith) (omega (arith, low))
     by (Some own) e =
-        let first = find_there (is_beside seats own.switch own.partitions) 0 (length seats) place (beside_own seats place own (listed_is seats place own e).0) (omega arith) (omega (arith, low)) in
-        one_in_flat (drawn_at seats) place first.0 (in_list seats place low own e first.0 first.1) 0 (length seats) first.2 first.3
+        let first = find_there (is_beside attachments own.switch own.partitions) 0 (length attachments) place (beside_own attachments place own (listed_is attachments place own e).0) (omega arith) (omega (arith, low)) in
+        one_in_flat (drawn_at attachments) place first.0 (in_list attachments place low own e first.0 first.1) 0 (length attachments) first.2 first.3

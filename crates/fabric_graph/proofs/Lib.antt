@@ -1,4 +1,4 @@
 pub mod RankLemmas
 pub mod DrawnLemmas
 pub mod CableLemmas
-pub mod SeatLemmas
+pub mod AttachmentLemmas

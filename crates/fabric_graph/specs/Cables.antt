@@ -4,7 +4,7 @@
 use Rattle.std.specs.Prelude.{ℕ, Bool, true, false, nat_lt, if◌then◌else◌, List, [], ◌++◌, codes, decimal, slice_get, Option}
 use Rattle.std.specs.Prelude.{Some, None, is_none}
 use Rattle.std.specs.Option.{option_and_then}
-use Rattle.fabric_graph.specs.Nodes.{quoted}
+use Rattle.text_parts.specs.Parts.{quoted}
 use Rattle.fabric_graph.specs.Ranks.{rank_of}
 use Rattle.fabric_parts.specs.Cable.{far_end}
 use Rattle.fabric_parts.specs.declared.cable.Cable.{Cable}

@@ -3,7 +3,7 @@ use Rattle.std.specs.Prelude.{ℕ, Bool, false, if◌then◌else◌, List, [], �
 use Rattle.std.specs.Option.{option_map_or}
 use Rattle.std.specs.List.{range_with_len}
 use Rattle.fabric_graph.specs.Cables.{cable_line}
-use Rattle.fabric_graph.specs.Lists.{SeatState, is_in_list, place_text, places, seats_of, spacing}
+use Rattle.fabric_graph.specs.Lists.{AttachmentState, is_in_list, place_text, places, attachments_of, spacing}
 use Rattle.fabric_graph.specs.Ranks.{rank_line}
 use Rattle.fabric_parts.specs.declared.cable.Cable.{Cable}
 use Rattle.smp_wire.specs.FabricState.{FabricState}
@@ -20,22 +20,22 @@ abbrev pub ranks_drawn : RoutesState → List ℕ
 ranks_drawn routes = range_with_len 0 (length routes.graph.switches)
 
 -- a cable that no list shows
-abbrev pub edge_of : TopologyState → RoutesState → FabricState → List (Option SeatState) → (needed : Bool) → Cable → List ℕ
-edge_of plan routes fabric seats needed cable = if is_in_list seats cable then [] else cable_line routes plan.nodes fabric needed cable
+abbrev pub edge_of : TopologyState → RoutesState → FabricState → List (Option AttachmentState) → (needed : Bool) → Cable → List ℕ
+edge_of plan routes fabric attachments needed cable = if is_in_list attachments cable then [] else cable_line routes plan.nodes fabric needed cable
 
--- the cable at that place of the topology; which are needed is told by places, and of those that no place tells it is not asked
-unfoldable pub edge_at : TopologyState → RoutesState → FabricState → List (Option SeatState) → (needed : List Bool) → ℕ → List ℕ
-edge_at plan routes fabric seats needed place =
-    option_map_or (edge_of plan routes fabric seats (get_or needed place false)) (slice_get plan.cables place) []
+-- the cable at that place of the topology; which are needed is reported by places, and of those that no place reports it is not asked
+unfoldable pub edge_at : TopologyState → RoutesState → FabricState → List (Option AttachmentState) → (needed : List Bool) → ℕ → List ℕ
+edge_at plan routes fabric attachments needed place =
+    option_map_or (edge_of plan routes fabric attachments (get_or needed place false)) (slice_get plan.cables place) []
 
 -- each node, by itself or in a list; each rank; and each cable that no list shows, those that are cut in the fabric too
-unfoldable pub text_by : TopologyState → ConfigurationState → RoutesState → FabricState → List (Option SeatState) → List Bool → List ℕ
-text_by plan subnet routes fabric seats needed =
-    head ++ spacing seats
-    ++ flat_map (place_text plan subnet seats) (places seats)
+unfoldable pub text_by : TopologyState → ConfigurationState → RoutesState → FabricState → List (Option AttachmentState) → List Bool → List ℕ
+text_by plan subnet routes fabric attachments needed =
+    head ++ spacing attachments
+    ++ flat_map (place_text plan subnet attachments) (places attachments)
     ++ flat_map (rank_line routes plan.nodes) (ranks_drawn routes)
-    ++ flat_map (edge_at plan routes fabric seats needed) (range_with_len 0 (length plan.cables))
+    ++ flat_map (edge_at plan routes fabric attachments needed) (range_with_len 0 (length plan.cables))
     ++ codes "}\n"
 
 abbrev pub graph_text : TopologyState → ConfigurationState → RoutesState → FabricState → List Bool → List ℕ
-graph_text plan subnet routes fabric needed = text_by plan subnet routes fabric (seats_of plan subnet) needed
+graph_text plan subnet routes fabric needed = text_by plan subnet routes fabric (attachments_of plan subnet) needed

@@ -4,7 +4,7 @@ use Rattle.std.specs.Prelude.{◌∷◌, filter, flat_map, length, slice_get, Op
 use Rattle.std.specs.List.{Contains}
 use Rattle.std.specs.Option.{option_map_or}
 use Rattle.fabric_graph.specs.Graph.{ranks_drawn}
-use Rattle.fabric_graph.specs.Lists.{SeatState, drawn_at, is_in_list, listed_seat, places, seats_of}
+use Rattle.fabric_graph.specs.Lists.{AttachmentState, drawn_at, is_in_list, listed_attachment, places, attachments_of}
 use Rattle.fabric_graph.specs.Ranks.{rank_of}
 use Rattle.fabric_parts.specs.Cable.{is_same_port, port}
 use Rattle.fabric_parts.specs.declared.cable.Cable.{Cable}
@@ -27,8 +27,8 @@ EachRankHasARow =
 -- of all nodes that are drawn, by themselves or in lists, each is one, and no more than one
 abbrev pub EachNodeIsDrawnOnce : Type 0
 EachNodeIsDrawnOnce =
-    (seats : List (Option SeatState)) (place : ℕ) → place < length seats
-    → filter (λ drawn. drawn == place) (flat_map (drawn_at seats) (places seats)) ≡ place ∷ []
+    (attachments : List (Option AttachmentState)) (place : ℕ) → place < length attachments
+    → filter (λ drawn. drawn == place) (flat_map (drawn_at attachments) (places attachments)) ≡ place ∷ []
 
 -- the cable joins these two ports
 abbrev pub joins : PortRef → PortRef → Cable → Bool
@@ -36,14 +36,14 @@ joins a b cable =
     (is_same_port cable.first a && is_same_port cable.second b) || (is_same_port cable.first b && is_same_port cable.second a)
 
 -- the adapter of that place stands in a list, and its line shows this cable
-abbrev pub shows_cable : List (Option SeatState) → Cable → ℕ → Bool
-shows_cable seats cable place =
-    option_map_or (λ seat. joins (port place 1) (port seat.switch seat.port) cable) (listed_seat seats place) false
+abbrev pub shows_cable : List (Option AttachmentState) → Cable → ℕ → Bool
+shows_cable attachments cable place =
+    option_map_or (λ attachment. joins (port place 1) (port attachment.switch attachment.port) cable) (listed_attachment attachments place) false
 
 -- a cable that is an edge of its own has no line in any list, and each other one has one line
 abbrev pub EachCableIsDrawnOnce : Type 0
 EachCableIsDrawnOnce =
     (plan : TopologyState) (subnet : ConfigurationState) (k : ℕ) (cable : Cable)
     → AreSound plan.nodes plan.cables → slice_get plan.cables k ≡ Some cable
-    → let seats = seats_of plan subnet in
-    length (filter (shows_cable seats cable) (places seats)) ≡ (if is_in_list seats cable then 1 else 0)
+    → let attachments = attachments_of plan subnet in
+    length (filter (shows_cable attachments cable) (places attachments)) ≡ (if is_in_list attachments cable then 1 else 0)

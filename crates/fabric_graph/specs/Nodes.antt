@@ -1,20 +1,15 @@
 -- The nodes of a topology in DOT: switches as boxes, channel adapters as ellipses.
 use Rattle.std.specs.Prelude.{ℕ, ◌==◌, Bool, false, if◌then◌else◌, List, [], ◌∷◌, ◌++◌, codes, decimal, flat_map}
 use Rattle.std.specs.Prelude.{slice_get}
-use Rattle.std.specs.Int.{w16, w64, to_be_bytes}
+use Rattle.std.specs.Int.{w16, to_be_bytes}
 use Rattle.std.specs.Option.{option_map_or}
 use Rattle.fabric_graph.specs.Partitions.{fill_of, is_of}
-use Rattle.line_parts.specs.Parts.{hex_text}
+use Rattle.text_parts.specs.Parts.{guid_text, hex_text, quoted}
 use Rattle.subnet_model.specs.Configuration.{ConfigurationState}
 use Rattle.subnet_model.specs.declared.subnet_port.SubnetPort.{SubnetPort}
 use Rattle.topo_file.specs.Node.{is_switch}
 use Rattle.topo_file.specs.Topology.{TopologyState}
 use Rattle.topo_file.specs.declared.node.Node.{Node}
-
--- the ID of a node is its name: 1 to 32 letters, digits, `_`, `-` and `.`, so that nothing in it ends the quotes or needs to be
--- escaped
-abbrev pub quoted : List ℕ → List ℕ
-quoted name = codes "\"" ++ name ++ codes "\""
 
 -- the subnet manager runs on a port of the node
 abbrev pub is_manager : TopologyState → Node → Bool
@@ -42,7 +37,7 @@ label plan subnet node =
 
 -- what is shown of a switch where one points at it: its GUID, which would make each box twice as wide
 unfoldable pub guid_words : ℕ → List ℕ
-guid_words guid = codes ", tooltip=\"" ++ hex_text (to_be_bytes w64 guid) ++ 34 ∷ []
+guid_words guid = codes ", tooltip=\"" ++ guid_text guid ++ 34 ∷ []
 
 abbrev pub tooltip : Node → List ℕ
 tooltip node = if is_switch node then guid_words node.guid else []
@@ -60,5 +55,7 @@ attributes plan subnet node =
     codes "shape=" ++ shape node ++ label plan subnet node ++ tooltip node ++ mark plan node ++ fill_of subnet node
 
 -- as `"h1" [shape=ellipse, label="h1\nport 1 LID 0x0004", style=filled, fillcolor="/set312/1"];`
+-- the ID of a node is its name: 1 to 32 letters, digits, `_`, `-` and `.`, so that nothing in it ends the quotes or needs to be
+-- escaped
 abbrev pub node_line : TopologyState → ConfigurationState → Node → List ℕ
 node_line plan subnet node = codes "  " ++ quoted node.name ++ codes " [" ++ attributes plan subnet node ++ codes "];\n"

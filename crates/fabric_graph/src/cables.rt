@@ -4,12 +4,11 @@ ghost use Rattle.std.specs.Prelude.{◌≡◌, ◌++◌, OnOk};
 ghost use Rattle.fabric_graph.specs.Cables.{cable_line, downward, edge_line, end_label, end_labels, ends, is_above, is_cut, rank_at};
 ghost use Rattle.fabric_graph.specs.Cables.{look};
 
-use crate::nodes::push_quoted;
 use crate::ranks::rank_of;
 use fabric_parts::Cable;
 use fabric_wire::Fabric;
-use line_parts::push_decimal;
 use std::alloc::AllocError;
+use text_parts::{push_decimal, push_quoted};
 use topo_file::{Node, name_at};
 use updn_routes::Routes;
 

@@ -2,13 +2,13 @@
 
 ghost use Rattle.std.specs.Prelude.{◌≡◌, ◌++◌, false, OnOk, IfOk, flat_map, get_or, length};
 ghost use Rattle.std.specs.List.{range_with_len};
-ghost use Rattle.fabric_graph.specs.Graph.{edge_at, edge_of, graph_text, head, ranks_drawn, text_by};
+ghost use Rattle.fabric_graph.specs.Graph.{edge_at, edge_of, graph_text, head, ranks_drawn};
 ghost use Rattle.fabric_graph.specs.Lists.{place_text, places, spacing};
 ghost use Rattle.fabric_graph.specs.Ranks.{rank_line};
 
 use crate::cables::push_cable_line;
 use crate::list_lines::push_place_text;
-use crate::lists::{Seat, has_lists, is_in_list, seats_of};
+use crate::lists::{Attachment, attachments_of, has_lists, is_in_list};
 use crate::ranks::push_rank_line;
 use fabric_parts::Cable;
 use fabric_wire::Fabric;
@@ -17,13 +17,26 @@ use subnet_model::Configuration;
 use topo_file::{Node, Topology};
 use updn_routes::Routes;
 
-/// The fabric in DOT: a node of the picture for each node of the topology, or for a list of adapters that hang on one switch
-/// and are in the same partitions; a row for each rank of switches; and an edge for each cable that no list shows. Memory
-/// alone can be refused.
+/// What the edges are drawn of.
+#[derive(Clone, Copy)]
+struct Edges<'a> {
+    topology: &'a Topology,
+    routes: &'a Routes,
+    fabric: &'a Fabric,
+    /// Where each adapter that may stand in a list is attached.
+    attachments: &'a [Option<Attachment>],
+    /// Of the cable at each place of the topology, whether it is drawn as needed.
+    needed: &'a [bool],
+}
+
+/// The fabric in DOT: a node of the picture for each node of the topology, or for a list of adapters that are attached to one switch
+/// and are in the same partitions; a row for each rank of switches; and an edge for each cable that no list shows. It
+/// can only run out of memory.
 ///
 /// Switches are boxes and channel adapters ellipses, with the LIDs of their ports, and adapters are coloured by the
 /// partitions other than the default one that they are in. Cables that are cut in the fabric are dashed, and those that are
-/// needed are red: of the cable at each place of the topology that is told, where it has that place.
+/// needed are red: `needed` says of the cable at each place of the topology whether it is.
+#[tactic(auto, unfolding(crate::specs::Graph::text_by))]
 pub fn graph_text(
     alloc: Global,
     topology: &Topology,
@@ -34,45 +47,30 @@ pub fn graph_text(
 ) -> Result<Vec<u8>, AllocError>
     ensures { IfOk result (λ text. text.items ≡ graph_text topology.now configuration.now routes.now fabric.now needed.now) }
 {
-    let seats = seats_of(alloc, topology, configuration)?;
-    text_by(
-        alloc,
+    let attachments = attachments_of(alloc, topology, configuration)?;
+    let attachments = attachments.as_slice();
+    let edges = Edges {
         topology,
-        configuration,
         routes,
         fabric,
-        seats.as_slice(),
+        attachments,
         needed,
-    )
-}
-
-#[tactic(auto, unfolding(crate::specs::Graph::text_by))]
-fn text_by(
-    alloc: Global,
-    topology: &Topology,
-    configuration: &Configuration,
-    routes: &Routes,
-    fabric: &Fabric,
-    seats: &[Option<Seat>],
-    needed: &[bool],
-) -> Result<Vec<u8>, AllocError>
-    ensures { IfOk result (λ text. text.items ≡ text_by topology.now configuration.now routes.now fabric.now seats.now needed.now) }
-{
+    };
     let mut text = Vec::new(alloc);
     text.extend_from_slice(head())?;
-    text.extend_from_slice(spacing(seats))?;
-    push_nodes(alloc, &mut text, topology, configuration, seats)?;
+    text.extend_from_slice(spacing(attachments))?;
+    push_nodes(alloc, &mut text, topology, configuration, attachments)?;
     push_ranks(&mut text, routes, topology.nodes())?;
-    push_cables(&mut text, topology, routes, fabric, seats, needed)?;
+    push_cables(&mut text, edges)?;
     text.extend_from_slice(b"}\n")?;
     Ok(text)
 }
 
 /// How far apart nodes stand where there are lists.
-fn spacing(seats: &[Option<Seat>]) -> &'static [u8]
-    ensures { result.now ≡ spacing seats.now }
+fn spacing(attachments: &[Option<Attachment>]) -> &'static [u8]
+    ensures { result.now ≡ spacing attachments.now }
 {
-    if has_lists(seats) {
+    if has_lists(attachments) {
         b"  nodesep=0.1;\n  ranksep=2;\n"
     } else {
         b""
@@ -92,13 +90,13 @@ fn push_nodes(
     text: &mut Vec<u8>,
     topology: &Topology,
     configuration: &Configuration,
-    seats: &[Option<Seat>],
+    attachments: &[Option<Attachment>],
 ) -> Result<(), AllocError>
     ensures { OnOk result (text.new.items
-        ≡ text.old.items ++ flat_map (place_text topology.now configuration.now seats.now) (places seats.now)) }
+        ≡ text.old.items ++ flat_map (place_text topology.now configuration.now attachments.now) (places attachments.now)) }
 {
-    for place in 0..seats.len() {
-        push_place_text(alloc, text, topology, configuration, seats, place)?;
+    for place in 0..attachments.len() {
+        push_place_text(alloc, text, topology, configuration, attachments, place)?;
     }
     Ok(())
 }
@@ -114,46 +112,30 @@ fn push_ranks(text: &mut Vec<u8>, routes: &Routes, nodes: &[Node]) -> Result<(),
     Ok(())
 }
 
-fn push_cables(
-    text: &mut Vec<u8>,
-    topology: &Topology,
-    routes: &Routes,
-    fabric: &Fabric,
-    seats: &[Option<Seat>],
-    needed: &[bool],
-) -> Result<(), AllocError>
+fn push_cables(text: &mut Vec<u8>, edges: Edges<'_>) -> Result<(), AllocError>
     ensures { OnOk result (text.new.items ≡ text.old.items
-        ++ flat_map (edge_at topology.now routes.now fabric.now seats.now needed.now) (range_with_len 0 (length topology.now.cables))) }
+        ++ flat_map (edge_at edges.entry.topology.now edges.entry.routes.now edges.entry.fabric.now edges.entry.attachments.now edges.entry.needed.now)
+        (range_with_len 0 (length edges.entry.topology.now.cables))) }
 {
-    for place in 0..topology.cables().len() {
-        push_edge_at(text, topology, routes, fabric, seats, needed, place)?;
+    for place in 0..edges.topology.cables().len() {
+        push_edge_at(text, edges, place)?;
     }
     Ok(())
 }
 
 /// Adds the edge of the cable at that place, if there is one.
 #[tactic(auto, unfolding(crate::specs::Graph::edge_at))]
-fn push_edge_at(
-    text: &mut Vec<u8>,
-    topology: &Topology,
-    routes: &Routes,
-    fabric: &Fabric,
-    seats: &[Option<Seat>],
-    needed: &[bool],
-    place: usize,
-) -> Result<(), AllocError>
-    ensures { OnOk result (text.new.items ≡ text.old.items ++ edge_at topology.now routes.now fabric.now seats.now needed.now place) }
+fn push_edge_at(text: &mut Vec<u8>, edges: Edges<'_>, place: usize) -> Result<(), AllocError>
+    ensures { OnOk result (text.new.items ≡ text.old.items
+        ++ edge_at edges.entry.topology.now edges.entry.routes.now edges.entry.fabric.now edges.entry.attachments.now edges.entry.needed.now place) }
 {
-    match topology.cables().get(place) {
-        Some(cable) => {
-            let needed = is_needed(needed, place);
-            push_edge_of(text, topology, routes, fabric, seats, needed, cable)
-        }
+    match edges.topology.cables().get(place) {
+        Some(cable) => push_edge_of(text, edges, is_needed(edges.needed, place), cable),
         None => Ok(()),
     }
 }
 
-/// Whether the cable at that place is told as needed.
+/// Whether the cable at that place is reported as needed.
 fn is_needed(needed: &[bool], place: usize) -> bool
     ensures { result ≡ get_or needed.now place false }
 {
@@ -166,19 +148,17 @@ fn is_needed(needed: &[bool], place: usize) -> bool
 /// Adds the edge of a cable, unless a list shows it.
 fn push_edge_of(
     text: &mut Vec<u8>,
-    topology: &Topology,
-    routes: &Routes,
-    fabric: &Fabric,
-    seats: &[Option<Seat>],
+    edges: Edges<'_>,
     needed: bool,
     cable: &Cable,
 ) -> Result<(), AllocError>
     ensures { OnOk result (text.new.items ≡ text.old.items
-        ++ edge_of topology.now routes.now fabric.now seats.now needed cable.now) }
+        ++ edge_of edges.entry.topology.now edges.entry.routes.now edges.entry.fabric.now edges.entry.attachments.now needed cable.now) }
 {
-    if is_in_list(seats, cable) {
+    if is_in_list(edges.attachments, cable) {
         Ok(())
     } else {
-        push_cable_line(text, routes, topology.nodes(), fabric, needed, cable)
+        let nodes = edges.topology.nodes();
+        push_cable_line(text, edges.routes, nodes, edges.fabric, needed, cable)
     }
 }

@@ -1,7 +1,7 @@
 //! The fabric of a subnet as a text in DOT, the language of Graphviz.
 //!
 //! [`graph_text`] draws the nodes and cables of a topology, with the LIDs, partitions and ranks that a subnet manager gave
-//! them (IBA volume 1, chapter 14), and tells by dashes which cables are cut in the fabric. `specs/Graph.antt` says what the
+//! them (IBA volume 1, chapter 14), and reports by dashes which cables are cut in the fabric. `specs/Graph.antt` says what the
 //! text is.
 #![tactic(auto)]
 

@@ -2,14 +2,14 @@
 
 ghost use Rattle.std.specs.Prelude.{◌≡◌, ◌++◌, OnOk, flat_map};
 ghost use Rattle.fabric_graph.specs.Lists.{drawn_text, lid_word_of, list_at, list_fill, list_head, list_label, list_node, list_style};
-ghost use Rattle.fabric_graph.specs.Lists.{list_text, node_at, place_text, row, row_at, seated_row};
+ghost use Rattle.fabric_graph.specs.Lists.{node_at, place_text, row, row_at, attached_row};
 
-use crate::lists::{Seat, drawn_at, seat_in};
-use crate::nodes::{push_node_line, push_quoted};
+use crate::lists::{Attachment, attachment_in, drawn_at};
+use crate::nodes::push_node_line;
 use crate::partitions::{is_of, push_fill};
-use line_parts::{push_decimal, push_hex};
 use std::alloc::{AllocError, Global};
 use subnet_model::{Configuration, SubnetPort};
+use text_parts::{push_decimal, push_hex, push_quoted};
 use topo_file::{Node, Topology, name_at};
 
 /// Adds what is drawn where the node of this place stands.
@@ -18,18 +18,18 @@ pub(crate) fn push_place_text(
     text: &mut Vec<u8>,
     topology: &Topology,
     configuration: &Configuration,
-    seats: &[Option<Seat>],
+    attachments: &[Option<Attachment>],
     place: usize,
 ) -> Result<(), AllocError>
-    ensures { OnOk result (text.new.items ≡ text.old.items ++ place_text topology.now configuration.now seats.now place) }
+    ensures { OnOk result (text.new.items ≡ text.old.items ++ place_text topology.now configuration.now attachments.now place) }
 {
-    let drawn = drawn_at(alloc, seats, place)?;
+    let drawn = drawn_at(alloc, attachments, place)?;
     push_drawn_text(
         alloc,
         text,
         topology,
         configuration,
-        seats,
+        attachments,
         drawn.as_slice(),
     )
 }
@@ -39,15 +39,15 @@ fn push_drawn_text(
     text: &mut Vec<u8>,
     topology: &Topology,
     configuration: &Configuration,
-    seats: &[Option<Seat>],
+    attachments: &[Option<Attachment>],
     drawn: &[usize],
 ) -> Result<(), AllocError>
-    ensures { OnOk result (text.new.items ≡ text.old.items ++ drawn_text topology.now configuration.now seats.now drawn.now) }
+    ensures { OnOk result (text.new.items ≡ text.old.items ++ drawn_text topology.now configuration.now attachments.now drawn.now) }
 {
     match drawn {
         [] => Ok(()),
         [place] => push_node_at(alloc, text, topology, configuration, *place),
-        [place, ..] => push_list_at(text, topology, configuration, seats, *place, drawn),
+        [place, ..] => push_list_at(text, topology, configuration, attachments, *place, drawn),
     }
 }
 
@@ -66,43 +66,35 @@ fn push_node_at(
     }
 }
 
+/// Adds a list, and its edge to the switch, if an adapter of this place is attached to one.
+#[tactic(auto, unfolding(crate::specs::Lists::list_text))]
 fn push_list_at(
     text: &mut Vec<u8>,
     topology: &Topology,
     configuration: &Configuration,
-    seats: &[Option<Seat>],
+    attachments: &[Option<Attachment>],
     place: usize,
     drawn: &[usize],
 ) -> Result<(), AllocError>
     ensures { OnOk result (text.new.items
-        ≡ text.old.items ++ list_at topology.now configuration.now seats.now place drawn.now) }
+        ≡ text.old.items ++ list_at topology.now configuration.now attachments.now place drawn.now) }
 {
-    match seat_in(seats, place) {
-        Some(seat) => push_list_text(text, topology, configuration, seats, place, drawn, seat),
-        None => Ok(()),
-    }
-}
-
-/// Adds a list, and its edge to the switch.
-#[tactic(auto, unfolding(crate::specs::Lists::list_text))]
-fn push_list_text(
-    text: &mut Vec<u8>,
-    topology: &Topology,
-    configuration: &Configuration,
-    seats: &[Option<Seat>],
-    place: usize,
-    drawn: &[usize],
-    seat: &Seat,
-) -> Result<(), AllocError>
-    ensures { OnOk result (text.new.items
-        ≡ text.old.items ++ list_text topology.now configuration.now seats.now place drawn.now seat.now) }
-{
+    let Some(attachment) = attachment_in(attachments, place) else {
+        return Ok(());
+    };
     let name = name_at(topology.nodes(), place);
     text.extend_from_slice(b"  ")?;
     push_quoted(text, name)?;
-    push_list_node(text, topology, configuration, seats, seat, drawn)?;
+    push_list_node(
+        text,
+        topology,
+        configuration,
+        attachments,
+        attachment,
+        drawn,
+    )?;
     text.extend_from_slice(b"  ")?;
-    push_quoted(text, name_at(topology.nodes(), seat.switch))?;
+    push_quoted(text, name_at(topology.nodes(), attachment.switch))?;
     text.extend_from_slice(b" -- ")?;
     push_quoted(text, name)?;
     text.extend_from_slice(b";\n")
@@ -113,15 +105,15 @@ fn push_list_node(
     text: &mut Vec<u8>,
     topology: &Topology,
     configuration: &Configuration,
-    seats: &[Option<Seat>],
-    seat: &Seat,
+    attachments: &[Option<Attachment>],
+    attachment: &Attachment,
     drawn: &[usize],
 ) -> Result<(), AllocError>
     ensures { OnOk result (text.new.items
-        ≡ text.old.items ++ list_node topology.now configuration.now seats.now seat.now drawn.now) }
+        ≡ text.old.items ++ list_node topology.now configuration.now attachments.now attachment.now drawn.now) }
 {
-    push_list_label(text, topology, configuration, seats, drawn)?;
-    push_list_fill(text, seat.partitions.as_slice())?;
+    push_list_label(text, topology, configuration, attachments, drawn)?;
+    push_list_fill(text, attachment.partitions.as_slice())?;
     text.extend_from_slice(b"];\n")
 }
 
@@ -129,14 +121,14 @@ fn push_list_label(
     text: &mut Vec<u8>,
     topology: &Topology,
     configuration: &Configuration,
-    seats: &[Option<Seat>],
+    attachments: &[Option<Attachment>],
     drawn: &[usize],
 ) -> Result<(), AllocError>
     ensures { OnOk result (text.new.items
-        ≡ text.old.items ++ list_label topology.now configuration.now seats.now drawn.now) }
+        ≡ text.old.items ++ list_label topology.now configuration.now attachments.now drawn.now) }
 {
     text.extend_from_slice(list_head())?;
-    push_rows(text, topology, configuration, seats, drawn)?;
+    push_rows(text, topology, configuration, attachments, drawn)?;
     text.push(b'"')?;
     Ok(())
 }
@@ -169,14 +161,14 @@ fn push_rows(
     text: &mut Vec<u8>,
     topology: &Topology,
     configuration: &Configuration,
-    seats: &[Option<Seat>],
+    attachments: &[Option<Attachment>],
     drawn: &[usize],
 ) -> Result<(), AllocError>
     ensures { OnOk result (text.new.items
-        ≡ text.old.items ++ flat_map (row_at topology.now configuration.now seats.now) drawn.now) }
+        ≡ text.old.items ++ flat_map (row_at topology.now configuration.now attachments.now) drawn.now) }
 {
     for place in drawn {
-        push_row_at(text, topology, configuration, seats, *place)?;
+        push_row_at(text, topology, configuration, attachments, *place)?;
     }
     Ok(())
 }
@@ -185,28 +177,28 @@ fn push_row_at(
     text: &mut Vec<u8>,
     topology: &Topology,
     configuration: &Configuration,
-    seats: &[Option<Seat>],
+    attachments: &[Option<Attachment>],
     place: usize,
 ) -> Result<(), AllocError>
-    ensures { OnOk result (text.new.items ≡ text.old.items ++ row_at topology.now configuration.now seats.now place) }
+    ensures { OnOk result (text.new.items ≡ text.old.items ++ row_at topology.now configuration.now attachments.now place) }
 {
-    match seat_in(seats, place) {
-        Some(seat) => push_seated_row(text, topology, configuration, place, seat),
+    match attachment_in(attachments, place) {
+        Some(attachment) => push_attached_row(text, topology, configuration, place, attachment),
         None => Ok(()),
     }
 }
 
-fn push_seated_row(
+fn push_attached_row(
     text: &mut Vec<u8>,
     topology: &Topology,
     configuration: &Configuration,
     place: usize,
-    seat: &Seat,
+    attachment: &Attachment,
 ) -> Result<(), AllocError>
-    ensures { OnOk result (text.new.items ≡ text.old.items ++ seated_row topology.now configuration.now place seat.now) }
+    ensures { OnOk result (text.new.items ≡ text.old.items ++ attached_row topology.now configuration.now place attachment.now) }
 {
     match topology.nodes().get(place) {
-        Some(node) => push_row(text, configuration, seat, node),
+        Some(node) => push_row(text, configuration, attachment, node),
         None => Ok(()),
     }
 }
@@ -216,12 +208,12 @@ fn push_seated_row(
 fn push_row(
     text: &mut Vec<u8>,
     configuration: &Configuration,
-    seat: &Seat,
+    attachment: &Attachment,
     node: &Node,
 ) -> Result<(), AllocError>
-    ensures { OnOk result (text.new.items ≡ text.old.items ++ row configuration.now seat.now node.now) }
+    ensures { OnOk result (text.new.items ≡ text.old.items ++ row configuration.now attachment.now node.now) }
 {
-    push_decimal(text, usize::from(seat.port))?;
+    push_decimal(text, usize::from(attachment.port))?;
     text.extend_from_slice(b" ")?;
     text.extend_from_slice(node.name.as_bytes())?;
     push_lid_words(text, configuration.ports(), node)?;

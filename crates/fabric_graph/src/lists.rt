@@ -2,9 +2,9 @@
 
 ghost use Rattle.std.specs.Prelude.{◌≡◌, count_by, find, length, option_map, IfOk};
 ghost use Rattle.std.specs.List.{range_with_len};
-ghost use Rattle.fabric_graph.specs.Lists.{drawn_at, has_lists, is_alike, is_beside, is_first, is_in_list, is_listed, listed_seat};
+ghost use Rattle.fabric_graph.specs.Lists.{drawn_at, has_lists, is_alike, is_beside, is_first, is_in_list, is_listed, listed_attachment};
 ghost use Rattle.fabric_graph.specs.Lists.{make_list};
-ghost use Rattle.fabric_graph.specs.Lists.{may_be_listed, members, places, seat_at, seat_behind, seat_in, seat_of, seats_of};
+ghost use Rattle.fabric_graph.specs.Lists.{may_be_listed, members, places, attachment_at, attachment_behind, attachment_in, attachment_of, attachments_of};
 
 use crate::nodes::is_manager;
 use crate::partitions::partitions_of;
@@ -17,9 +17,9 @@ use topo_file::{Node, Topology};
 /// How many adapters make a list; fewer are drawn one by one.
 const LEAST: usize = 4;
 
-/// Where an adapter hangs that may stand in a list.
+/// Where an adapter is attached that may stand in a list.
 #[derive(Drop)]
-pub(crate) struct Seat {
+pub(crate) struct Attachment {
     /// The place of the switch among the nodes.
     pub switch: usize,
     /// Its port there.
@@ -28,52 +28,52 @@ pub(crate) struct Seat {
     pub partitions: Vec<usize>,
 }
 
-impl Model for Seat {
-    ghost use Rattle.fabric_graph.specs.Lists.{SeatState};
+impl Model for Attachment {
+    ghost use Rattle.fabric_graph.specs.Lists.{AttachmentState};
 
-    ghost Value = { SeatState };
+    ghost Value = { AttachmentState };
 
-    ghost view = { λ seat. record { switch = seat.switch; port = seat.port; partitions = seat.partitions.items } };
+    ghost view = { λ attachment. record { switch = attachment.switch; port = attachment.port; partitions = attachment.partitions.items } };
 }
 
-/// The seats of all nodes, by their places. Memory alone can be refused.
-pub(crate) fn seats_of(
+/// The attachments of all nodes, by their places. It can only run out of memory.
+pub(crate) fn attachments_of(
     alloc: Global,
     topology: &Topology,
     configuration: &Configuration,
-) -> Result<Vec<Option<Seat>>, AllocError>
-    ensures { IfOk result (λ seats. seats.items ≡ seats_of topology.now configuration.now) }
+) -> Result<Vec<Option<Attachment>>, AllocError>
+    ensures { IfOk result (λ attachments. attachments.items ≡ attachments_of topology.now configuration.now) }
 {
-    let mut seats = Vec::new(alloc);
+    let mut attachments = Vec::new(alloc);
     for place in 0..topology.nodes().len() {
-        seats.push(seat_at(alloc, topology, configuration, place)?)?;
+        attachments.push(attachment_at(alloc, topology, configuration, place)?)?;
     }
-    Ok(seats)
+    Ok(attachments)
 }
 
-/// Where the node there hangs, if it may stand in a list.
-fn seat_at(
+/// Where the node there is attached, if it may stand in a list.
+fn attachment_at(
     alloc: Global,
     topology: &Topology,
     configuration: &Configuration,
     place: usize,
-) -> Result<Option<Seat>, AllocError>
-    ensures { IfOk result (λ seat. seat ≡ seat_at topology.now configuration.now place) }
+) -> Result<Option<Attachment>, AllocError>
+    ensures { IfOk result (λ attachment. attachment ≡ attachment_at topology.now configuration.now place) }
 {
     match topology.nodes().get(place) {
-        Some(node) => seat_of(alloc, topology, configuration, place, node),
+        Some(node) => attachment_of(alloc, topology, configuration, place, node),
         None => Ok(None),
     }
 }
 
-fn seat_of(
+fn attachment_of(
     alloc: Global,
     topology: &Topology,
     configuration: &Configuration,
     place: usize,
     node: &Node,
-) -> Result<Option<Seat>, AllocError>
-    ensures { IfOk result (λ seat. seat ≡ seat_of topology.now configuration.now place node.now) }
+) -> Result<Option<Attachment>, AllocError>
+    ensures { IfOk result (λ attachment. attachment ≡ attachment_of topology.now configuration.now place node.now) }
 {
     if !may_be_listed(topology, node) {
         return Ok(None);
@@ -85,7 +85,7 @@ fn seat_of(
             port: 1,
         },
     ) {
-        Some(far) => Ok(Some(seat_behind(alloc, configuration, node, far)?)),
+        Some(far) => Ok(Some(attachment_behind(alloc, configuration, node, far)?)),
         None => Ok(None),
     }
 }
@@ -97,133 +97,141 @@ fn may_be_listed(topology: &Topology, node: &Node) -> bool
     !node.is_switch() && node.ports == 1 && !is_manager(topology, node)
 }
 
-fn seat_behind(
+fn attachment_behind(
     alloc: Global,
     configuration: &Configuration,
     node: &Node,
     far: PortRef,
-) -> Result<Seat, AllocError>
-    ensures { IfOk result (λ seat. seat ≡ seat_behind configuration.now node.now far) }
+) -> Result<Attachment, AllocError>
+    ensures { IfOk result (λ attachment. attachment ≡ attachment_behind configuration.now node.now far) }
 {
-    Ok(Seat {
+    Ok(Attachment {
         switch: far.node,
         port: far.port,
         partitions: partitions_of(alloc, configuration, node)?,
     })
 }
 
-/// The seat of the node there, if it has one.
-pub(crate) fn seat_in(seats: &[Option<Seat>], place: usize) -> Option<&Seat>
-    ensures { option_map (λ seat. seat.now) result ≡ seat_in seats.now place }
+/// The attachment of the node there, if it has one.
+pub(crate) fn attachment_in(attachments: &[Option<Attachment>], place: usize) -> Option<&Attachment>
+    ensures { option_map (λ attachment. attachment.now) result ≡ attachment_in attachments.now place }
 {
-    match seats.get(place) {
-        Some(Some(seat)) => Some(seat),
+    match attachments.get(place) {
+        Some(Some(attachment)) => Some(attachment),
         _ => None,
     }
 }
 
-/// Whether the seat is at this switch, and of these partitions.
-fn is_alike(switch: usize, partitions: &[usize], seat: &Seat) -> bool
-    ensures { result ≡ is_alike switch partitions.now seat.now }
+/// Whether the attachment is at this switch, and of these partitions.
+fn is_alike(switch: usize, partitions: &[usize], attachment: &Attachment) -> bool
+    ensures { result ≡ is_alike switch partitions.now attachment.now }
 {
-    seat.switch == switch && seat.partitions.as_slice() == partitions
+    attachment.switch == switch && attachment.partitions.as_slice() == partitions
 }
 
-fn is_beside(seats: &[Option<Seat>], seat: &Seat, place: usize) -> bool
-    ensures { result ≡ is_beside seats.now seat.now.switch seat.now.partitions place }
+fn is_beside(attachments: &[Option<Attachment>], attachment: &Attachment, place: usize) -> bool
+    ensures { result ≡ is_beside attachments.now attachment.now.switch attachment.now.partitions place }
 {
-    match seat_in(seats, place) {
-        Some(other) => is_alike(seat.switch, seat.partitions.as_slice(), other),
+    match attachment_in(attachments, place) {
+        Some(other) => is_alike(attachment.switch, attachment.partitions.as_slice(), other),
         None => false,
     }
 }
 
-/// The places of all adapters that hang there and are in these partitions. Memory alone can be refused.
+/// The places of all adapters that are attached there and are in these partitions. It can only run out of memory.
 #[tactic(auto, unfolding(crate::specs::Lists::members))]
-fn members(alloc: Global, seats: &[Option<Seat>], seat: &Seat) -> Result<Vec<usize>, AllocError>
-    ensures { IfOk result (λ all. all.items ≡ members seats.now seat.now) }
+fn members(
+    alloc: Global,
+    attachments: &[Option<Attachment>],
+    attachment: &Attachment,
+) -> Result<Vec<usize>, AllocError>
+    ensures { IfOk result (λ all. all.items ≡ members attachments.now attachment.now) }
 {
-    (0..seats.len())
-        .filter(|place| is_beside(seats, seat, *place))
+    (0..attachments.len())
+        .filter(|place| is_beside(attachments, attachment, *place))
         .collect(alloc)
 }
 
 /// Whether these adapters are enough for a list.
 #[tactic(auto, unfolding(crate::specs::Lists::make_list))]
-fn make_list(seats: &[Option<Seat>], seat: &Seat) -> bool
-    ensures { result ≡ make_list seats.now seat.now }
+fn make_list(attachments: &[Option<Attachment>], attachment: &Attachment) -> bool
+    ensures { result ≡ make_list attachments.now attachment.now }
 {
-    count_beside(seats, seat) >= LEAST
+    count_beside(attachments, attachment) >= LEAST
 }
 
-fn count_beside(seats: &[Option<Seat>], seat: &Seat) -> usize
-    ensures { result ≡ count_by (is_beside seats.now seat.now.switch seat.now.partitions) (range_with_len 0 (length seats.now)) }
+fn count_beside(attachments: &[Option<Attachment>], attachment: &Attachment) -> usize
+    ensures { result ≡ count_by (is_beside attachments.now attachment.now.switch attachment.now.partitions) (range_with_len 0 (length attachments.now)) }
 {
-    (0..seats.len())
-        .filter(|place| is_beside(seats, seat, *place))
+    (0..attachments.len())
+        .filter(|place| is_beside(attachments, attachment, *place))
         .count()
 }
 
 /// Whether the list is drawn where this node stands.
 #[tactic(auto, unfolding(crate::specs::Lists::is_first))]
-fn is_first(seats: &[Option<Seat>], seat: &Seat, place: usize) -> bool
-    ensures { result ≡ is_first seats.now seat.now place }
+fn is_first(attachments: &[Option<Attachment>], attachment: &Attachment, place: usize) -> bool
+    ensures { result ≡ is_first attachments.now attachment.now place }
 {
-    match first_beside(seats, seat) {
+    match first_beside(attachments, attachment) {
         Some(first) => first == place,
         None => false,
     }
 }
 
-fn first_beside(seats: &[Option<Seat>], seat: &Seat) -> Option<usize>
-    ensures { result ≡ find (is_beside seats.now seat.now.switch seat.now.partitions) (range_with_len 0 (length seats.now)) }
+fn first_beside(attachments: &[Option<Attachment>], attachment: &Attachment) -> Option<usize>
+    ensures { result ≡ find (is_beside attachments.now attachment.now.switch attachment.now.partitions) (range_with_len 0 (length attachments.now)) }
 {
-    (0..seats.len()).find(|place| is_beside(seats, seat, *place))
+    (0..attachments.len()).find(|place| is_beside(attachments, attachment, *place))
 }
 
-/// The seat of the node there, if it stands in a list.
-fn listed_seat(seats: &[Option<Seat>], place: usize) -> Option<&Seat>
-    ensures { option_map (λ seat. seat.now) result ≡ listed_seat seats.now place }
+/// The attachment of the node there, if it stands in a list.
+fn listed_attachment(attachments: &[Option<Attachment>], place: usize) -> Option<&Attachment>
+    ensures { option_map (λ attachment. attachment.now) result ≡ listed_attachment attachments.now place }
 {
-    let seat = seat_in(seats, place)?;
-    if make_list(seats, seat) {
-        Some(seat)
+    let attachment = attachment_in(attachments, place)?;
+    if make_list(attachments, attachment) {
+        Some(attachment)
     } else {
         None
     }
 }
 
-fn is_listed(seats: &[Option<Seat>], place: usize) -> bool
-    ensures { result ≡ is_listed seats.now place }
+fn is_listed(attachments: &[Option<Attachment>], place: usize) -> bool
+    ensures { result ≡ is_listed attachments.now place }
 {
-    listed_seat(seats, place).is_some()
+    listed_attachment(attachments, place).is_some()
 }
 
 /// The places of the nodes that are drawn where this one stands: its own, or those of the list of which it is the first.
 pub(crate) fn drawn_at(
     alloc: Global,
-    seats: &[Option<Seat>],
+    attachments: &[Option<Attachment>],
     place: usize,
 ) -> Result<Vec<usize>, AllocError>
-    ensures { IfOk result (λ all. all.items ≡ drawn_at seats.now place) }
+    ensures { IfOk result (λ all. all.items ≡ drawn_at attachments.now place) }
 {
-    match listed_seat(seats, place) {
-        Some(seat) if is_first(seats, seat, place) => members(alloc, seats, seat),
+    match listed_attachment(attachments, place) {
+        Some(attachment) if is_first(attachments, attachment, place) => members(
+            alloc,
+            attachments,
+            attachment,
+        ),
         Some(_) => Ok(Vec::new(alloc)),
         None => Vec::from_slice(alloc, &[place]),
     }
 }
 
 /// Whether a list shows the cable.
-pub(crate) fn is_in_list(seats: &[Option<Seat>], cable: &Cable) -> bool
-    ensures { result ≡ is_in_list seats.now cable.now }
+pub(crate) fn is_in_list(attachments: &[Option<Attachment>], cable: &Cable) -> bool
+    ensures { result ≡ is_in_list attachments.now cable.now }
 {
-    is_listed(seats, cable.first.node) || is_listed(seats, cable.second.node)
+    is_listed(attachments, cable.first.node) || is_listed(attachments, cable.second.node)
 }
 
 /// Whether there is a list.
-pub(crate) fn has_lists(seats: &[Option<Seat>]) -> bool
-    ensures { result ≡ has_lists seats.now }
+pub(crate) fn has_lists(attachments: &[Option<Attachment>]) -> bool
+    ensures { result ≡ has_lists attachments.now }
 {
-    (0..seats.len()).any(|place| is_listed(seats, place))
+    (0..attachments.len()).any(|place| is_listed(attachments, place))
 }

@@ -2,12 +2,12 @@
 
 ghost use Rattle.std.specs.Prelude.{◌≡◌, ◌++◌, OnOk, flat_map};
 ghost use Rattle.fabric_graph.specs.Nodes.{attributes, guid_words, is_manager, label, lid_line, lid_line_of, manager_line, mark};
-ghost use Rattle.fabric_graph.specs.Nodes.{node_line, port_words, quoted, shape, tooltip};
+ghost use Rattle.fabric_graph.specs.Nodes.{node_line, port_words, shape, tooltip};
 
 use crate::partitions::{is_of, push_fill_of};
-use line_parts::{push_decimal, push_hex};
 use std::alloc::{AllocError, Global};
 use subnet_model::{Configuration, SubnetPort};
+use text_parts::{push_decimal, push_guid, push_hex, push_quoted};
 use topo_file::{Node, Topology};
 
 /// Adds the line of a node.
@@ -25,15 +25,6 @@ pub(crate) fn push_node_line(
     text.extend_from_slice(b" [")?;
     push_attributes(alloc, text, topology, configuration, node)?;
     text.extend_from_slice(b"];\n")
-}
-
-/// Adds a name in quotes.
-pub(crate) fn push_quoted(text: &mut Vec<u8>, name: &[u8]) -> Result<(), AllocError>
-    ensures { OnOk result (text.new.items ≡ text.old.items ++ quoted name.now) }
-{
-    text.extend_from_slice(b"\"")?;
-    text.extend_from_slice(name)?;
-    text.extend_from_slice(b"\"")
 }
 
 #[tactic(auto, unfolding(crate::specs::Nodes::attributes))]
@@ -102,18 +93,18 @@ fn push_tooltip(text: &mut Vec<u8>, node: &Node) -> Result<(), AllocError>
     ensures { OnOk result (text.new.items ≡ text.old.items ++ tooltip node.now) }
 {
     if node.is_switch() {
-        push_guid(text, node.guid)
+        push_guid_words(text, node.guid)
     } else {
         Ok(())
     }
 }
 
 #[tactic(auto, unfolding(crate::specs::Nodes::guid_words))]
-fn push_guid(text: &mut Vec<u8>, guid: u64) -> Result<(), AllocError>
+fn push_guid_words(text: &mut Vec<u8>, guid: u64) -> Result<(), AllocError>
     ensures { OnOk result (text.new.items ≡ text.old.items ++ guid_words guid) }
 {
     text.extend_from_slice(b", tooltip=\"")?;
-    push_hex(text, &guid.to_be_bytes())?;
+    push_guid(text, guid)?;
     text.push(b'"')?;
     Ok(())
 }

@@ -4,9 +4,9 @@ ghost use Rattle.std.specs.Prelude.{◌≡◌, ◌∷◌, ◌++◌, OnOk, IfOk, 
 ghost use Rattle.fabric_graph.specs.Partitions.{colour, colour_words, colours, fill, fill_of, further_colour, holds_base, is_in, is_of};
 ghost use Rattle.fabric_graph.specs.Partitions.{partitions_of, style, style_words, styled_fill};
 
-use line_parts::push_decimal;
 use std::alloc::{AllocError, Global};
 use subnet_model::{Configuration, SubnetPort};
+use text_parts::push_decimal;
 use topo_file::Node;
 
 /// Adds the attributes that colour a channel adapter.
@@ -30,7 +30,7 @@ fn push_styled_fill(text: &mut Vec<u8>, numbers: &[usize]) -> Result<(), AllocEr
     push_fill(text, style(numbers), numbers)
 }
 
-/// The partitions that a node is in, by number, but for the default one. Memory alone can be refused.
+/// The partitions that a node is in, by number, but for the default one. It can only run out of memory.
 #[tactic(auto, unfolding(crate::specs::Partitions::partitions_of))]
 pub(crate) fn partitions_of(
     alloc: Global,

@@ -4,8 +4,8 @@ ghost use Rattle.std.specs.Prelude.{◌≡◌, ◌++◌, OnOk, flat_map};
 ghost use Rattle.std.specs.List.{list_any};
 ghost use Rattle.fabric_graph.specs.Ranks.{has_rank, member, rank_line, rank_of, row, row_words};
 
-use crate::nodes::push_quoted;
 use std::alloc::AllocError;
+use text_parts::push_quoted;
 use topo_file::Node;
 use updn_routes::Routes;
 

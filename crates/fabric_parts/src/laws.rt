@@ -1,8 +1,8 @@
 //! The numbers of all fabrics, written out. Like every law the functions do nothing: their contracts are the laws.
 
-ghost use Rattle.std.specs.Prelude.{◌≡◌};
+ghost use Rattle.std.specs.Prelude.{◌≡◌, ◌*◌, ◌^◌};
 ghost use Rattle.fabric_parts.specs.Lid.{manager_lid};
-ghost use Rattle.fabric_parts.specs.declared.lid.TheConstants.{FIRST_MULTICAST_LID, LAST_UNICAST_LID, MANAGER_LID, PERMISSIVE_LID};
+ghost use Rattle.fabric_parts.specs.declared.lid.TheConstants.{FIRST_MULTICAST_LID, GID_PREFIX, LAST_UNICAST_LID, MANAGER_LID, NO_PORT, PERMISSIVE_LID};
 ghost use Rattle.fabric_parts.specs.declared.limits.TheConstants.{ADAPTER_PORTS, NAME_BYTES, PORTS_OF_AN_ADAPTER, SWITCH_PORTS, SWITCHES};
 
 /// The numbers of LIDs: the subnet manager's is 1, and those of ports end where those of multicast groups begin, at
@@ -12,6 +12,8 @@ pub fn the_numbers()
     ensures last_unicast_lid { LAST_UNICAST_LID ≡ 0xbfff }
     ensures first_multicast_lid { FIRST_MULTICAST_LID ≡ 0xc000 }
     ensures permissive_lid { PERMISSIVE_LID ≡ 0xffff }
+    ensures gid_prefix { GID_PREFIX ≡ 0xfe80 * 2 ^ 48 }
+    ensures no_port { NO_PORT ≡ 255 }
 {}
 
 /// How big fabrics may be: the numbers are ours.

@@ -15,7 +15,8 @@ mod node_type;
 pub use crate::cable::{Cable, PortRef, far_end};
 pub use crate::laws::{the_limits, the_numbers};
 pub use crate::lid::{
-    FIRST_MULTICAST_LID, LAST_UNICAST_LID, MANAGER_LID, PERMISSIVE_LID, is_multicast, is_reserved,
+    FIRST_MULTICAST_LID, GID_PREFIX, LAST_UNICAST_LID, MANAGER_LID, NO_PORT, PERMISSIVE_LID,
+    is_multicast, is_reserved,
 };
 pub use crate::limits::{ADAPTER_PORTS, NAME_BYTES, PORTS_OF_AN_ADAPTER, SWITCH_PORTS, SWITCHES};
 pub use crate::node_type::NodeType;

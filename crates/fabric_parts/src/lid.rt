@@ -15,6 +15,16 @@ pub const FIRST_MULTICAST_LID: u16 = 0xc000;
 /// The permissive LID: directed-route packets have it where no LID is meant.
 pub const PERMISSIVE_LID: u16 = 0xffff;
 
+/// The first half of the GIDs of all ports of a subnet of ours: the link-local prefix, which PortInfo shows.
+///
+/// Source: IBA volume 1, 14.2.5.6.
+pub const GID_PREFIX: u64 = 0xfe80_0000_0000_0000;
+
+/// The LFT entry of a LID to which the switch has no route.
+///
+/// Source: IBA volume 1, chapter 14.
+pub const NO_PORT: u8 = 255;
+
 /// Whether no data packet may be sent to this LID: 0 is nobody's, and the permissive LID is for
 /// directed-route packets alone.
 ///

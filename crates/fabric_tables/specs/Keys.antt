@@ -1,12 +1,12 @@
 -- The key tables that the ports of a fabric hold (IBA volume 1, 14.2.5.7), as lines.
-use Rattle.std.specs.Prelude.{ℕ, ◌==◌, Bool, false, not, if◌then◌else◌, List, [], ◌∷◌, ◌++◌, codes, decimal, flat_map, slice_get}
+use Rattle.std.specs.Prelude.{ℕ, ◌==◌, Bool, false, not, if◌then◌else◌, List, [], ◌∷◌, ◌++◌, codes, flat_map, slice_get}
 use Rattle.std.specs.List.{range_with_len}
 use Rattle.std.specs.Option.{option_map_or}
 use Rattle.std.specs.Int.{w16, to_be_bytes}
 use Rattle.fabric_parts.specs.Cable.{far_end}
 use Rattle.fabric_parts.specs.declared.cable.PortRef.{PortRef}
 use Rattle.fabric_tables.specs.Nodes.{node_of}
-use Rattle.line_parts.specs.Parts.{hex_text}
+use Rattle.text_parts.specs.Parts.{hex_text, port_name}
 use Rattle.pkey_rules.specs.PKey.{base_of}
 use Rattle.smp_wire.specs.FabricState.{FabricState, adapter_port, is_switch_at}
 use Rattle.smp_wire.specs.declared.node.Node.{Node}
@@ -29,7 +29,7 @@ key_text word = if base_of word == 0 then [] else codes " " ++ hex_text (to_be_b
 -- `keys PORT KEY ..`, with the keys in the order of the table
 abbrev pub keys_line : List ℕ → ℕ → List ℕ → List ℕ
 keys_line name number words =
-    codes "keys " ++ name ++ codes "/" ++ decimal number ++ flat_map key_text words ++ 10 ∷ []
+    codes "keys " ++ port_name name number ++ flat_map key_text words ++ 10 ∷ []
 
 -- ---- all lines
 -- the cable of the port leads to a channel adapter

@@ -1,10 +1,10 @@
 -- The linear forwarding tables that the switches of a fabric hold (IBA volume 1, chapter 14), as lines.
 use Rattle.std.specs.Prelude.{ℕ, ◌==◌, nat_le, Bool, if◌then◌else◌, is_some, List, [], ◌∷◌, ◌++◌, codes, decimal, filter, find, flat_map, length, Option, Some, None}
-use Rattle.std.specs.Int.{w16, w64, to_be_bytes}
+use Rattle.std.specs.Int.{w16, to_be_bytes}
 use Rattle.std.specs.Option.{option_and_then, option_map_or}
 use Rattle.fabric_parts.specs.NodeType.{is_switch_type}
 use Rattle.fabric_parts.specs.declared.node_type.NodeType.{NodeType}
-use Rattle.line_parts.specs.Parts.{hex_text}
+use Rattle.text_parts.specs.Parts.{guid_text, hex_text}
 use Rattle.fabric_tables.specs.Nodes.{node_of}
 use Rattle.fabric_tables.specs.Digits.{short_hex_text, three_digits}
 use Rattle.smp_wire.specs.FabricState.{FabricState}
@@ -28,7 +28,7 @@ type_text node_type = if is_switch_type node_type then codes "Switch" else codes
 -- `(TYPE portguid GUID: 'NAME')`
 unfoldable pub port_text : SubnetPort → List ℕ
 port_text port =
-    codes "(" ++ type_text port.node_type ++ codes " portguid " ++ hex_text (to_be_bytes w64 port.guid)
+    codes "(" ++ type_text port.node_type ++ codes " portguid " ++ guid_text port.guid
     ++ codes ": '" ++ port.node_name ++ codes "')"
 
 -- `LID PORT : ` and that
@@ -59,7 +59,7 @@ abbrev pub route_text : List ℕ → List ℕ
 route_text path = codes " of switch DR path slid 0; dlid 0; 0" ++ flat_map hop_text path
 
 abbrev pub switch_text : SubnetPort → List ℕ
-switch_text switch = codes " guid " ++ hex_text (to_be_bytes w64 switch.guid) ++ codes " (" ++ switch.node_name ++ codes "):"
+switch_text switch = codes " guid " ++ guid_text switch.guid ++ codes " (" ++ switch.node_name ++ codes "):"
 
 unfoldable pub head_line : List ℕ → SubnetPort → SwitchState → List ℕ
 head_line path switch held = codes "Unicast lids " ++ range_text held ++ route_text path ++ switch_text switch ++ 10 ∷ []

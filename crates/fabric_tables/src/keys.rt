@@ -10,17 +10,17 @@ use crate::nodes::node_of;
 use agent_rules::{LINEAR_TABLE, MULTICAST_TABLE};
 use fabric_parts::PortRef;
 use fabric_wire::{Fabric, Node};
-use line_parts::{push_decimal, push_hex};
 use pkey_rules::base_of;
 use smp_wire::is_switch_at;
 use std::alloc::{AllocError, Global};
 use subnet_model::SubnetPort;
 use switch_model::Switch;
+use text_parts::{push_hex, push_port_name};
 use topo_file::Topology;
 
 /// A line for each of these end ports with the keys in its table, and behind a switch's own line those of its ports that
 /// face channel adapters, by number: `keys PORT KEY ..`, with the keys in the order of the table and empty places left
-/// out. Memory alone can be refused.
+/// out. It can only run out of memory.
 ///
 /// The tables are those that the fabric holds, whoever wrote them. Its nodes stand as the topology lists them; a port of a
 /// node that it does not list has no line.
@@ -155,9 +155,7 @@ fn push_keys_line(
     ensures { OnOk result (text.new.items ≡ text.old.items ++ keys_line name.now number words.now) }
 {
     text.extend_from_slice(b"keys ")?;
-    text.extend_from_slice(name)?;
-    text.extend_from_slice(b"/")?;
-    push_decimal(text, usize::from(number))?;
+    push_port_name(text, name, number)?;
     push_keys(text, words)?;
     text.push(b'\n')?;
     Ok(())

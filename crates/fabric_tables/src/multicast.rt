@@ -9,11 +9,11 @@ use crate::tables::{linear_tables, path_to, push_route, push_switch};
 use agent_rules::{LINEAR_TABLE, MULTICAST_TABLE};
 use fabric_parts::FIRST_MULTICAST_LID;
 use fabric_wire::{Fabric, Node};
-use line_parts::{push_decimal, push_hex};
 use std::alloc::{AllocError, Global};
 use subnet_model::SubnetPort;
 use sweep::Graph;
 use switch_model::Switch;
+use text_parts::{push_decimal, push_hex};
 use topo_file::Topology;
 
 /// The last multicast LID of a table.
@@ -21,7 +21,7 @@ const LAST_MLID: u16 = FIRST_MULTICAST_LID + MULTICAST_TABLE as u16 - 1;
 
 /// The linear forwarding tables of all switches, as `dump_fts` prints them, and behind them the multicast ones, as
 /// `dump_mfts` prints them, both in the order of the LIDs of the switches. A switch none of whose masks has the bit of one of
-/// its ports has no multicast table here. Memory alone can be refused.
+/// its ports has no multicast table here. It can only run out of memory.
 ///
 /// The tables are those that the fabric holds, whoever wrote them. Its nodes stand as the topology lists them; a switch that
 /// it does not list has no table here.

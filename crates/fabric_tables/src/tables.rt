@@ -8,16 +8,16 @@ use crate::nodes::node_of;
 use agent_rules::{LINEAR_TABLE, MULTICAST_TABLE};
 use fabric_parts::NodeType;
 use fabric_wire::{Fabric, Node};
-use line_parts::{push_decimal, push_hex};
 use std::alloc::{AllocError, Global};
 use subnet_model::SubnetPort;
 use sweep::Graph;
 use switch_model::Switch;
+use text_parts::{push_decimal, push_guid, push_hex};
 use topo_file::Topology;
 
 /// The linear forwarding table of each switch, in the order of their LIDs, as `dump_fts` prints it: the path by which a
-/// sweep found the switch, then a line for each of these end ports to which the table leads, with the port by which. Memory
-/// alone can be refused.
+/// sweep found the switch, then a line for each of these end ports to which the table leads, with the port by which. It
+/// can only run out of memory.
 pub(crate) fn linear_tables(
     alloc: Global,
     topology: &Topology,
@@ -150,7 +150,7 @@ pub(crate) fn push_switch(text: &mut Vec<u8>, switch: &SubnetPort) -> Result<(),
     ensures { OnOk result (text.new.items ≡ text.old.items ++ switch_text switch.now) }
 {
     text.extend_from_slice(b" guid ")?;
-    push_hex(text, &switch.guid.to_be_bytes())?;
+    push_guid(text, switch.guid)?;
     text.extend_from_slice(b" (")?;
     text.extend_from_slice(switch.node_name.as_slice())?;
     text.extend_from_slice(b"):")
@@ -238,7 +238,7 @@ fn push_port(text: &mut Vec<u8>, port: &SubnetPort) -> Result<(), AllocError>
     text.extend_from_slice(b"(")?;
     text.extend_from_slice(type_text(port.node_type))?;
     text.extend_from_slice(b" portguid ")?;
-    push_hex(text, &port.guid.to_be_bytes())?;
+    push_guid(text, port.guid)?;
     text.extend_from_slice(b": '")?;
     text.extend_from_slice(port.node_name.as_slice())?;
     text.extend_from_slice(b"')")

@@ -119,7 +119,7 @@ fn routes_of(alloc: Global, graph: Graph, roots: &[u64]) -> Result<Routes, Fail>
     Ok(routes(alloc, graph, lids, roots).or(Err("routes"))?)
 }
 
-/// The subnet manager's port hangs on port 1 of the first leaf. Each leaf knows the way there; a spine that has
+/// The subnet manager's port is attached to port 1 of the first leaf. Each leaf knows the way there; a spine that has
 /// no cable to that leaf does not.
 fn leaves_know_the_way(rt: &impl Abort, routes: &Routes) {
     assert_eq!(rt; routes.next_hop(0, 1), Some(1));

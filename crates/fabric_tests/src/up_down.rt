@@ -1,4 +1,4 @@
-//! Routes of the two-switch fabric, or want of memory.
+//! Routes of the two-switch fabric, or out of memory.
 
 ghost use Rattle.sweep.specs.Joined.{AllJoined};
 
@@ -17,7 +17,7 @@ fn fabric_of(alloc: Global, text: &[u8]) -> Option<Fabric> {
     Fabric::new(alloc, &topology).ok()
 }
 
-/// The routes of what a sweep finds; nothing where memory is refused, and no other fault.
+/// The routes of what a sweep finds; nothing if an allocation fails, and no other fault.
 fn routes_over(rt: &impl Abort, alloc: Global, fabric: &mut Fabric) -> Option<Routes> {
     match sweep(alloc, fabric) {
         Ok(graph) => routes_of(rt, alloc, graph),

@@ -11,8 +11,8 @@ use Rattle.std.proofs.lemmas.List.Folds.{list_all-append, list_any-append}
 use Rattle.std.proofs.Math.Seq.{drop-append_seam, drop-cons, take-append_seam}
 use Rattle.std.proofs.lemmas.Slice.{between_to_end}
 use Rattle.std.proofs.lemmas.Map.Keys.{IsDistinct-tail}
-use Rattle.result_words.proofs.ListLemmas.{list_all_weaker}
-use Rattle.result_words.proofs.DistinctLemmas.{left_part, none_shares, right_part}
+use Rattle.step_results.proofs.ListLemmas.{list_all_weaker}
+use Rattle.step_results.proofs.DistinctLemmas.{left_part, none_shares, right_part}
 use Rattle.fabric_parts.specs.declared.cable.Cable.{Cable}
 use Rattle.fabric_parts.specs.declared.cable.PortRef.{PortRef}
 use Rattle.fabric_parts.specs.Cable.{far_end, is_same_port}
@@ -74,7 +74,7 @@ apart (x ∷ p) q cable own =
     }
 
 -- ---- far ends
-none_far : (cables : List Cable) (at : PortRef) → Free at cables → far_end cables at ≡ None
+pub none_far : (cables : List Cable) (at : PortRef) → Free at cables → far_end cables at ≡ None
 none_far [] at free = refl
 none_far (x ∷ cables) at free =
     let one = or_parts (is_same_port at x.first) _ free in

@@ -5,19 +5,19 @@ use Rattle.std.specs.Option.{option_and_then}
 use Rattle.std.proofs.lemmas.Bool.{and_parts, eqb-true, eq-eqb, leb-true, not-true}
 use Rattle.std.proofs.lemmas.List.Folds.{list_any-append}
 use Rattle.std.proofs.lemmas.Option.{same_Some, slice_get-map, slice_get_within}
-use Rattle.result_words.proofs.ListLemmas.{all_there}
+use Rattle.step_results.proofs.ListLemmas.{all_there}
 use Rattle.std.proofs.lemmas.List.{length-map}
 use Rattle.fabric_parts.specs.NodeType.{most_ports}
 use Rattle.fabric_parts.specs.declared.node_type.NodeType.TheVariants.{ChannelAdapter}
 use Rattle.fabric_parts.specs.declared.cable.PortRef.{PortRef}
 use Rattle.port_model.specs.AdapterState.{AdapterState}
-use Rattle.result_words.proofs.DistinctLemmas.{all_differ, differ}
+use Rattle.step_results.proofs.DistinctLemmas.{all_differ, differ}
 use Rattle.smp_wire.specs.FabricState.{adapter_port}
 use Rattle.smp_wire.specs.Good.{end_port_guids, has_a_right_count}
 use Rattle.smp_wire.specs.declared.node.Node.{Node}
 use Rattle.smp_wire.specs.declared.node.Node.TheVariants.{Switch, Adapter}
-use Rattle.packet_ways.specs.Deliveries.{adapter_ports, guid_at}
-use Rattle.fabric_wire.specs.AdapterPorts.{Finds, IsBefore, IsTold}
+use Rattle.delivery_laws.specs.Deliveries.{adapter_ports, guid_at}
+use Rattle.fabric_wire.specs.AdapterPorts.{Finds, IsBefore, IsReported}
 
 -- ---- lists of numbers of which no two are the same
 abbrev same : ℕ → ℕ → Bool
@@ -146,7 +146,7 @@ known_distinct nodes once a b guid one other =
     λ i. record { node = both.0 i; port = port i }
 
 -- ---- the look-up, while it is made: ports before this one are in it
-pub begins : (nodes : List Node) (place_of : ℕ → Option PortRef) → ((guid : ℕ) → place_of guid ≡ None) → IsTold nodes place_of 0 1
+pub begins : (nodes : List Node) (place_of : ℕ → Option PortRef) → ((guid : ℕ) → place_of guid ≡ None) → IsReported nodes place_of 0 1
 begins nodes place_of empty = record {
   sound = λ guid at is. let none = empty guid in absurd (cc);
   full = λ guid at is before. absurd (none_before at guid is before);
@@ -179,23 +179,23 @@ full_by nodes here at key guid false old other own key_is at_is was =
     was (λ same. let keys = same_Some guid key (sym at_is ∙ ap (guid_at nodes) same ∙ key_is) in
     let clash = eq-eqb key guid (sym keys) in cc)
 
-pub with_port : (nodes : List Node) (old new : ℕ → Option PortRef) (node port key : ℕ) → AreOwn nodes → IsTold nodes old node port
+pub with_port : (nodes : List Node) (old new : ℕ → Option PortRef) (node port key : ℕ) → AreOwn nodes → IsReported nodes old node port
     → guid_at nodes (record { node = node; port = port }) ≡ Some key
-    → ((guid : ℕ) → new guid ≡ cond (key == guid) (Some (record { node = node; port = port })) (old guid)) → IsTold nodes new node (port + 1)
-with_port nodes old new node port key own told is writes =
+    → ((guid : ℕ) → new guid ≡ cond (key == guid) (Some (record { node = node; port = port })) (old guid)) → IsReported nodes new node (port + 1)
+with_port nodes old new node port key own reported is writes =
     let here : PortRef = record { node = node; port = port } in
     record {
-      sound = λ guid at found. sound_by nodes here at key guid (key == guid) (old guid) refl is (told.sound guid at) (sym (writes guid) ∙ found);
+      sound = λ guid at found. sound_by nodes here at key guid (key == guid) (old guid) refl is (reported.sound guid at) (sym (writes guid) ∙ found);
       full = λ guid at at_is before. writes guid ∙ full_by nodes here at key guid (key == guid) (old guid) refl own is at_is
-          (λ other. told.full guid at at_is (before_more at node port before other));
+          (λ other. reported.full guid at at_is (before_more at node port before other));
     }
 
 -- or without one
-pub without_port : (nodes : List Node) (place_of : ℕ → Option PortRef) (node port : ℕ) → IsTold nodes place_of node port
-    → guid_at nodes (record { node = node; port = port }) ≡ None → IsTold nodes place_of node (port + 1)
-without_port nodes place_of node port told none = record {
-  sound = told.sound;
-  full = λ guid at at_is before. told.full guid at at_is (before_more at node port before
+pub without_port : (nodes : List Node) (place_of : ℕ → Option PortRef) (node port : ℕ) → IsReported nodes place_of node port
+    → guid_at nodes (record { node = node; port = port }) ≡ None → IsReported nodes place_of node (port + 1)
+without_port nodes place_of node port reported none = record {
+  sound = reported.sound;
+  full = λ guid at at_is before. reported.full guid at at_is (before_more at node port before
       (λ same. let there = sym at_is ∙ ap (guid_at nodes) same ∙ none in cc));
 }
 
@@ -211,11 +211,11 @@ are_few nodes counts at guid is =
     let here = stands.few in
     omega (arith, here, most)
 
-pub next_node : (nodes : List Node) (place_of : ℕ → Option PortRef) (node port most : ℕ) → AreFew nodes most → most < port → IsTold nodes place_of node port
-    → IsTold nodes place_of (node + 1) 1
-next_node nodes place_of node port most few past told = record {
-  sound = told.sound;
-  full = λ guid at at_is before. told.full guid at at_is (by_part at guid at_is before);
+pub next_node : (nodes : List Node) (place_of : ℕ → Option PortRef) (node port most : ℕ) → AreFew nodes most → most < port → IsReported nodes place_of node port
+    → IsReported nodes place_of (node + 1) 1
+next_node nodes place_of node port most few past reported = record {
+  sound = reported.sound;
+  full = λ guid at at_is before. reported.full guid at at_is (by_part at guid at_is before);
 }
   where
     by_part : (at : PortRef) (guid : ℕ) → guid_at nodes at ≡ Some guid → IsBefore at (node + 1) 1 → IsBefore at node port
@@ -228,10 +228,10 @@ next_node nodes place_of node port most few past told = record {
             let apart : at.node ≢ node = λ same. let clash = eq-eqb at.node node same in cc in
             inl (omega (arith, low, apart))
 
-pub ends : (nodes : List Node) (place_of : ℕ → Option PortRef) (node : ℕ) → length nodes ≤ node → IsTold nodes place_of node 1 → Finds nodes place_of
-ends nodes place_of node past told guid at = (
-  told.sound guid at,
+pub ends : (nodes : List Node) (place_of : ℕ → Option PortRef) (node : ℕ) → length nodes ≤ node → IsReported nodes place_of node 1 → Finds nodes place_of
+ends nodes place_of node past reported guid at = (
+  reported.sound guid at,
   λ is. let stands = stands_at nodes at guid is in
       let within = slice_get_within nodes at.node (Adapter stands.ports) stands.there in
-      told.full guid at is (inl (omega (arith, within, past))),
+      reported.full guid at is (inl (omega (arith, within, past))),
 )

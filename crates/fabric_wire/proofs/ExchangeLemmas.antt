@@ -27,7 +27,7 @@ use Rattle.fabric_wire.proofs.HopLemmas.{byte_kept, pointer_set}
 use Rattle.smp_wire.proofs.KeptLemmas.{IsSame, after_found, stays_good, switch_same}
 use Rattle.smp_wire.proofs.ArrivalLemmas.{arrived_carries, put_below, walks_right}
 use Rattle.smp_wire.proofs.WalkLemmas.{path_length, sent_parts}
-use Rattle.result_words.proofs.DistinctLemmas.{differ}
+use Rattle.step_results.proofs.DistinctLemmas.{differ}
 use Rattle.smp_wire.proofs.PresentLemmas.{present_once, present_right}
 
 pub record IsReady (nodes : List Node) (cables : List Cable) (manager agent : PortRef) (smp : List ℕ) : Type 0 where

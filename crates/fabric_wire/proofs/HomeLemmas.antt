@@ -17,7 +17,7 @@ use Rattle.smp_wire.specs.Good.{ends_of, is_right}
 use Rattle.fabric_wire.specs.Hopping.{leads_home}
 use Rattle.smp_wire.specs.Walk.{hands_on, hop, last_of, walk, with_return_ports}
 use Rattle.smp_wire.proofs.CableLemmas.{both_ways, far_ends_meet}
-use Rattle.result_words.proofs.DistinctLemmas.{all_differ}
+use Rattle.step_results.proofs.DistinctLemmas.{all_differ}
 
 -- ---- ports of cables count from 1
 abbrev pub AreNumbered : PortRef → PortRef → Type 0

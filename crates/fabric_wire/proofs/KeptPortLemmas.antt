@@ -7,14 +7,14 @@ use Rattle.fabric_parts.specs.declared.cable.PortRef.{PortRef}
 use Rattle.data_packet.specs.declared.packet.Packet.{Packet}
 use Rattle.port_model.specs.AdapterState.{AdapterState}
 use Rattle.smp_wire.proofs.KeptLemmas.{shape}
-use Rattle.result_words.proofs.ElementLemmas.{get_same}
+use Rattle.step_results.proofs.ElementLemmas.{get_same}
 use Rattle.smp_wire.specs.FabricState.{FabricState, adapter_port, is_switch}
 use Rattle.smp_wire.specs.Good.{end_port_guids}
 use Rattle.smp_wire.specs.Walk.{exchange_after}
 use Rattle.smp_wire.specs.declared.node.Node.{Node}
 use Rattle.smp_wire.specs.declared.node.Node.TheVariants.{Switch, Adapter}
-use Rattle.packet_ways.specs.Deliveries.{AreDeliveries, IsDelivered, IsOwn, adapter_ports, guid_at, numbers_of}
-use Rattle.packet_ways.proofs.DeliveryLemmas.{no_delivery, one_delivery}
+use Rattle.delivery_laws.specs.Deliveries.{AreDeliveries, IsDelivered, IsOwn, adapter_ports, guid_at, numbers_of}
+use Rattle.delivery_laws.proofs.DeliveryLemmas.{no_delivery, one_delivery}
 use Rattle.fabric_wire.specs.AdapterPorts.{Finds}
 
 abbrev Guid : Option Node → ℕ → Option ℕ

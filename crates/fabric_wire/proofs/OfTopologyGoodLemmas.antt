@@ -10,7 +10,7 @@ use Rattle.std.proofs.lemmas.Map.Keys.{IsDistinct-tail}
 use Rattle.agent_rules.specs.declared.power_up.TheConstants.{LINEAR_TABLE, MULTICAST_TABLE}
 use Rattle.attr_tables.specs.Attribute.{IsAttribute}
 use Rattle.std.proofs.lemmas.List.Elements.{All-cons, All-nil}
-use Rattle.result_words.proofs.TestLemmas.{same_either_way}
+use Rattle.step_results.proofs.TestLemmas.{same_either_way}
 use Rattle.port_model.specs.Good.{IsGoodPort}
 use Rattle.port_model.proofs.AgentLemmas.{new_ports_good}
 use Rattle.switch_model.proofs.GoodLemmas.{new_switches_good}
@@ -29,7 +29,7 @@ use Rattle.fabric_wire.specs.OfTopology.{adapter_port_of, link_of, links_of, nam
 use Rattle.fabric_wire.proofs.NameLemmas.{name_described}
 use Rattle.fabric_wire.proofs.OfTopologyLemmas.{all_made, free_ends, links_long, most_port, nodes_from, port_there, right_count, switch_there}
 use Rattle.fabric_wire.proofs.OfTopologyGuidLemmas.{end_guids_differ, guid_of, node_guids_differ}
-use Rattle.result_words.proofs.DistinctLemmas.{all_differ, distinct}
+use Rattle.step_results.proofs.DistinctLemmas.{all_differ, distinct}
 
 -- ---- the ports of an adapter stand in order
 all_of : (cables : List Cable) (place : ℕ) (node : PlannedNode) (number count : ℕ)

@@ -7,7 +7,7 @@ use Rattle.std.proofs.lemmas.List.Concat.{flat_map_single}
 use Rattle.std.proofs.lemmas.List.Elements.{recursion_from_All}
 use Rattle.std.proofs.lemmas.List.Folds.{flat_map-map, list_all-append, list_any-append}
 use Rattle.std.proofs.lemmas.Map.Keys.{IsDistinct-tail}
-use Rattle.result_words.proofs.ListLemmas.{list_all_weaker}
+use Rattle.step_results.proofs.ListLemmas.{list_all_weaker}
 use Rattle.fabric_parts.specs.declared.cable.Cable.{Cable}
 use Rattle.topo_file.specs.declared.node.Node.{Node as PlannedNode}
 use Rattle.fabric_parts.specs.declared.node_type.NodeType.{NodeType}
@@ -18,7 +18,7 @@ use Rattle.smp_wire.specs.declared.node.Node.TheVariants.{Adapter}
 use Rattle.smp_wire.specs.Good.{AreGuids, end_port_guids, is_guid, node_guid}
 use Rattle.fabric_wire.specs.OfTopology.{adapter_port_of, node_of, node_of_type}
 use Rattle.fabric_wire.proofs.OfTopologyLemmas.{nodes_from, some_port}
-use Rattle.result_words.proofs.DistinctLemmas.{all_differ, distinct, none_shares}
+use Rattle.step_results.proofs.DistinctLemmas.{all_differ, distinct, none_shares}
 
 -- ---- lists of GUIDs from one to another
 abbrev pub is_in : ℕ → ℕ → ℕ → Bool

@@ -20,7 +20,7 @@ use Rattle.smp_wire.specs.declared.node.Node.{Node}
 use Rattle.smp_wire.specs.FabricState.{is_port, is_switch, is_switch_at, port_count}
 use Rattle.smp_wire.specs.Good.{has_a_right_count}
 use Rattle.fabric_wire.specs.OfTopology.{adapter_port_of, link_of, links_of, node_of, node_of_type}
-use Rattle.result_words.proofs.DistinctLemmas.{none_shares}
+use Rattle.step_results.proofs.DistinctLemmas.{none_shares}
 
 -- ---- places
 abbrev pub nodes_from : List Cable → ℕ → List PlannedNode → List Node
@@ -82,7 +82,7 @@ ports_there cables nodes k =
 pub port_there : (cables : List Cable) (nodes : List PlannedNode) (at : PortRef) → is_port (nodes_from cables 0 nodes) at ≡ is_planned_port nodes at
 port_there cables nodes at = rw (ports_there cables nodes at.node) refl
 
--- ---- a node of which a topology tells has ports, and not too many
+-- ---- a node of which a topology reports has ports, and not too many
 right_of : (of : NodeType) (cables : List Cable) (place : ℕ) (node : PlannedNode) → nat_le 1 node.ports && nat_le node.ports (most_ports of) ≡ true
     → has_a_right_count (node_of_type of cables place node) ≡ true
 right_of node_type.Switch cables place node sized = rw (count_of node_type.Switch cables place node) sized

@@ -14,8 +14,8 @@ use Rattle.agent_rules.specs.declared.power_up.TheConstants.{LINEAR_TABLE, MULTI
 use Rattle.fabric_parts.specs.Cable.{ends_at, is_cabled, is_same_port}
 use Rattle.fabric_parts.specs.declared.cable.Cable.{Cable}
 use Rattle.fabric_parts.specs.declared.cable.PortRef.{PortRef}
-use Rattle.result_words.proofs.ElementLemmas.{all_same, or_same, read_same}
-use Rattle.result_words.proofs.ListLemmas.{all_have}
+use Rattle.step_results.proofs.ElementLemmas.{all_same, or_same, read_same}
+use Rattle.step_results.proofs.ListLemmas.{all_have}
 use Rattle.smp_wire.specs.FabricState.{FabricState, all_cables, is_port, is_switch, is_switch_at, port_count}
 use Rattle.smp_wire.specs.Good.{IsGood, IsGoodNode, end_port_guids, ends_of, has_a_right_count, is_in_order, is_right, node_guid}
 use Rattle.smp_wire.specs.declared.node.Node.{Node}
@@ -206,7 +206,7 @@ reorders true a b old = mended_reorders a b old
 reorders false a b old = cut_reorders a b old
 
 -- ---- the subnet manager's port, which is no switch's, keeps its cable
-not_there : (nodes : List Node) (a m : PortRef) → is_switch_at nodes a.node ≡ true → is_switch_at nodes m.node ≡ false → is_same_port a m ≡ false
+pub not_there : (nodes : List Node) (a m : PortRef) → is_switch_at nodes a.node ≡ true → is_switch_at nodes m.node ≡ false → is_same_port a m ≡ false
 not_there nodes a m switch none = by (a.node == m.node) refl
   where
     by : (b : Bool) → (a.node == m.node) ≡ b → (b && (a.port == m.port)) ≡ false

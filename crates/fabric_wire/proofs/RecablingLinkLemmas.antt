@@ -11,8 +11,8 @@ use Rattle.attr_tables.specs.declared.port_info.PortInfo.{PortInfo}
 use Rattle.fabric_parts.specs.Cable.{ends_at, far_end, is_cabled, is_same_port, other_end}
 use Rattle.fabric_parts.specs.declared.cable.Cable.{Cable}
 use Rattle.fabric_parts.specs.declared.cable.PortRef.{PortRef}
-use Rattle.result_words.proofs.DistinctLemmas.{left_part, right_part}
-use Rattle.result_words.proofs.ElementLemmas.{get_other, get_written}
+use Rattle.step_results.proofs.DistinctLemmas.{left_part, right_part}
+use Rattle.step_results.proofs.ElementLemmas.{get_other, get_written}
 use Rattle.smp_wire.specs.FabricState.{FabricState, is_port, is_switch, is_switch_at}
 use Rattle.smp_wire.specs.Good.{IsGood, ShowsLinks, ends_of, info_at, port_info_at}
 use Rattle.smp_wire.specs.declared.node.Node.{Node}
@@ -78,14 +78,15 @@ at_ends a b at cable up old between = elim (or_cases (is_same_port cable.first a
         → cond (is_same_port second at) up (cond (is_same_port first at) up old) ≡ (if is_same_port a at || is_same_port b at then up else old)
     named first second one two is_one is_two so = rw (is_one, is_two) so
 
-record Split (test : Cable → Bool) (cables : List Cable) : Type 0 where
-  before : List Cable
-  cable : Cable
-  behind : List Cable
-  is : cables ≡ before ++ cable ∷ behind
-  passes : test cable ≡ true
+-- the first cable that passes a test, and those before and behind it
+pub record Split (test : Cable → Bool) (cables : List Cable) : Type 0 where
+  pub before : List Cable
+  pub cable : Cable
+  pub behind : List Cable
+  pub is : cables ≡ before ++ cable ∷ behind
+  pub passes : test cable ≡ true
 
-split : (test : Cable → Bool) (cables : List Cable) → list_any test cables ≡ true → Split test cables
+pub split : (test : Cable → Bool) (cables : List Cable) → list_any test cables ≡ true → Split test cables
 split test [] some = absurd (false≢true some)
 split test (cable ∷ cables) some = elim (or_cases (test cable) _ some) [
   | inl here ↦ record { before = []; cable = cable; behind = cables; is = refl; passes = here }
@@ -145,8 +146,8 @@ cabled_after a b at false old own some = cut_cabled a b at old own some
 abbrev downs : List Node → PortRef → Option Bool
 downs nodes at = option_and_then (λ node. option_map (λ info. is_down info) (port_info_at node at.port)) (slice_get nodes at.node)
 
-downs_told : (fabric : FabricState) (at : PortRef) → option_map (λ info. is_down info) (info_at fabric at) ≡ downs fabric.nodes at
-downs_told fabric at = by (slice_get fabric.nodes at.node)
+downs_reported : (fabric : FabricState) (at : PortRef) → option_map (λ info. is_down info) (info_at fabric at) ≡ downs fabric.nodes at
+downs_reported fabric at = by (slice_get fabric.nodes at.node)
   where
     by : (found : Option Node) → option_map (λ info. is_down info) (option_and_then (λ node. port_info_at node at.port) found)
         ≡ option_and_then (λ node. option_map (λ info. is_down info) (port_info_at node at.port)) found
@@ -230,13 +231,13 @@ both_after a b at up nodes first second =
     twice false false down = refl
 
 -- ---- so links show
-told_down : (up here cabled : Bool) (info : PortInfo) (old : Option PortInfo)
+reported_down : (up here cabled : Bool) (info : PortInfo) (old : Option PortInfo)
     → Some (is_down info) ≡ (if here then option_map (λ down. not up) (option_map (λ one. is_down one) old) else option_map (λ one. is_down one) old)
     → ((one : PortInfo) → old ≡ Some one → is_down one ≡ not cabled) → is_down info ≡ not (if here then up else cabled)
-told_down up true cabled info None same each = cc
-told_down up true cabled info (Some one) same each = same_Some _ _ same
-told_down up false cabled info None same each = cc
-told_down up false cabled info (Some one) same each = same_Some _ _ same ∙ each one refl
+reported_down up true cabled info None same each = cc
+reported_down up true cabled info (Some one) same each = same_Some _ _ same
+reported_down up false cabled info None same each = cc
+reported_down up false cabled info (Some one) same each = same_Some _ _ same ∙ each one refl
 
 changed_shows : (a b : PortRef) (up : Bool) (fabric : FabricState) → IsGood fabric → ShowsLinks fabric → can_change a b up fabric ≡ true
     → ShowsLinks (changed a b up fabric)
@@ -247,9 +248,9 @@ changed_shows a b up fabric good links can at info is_there there =
     let port : is_port old at ≡ true = sym (port_same old new (nodes_alike up a b old) at) ∙ is_there in
     let down : Some (is_down info) ≡ (if is_same_port a at || is_same_port b at then option_map (λ down. not up) (option_map (λ one. is_down one) (info_at fabric at))
     else option_map (λ one. is_down one) (info_at fabric at)) =
-    ap (option_map (λ one. is_down one)) (sym there) ∙ downs_told (changed a b up fabric) at ∙ both_after a b at up old asks.first asks.second
-    ∙ ap (λ (one : Option Bool). if is_same_port a at || is_same_port b at then option_map (λ down. not up) one else one) (sym (downs_told fabric at)) in
-    told_down up (is_same_port a at || is_same_port b at) (is_cabled fabric.cables at) info (info_at fabric at) down (λ one before. links at one port before)
+    ap (option_map (λ one. is_down one)) (sym there) ∙ downs_reported (changed a b up fabric) at ∙ both_after a b at up old asks.first asks.second
+    ∙ ap (λ (one : Option Bool). if is_same_port a at || is_same_port b at then option_map (λ down. not up) one else one) (sym (downs_reported fabric at)) in
+    reported_down up (is_same_port a at || is_same_port b at) (is_cabled fabric.cables at) info (info_at fabric at) down (λ one before. links at one port before)
     ∙ ap not (sym (cabled_after a b at up (cabling_of fabric) good.once asks.some))
 
 pub cables_keep_links : CablesKeepLinks

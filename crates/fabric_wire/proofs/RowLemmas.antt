@@ -1,17 +1,17 @@
--- What rows tell when a place is added or written.
+-- What rows report when a place is added or written.
 use Rattle.std.proofs.Common.{ℕ, ◌≡◌, ◌<◌, ◌==◌, ◌&&◌, ◌∙◌, ap, refl, sym, cond, get_or, Bool, true, false, List, length, slice_get, slice_set, Option, Some, None, ◌≤◌, nat_lt, ◌⊎◌, inl, inr}
 use Rattle.std.specs.Option.{option_and_then}
 use Rattle.std.proofs.lemmas.Bool.{eqb-true, eq-eqb}
 use Rattle.std.proofs.lemmas.Option.{slice_get-get_or, slice_get_cases}
-use Rattle.result_words.proofs.ElementLemmas.{get_other, get_written}
+use Rattle.step_results.proofs.ElementLemmas.{get_other, get_written}
 use Rattle.fabric_parts.specs.declared.cable.PortRef.{PortRef}
 use Rattle.fabric_parts.specs.Cable.{is_same_port}
 use Rattle.fabric_wire.specs.Cabling.{has_place}
 use Rattle.fabric_wire.specs.Rows.{far_in, far_in_row}
 
 -- ---- with a row written
-abbrev Told : Option (List (Option PortRef)) → ℕ → Option PortRef
-Told found number = option_and_then (λ row. far_in_row row number) found
+abbrev Reported : Option (List (Option PortRef)) → ℕ → Option PortRef
+Reported found number = option_and_then (λ row. far_in_row row number) found
 
 by_place : (rows : List (List (Option PortRef))) (here : PortRef) (far : Option PortRef) (port : PortRef) (old new : List (Option PortRef)) (b : Bool) → (here.node == port.node) ≡ b
     → slice_get rows here.node ≡ Some old → far_in_row new port.port ≡ cond (here.port == port.port) far (far_in_row old port.port)
@@ -22,7 +22,7 @@ by_place rows here far port old new true same was is =
     ap (slice_get (slice_set rows here.node new)) (sym (eqb-true here.node port.node same)) ∙ get_written rows here.node new old was in
     rw (now, there) is
 by_place rows here far port old new false other was is =
-    ap (λ (found : Option (List (Option PortRef))). Told found port.port)
+    ap (λ (found : Option (List (Option PortRef))). Reported found port.port)
     (get_other rows here.node port.node new (λ same. let both = eq-eqb here.node port.node (sym same) in let clash = sym other ∙ both in cc))
 
 pub rows_put : (rows : List (List (Option PortRef))) (here : PortRef) (far : Option PortRef) (old new : List (Option PortRef)) → here.node < length rows

@@ -17,8 +17,8 @@ use Rattle.smp_wire.proofs.CableLemmas.{count_ends, far_is_end, itself, ports_eq
 use Rattle.smp_wire.specs.Good.{ends_of}
 use Rattle.smp_wire.specs.declared.node.Node.{Node}
 use Rattle.indexmap.specs.IndexSet.{insert_key}
-use Rattle.packet_ways.specs.Deliveries.{Goes, Passes, sends_at}
-use Rattle.packet_ways.proofs.WayLemmas.{one_more}
+use Rattle.delivery_laws.specs.Deliveries.{Goes, Passes, sends_at}
+use Rattle.delivery_laws.proofs.WayLemmas.{one_more}
 use Rattle.fabric_wire.specs.Spreading.{AreReached, IsGrown, has_port}
 
 -- ---- ports of a list

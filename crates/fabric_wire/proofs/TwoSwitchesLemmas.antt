@@ -9,7 +9,7 @@ use Rattle.topo_file.specs.Connectivity.{AllJoined}
 use Rattle.topo_file.specs.Node.{HasGuids, is_switch_at, last_guid, shares_guid}
 use Rattle.topo_file.specs.Sound.{IsSound, shares_name, shares_port}
 use Rattle.fabric_wire.specs.TwoSwitches.{two_switches}
-use Rattle.result_words.proofs.DistinctLemmas.{distinct}
+use Rattle.step_results.proofs.DistinctLemmas.{distinct}
 
 no_switch : (k : ℕ) → is_switch_at two_switches.nodes (suc (suc k)) ≡ true → ⊥
 no_switch zero h = absurd (false≢true h)

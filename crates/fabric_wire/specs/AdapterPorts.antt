@@ -4,7 +4,7 @@ use Rattle.fabric_parts.specs.declared.cable.PortRef.{PortRef}
 use Rattle.smp_wire.specs.FabricState.{FabricState}
 use Rattle.smp_wire.specs.Good.{IsGood, ShowsLinks}
 use Rattle.smp_wire.specs.declared.node.Node.{Node}
-use Rattle.packet_ways.specs.Deliveries.{guid_at}
+use Rattle.delivery_laws.specs.Deliveries.{guid_at}
 
 -- the look-up finds the port of each GUID that one has, and no other
 abbrev pub Finds : List Node → (ℕ → Option PortRef) → Type 0
@@ -20,6 +20,6 @@ pub record IsKept (fabric : FabricState) (place_of : ℕ → Option PortRef) : T
 abbrev pub IsBefore : PortRef → ℕ → ℕ → Type 0
 IsBefore at node port = (at.node < node) ⊎ ((at.node ≡ node) × (at.port < port))
 
-pub record IsTold (nodes : List Node) (place_of : ℕ → Option PortRef) (node port : ℕ) : Type 0 where
+pub record IsReported (nodes : List Node) (place_of : ℕ → Option PortRef) (node port : ℕ) : Type 0 where
   pub sound : (guid : ℕ) (at : PortRef) → place_of guid ≡ Some at → guid_at nodes at ≡ Some guid
   pub full : (guid : ℕ) (at : PortRef) → guid_at nodes at ≡ Some guid → IsBefore at node port → place_of guid ≡ Some at

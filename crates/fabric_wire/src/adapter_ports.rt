@@ -5,8 +5,8 @@ ghost use Rattle.std.specs.List.{IsDistinct, list_all};
 ghost use Rattle.std.specs.Option.{option_copied};
 ghost use Rattle.indexmap.specs.IndexMap.{get};
 ghost use Rattle.smp_wire.specs.Good.{end_port_guids, has_a_right_count};
-ghost use Rattle.packet_ways.specs.Deliveries.{adapter_at};
-ghost use Rattle.fabric_wire.specs.AdapterPorts.{Finds, IsTold};
+ghost use Rattle.delivery_laws.specs.Deliveries.{adapter_at};
+ghost use Rattle.fabric_wire.specs.AdapterPorts.{Finds, IsReported};
 
 use fabric_parts::{NodeType, PortRef};
 use indexmap::IndexMap;
@@ -24,7 +24,7 @@ pub fn adapter_at(nodes: &[Node], at: PortRef) -> Option<&AdapterPort>
     }
 }
 
-/// Where each port of a channel adapter is, by its GUID. Memory alone can be refused.
+/// Where each port of a channel adapter is, by its GUID. It can only run out of memory.
 pub(crate) fn places_by_guid(
     alloc: Global,
     nodes: &[Node],
@@ -48,8 +48,8 @@ fn put_ports(
 ) -> Result<(), AllocError>
     requires counts { list_all has_a_right_count nodes.now ≡ true }
     requires own { IsDistinct (λ a b. a == b) (flat_map end_port_guids nodes.now) }
-    requires told { IsTold nodes.now (get nat_eq places.old) node 1 }
-    ensures { OnOk result (IsTold nodes.now (get nat_eq places.new) (node + 1) 1) }
+    requires reported { IsReported nodes.now (get nat_eq places.old) node 1 }
+    ensures { OnOk result (IsReported nodes.now (get nat_eq places.new) (node + 1) 1) }
 {
     for port in 1..NodeType::ChannelAdapter.most_ports() + 1 {
         let at = PortRef { node, port };

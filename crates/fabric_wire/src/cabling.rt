@@ -34,7 +34,7 @@ impl Model for Cabling {
 }
 
 impl Cabling {
-    /// These cables, none of which is cut. Memory alone can be refused.
+    /// These cables, none of which is cut. It can only run out of memory.
     pub(crate) fn new(alloc: Global, cables: &[Cable]) -> Result<Cabling, AllocError>
         ensures { IfOk result (λ cabling. cabling ≡ uncut cables.now) }
     {

@@ -4,8 +4,8 @@ ghost use Rattle.std.specs.Prelude.{◌≡◌, false, IfSome, None};
 ghost use Rattle.fabric_parts.specs.Lid.{is_multicast};
 ghost use Rattle.fabric_parts.specs.declared.cable.PortRef.{PortRef};
 ghost use Rattle.port_model.specs.AdapterState.{AdapterState};
-ghost use Rattle.packet_ways.specs.Deliveries.{IsDelivered};
-ghost use Rattle.packet_ways.specs.Unicast.{IsEnd, next_port};
+ghost use Rattle.delivery_laws.specs.Deliveries.{IsDelivered};
+ghost use Rattle.delivery_laws.specs.Unicast.{IsEnd, next_port};
 
 use crate::adapter_ports::adapter_at;
 use crate::cabling::Cabling;
@@ -28,8 +28,8 @@ fn next_port(nodes: &[Node], cabling: &Cabling, packet: &Packet, here: PortRef) 
     })
 }
 
-/// Where the way of a unicast packet that came in here ends, unless it goes in a circle. A packet that comes in
-/// at a port for a second time goes in a circle, and every port that it comes in at is an end of a cable.
+/// Where the way of a unicast packet that came in here ends, unless it goes in a cycle. A packet that comes in
+/// at a port for a second time goes in a cycle, and every port that it comes in at is an end of a cable.
 pub(crate) fn end_of_way(
     nodes: &[Node],
     cabling: &Cabling,

@@ -1,10 +1,10 @@
 //! A packet at a port that received it, which only the fabric makes.
 
 ghost use Rattle.std.specs.Prelude.{◌≡◌, map, IfOk};
-ghost use Rattle.packet_ways.specs.Deliveries.{DeliveryState};
+ghost use Rattle.delivery_laws.specs.Deliveries.{DeliveryState};
 
 use data_packet::Packet;
-use packet_ways::Numbers;
+use delivery_laws::Numbers;
 use std::alloc::{AllocError, Global};
 use std::marker::Model;
 
@@ -16,7 +16,7 @@ pub struct Delivery {
 }
 
 impl Model for Delivery {
-    ghost use Rattle.packet_ways.specs.Deliveries.{DeliveryState};
+    ghost use Rattle.delivery_laws.specs.Deliveries.{DeliveryState};
 
     ghost Value = { DeliveryState };
 
@@ -57,7 +57,7 @@ impl Delivery {
     }
 }
 
-/// A copy of the packet at each of these ports, in their order. Memory alone can be refused.
+/// A copy of the packet at each of these ports, in their order. It can only run out of memory.
 pub(crate) fn at_each(
     alloc: Global,
     receivers: &[Numbers],

@@ -6,7 +6,7 @@ ghost use Rattle.data_packet.specs.declared.payload.TheConstants.{PAYLOAD_BYTES}
 ghost use Rattle.fabric_parts.specs.Cable.{far_end};
 ghost use Rattle.fabric_parts.specs.Lid.{is_multicast};
 ghost use Rattle.fabric_parts.specs.declared.cable.PortRef.{PortRef};
-ghost use Rattle.packet_ways.specs.Deliveries.{AreDeliveries, HasPort, adapter_at, guid_at};
+ghost use Rattle.delivery_laws.specs.Deliveries.{AreDeliveries, HasPort, adapter_at, guid_at};
 ghost use Rattle.port_model.specs.AdapterState.{AdapterState};
 ghost use Rattle.port_model.specs.Packets.{stamped};
 ghost use Rattle.smp_wire.specs.Good.{IsGood, ShowsLinks, SwitchesJoined};
@@ -80,7 +80,7 @@ impl Model for Fabric {
 
 impl Fabric {
     /// The fabric that a topology describes, at power-up: its nodes, cables and subnet manager's port.
-    /// Memory alone can be refused.
+    /// It can only run out of memory.
     pub fn new(alloc: Global, topology: &Topology) -> Result<Fabric, AllocError>
         ensures value { IfOk result (λ fabric. fabric ≡ fabric_of topology.now) }
         ensures good { IfOk result (λ fabric. IsGood fabric) }
@@ -213,8 +213,8 @@ impl Fabric {
         self.stamp_at(at, dlid, p_key, destination_qp, payload)
     }
 
-    /// What becomes of a packet that the port there sends: who gets it, in order of LID, then of GUID. Memory alone
-    /// can be refused.
+    /// What becomes of a packet that the port there sends: who gets it, in order of LID, then of GUID. It can only
+    /// run out of memory.
     ///
     /// Source: IBA volume 1, chapter 14.
     pub fn carry_from(

@@ -26,6 +26,6 @@ pub use crate::laws::{
 pub use smp_wire::{
     AdapterPorts, BoxedSwitch, CountingWire, Node, PlainWire, ReplyFault, SilencedWire, SmpWire,
     exchanges_change_what_they_name, exchanges_keep_the_fabric, get_attribute, get_request,
-    gets_tell, paths_go_on, ports_are_good, read_reply, replies_answer, set_attribute, set_request,
-    sets_tell,
+    gets_report, paths_go_on, ports_are_good, read_reply, replies_answer, set_attribute,
+    set_request, sets_report,
 };

@@ -16,8 +16,8 @@ use std::alloc::{AllocError, Global};
 use switch_model::Switch;
 use topo_file::{Node as PlannedNode, Topology};
 
-/// The nodes of the fabric that a topology describes, at power-up, in its order. Memory alone can be
-/// refused.
+/// The nodes of the fabric that a topology describes, at power-up, in its order. It can only run out of
+/// memory.
 pub fn nodes_of(alloc: Global, topology: &Topology) -> Result<Vec<Node>, AllocError>
     ensures { IfOk result (λ nodes. nodes.items ≡ (fabric_of topology.now).nodes) }
 {

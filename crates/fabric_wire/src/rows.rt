@@ -1,4 +1,4 @@
-//! What is told of ports, in a row for each node and a place in it for each port.
+//! What is reported of ports, in a row for each node and a place in it for each port.
 
 ghost use Rattle.std.specs.Prelude.{◌≡◌, ◌==◌, ◌<◌, ◌≤◌, true, [], cond, length, Some, OnOk, ℕ};
 ghost use Rattle.fabric_parts.specs.declared.cable.PortRef.{PortRef};
@@ -103,7 +103,7 @@ impl Rows {
         }
     }
 
-    /// Notes the far end of a port. Memory alone can be refused.
+    /// Notes the far end of a port. It can only run out of memory.
     pub(crate) fn put(&mut self, here: PortRef, far: PortRef) -> Result<(), AllocError>
         ensures far { OnOk result ((port : PortRef) → far_in self.new port ≡ cond (is_same_port here port) (Some far) (far_in self.old port)) }
         ensures here { OnOk result (has_place self.new here ≡ true) }

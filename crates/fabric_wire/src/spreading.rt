@@ -5,16 +5,16 @@ ghost use Rattle.std.specs.Int.{bit_at};
 ghost use Rattle.std.specs.List.{Contains};
 ghost use Rattle.std.specs.List.Sorted.{IsStrictlySortedBy};
 ghost use Rattle.fabric_parts.specs.Lid.{is_multicast};
-ghost use Rattle.packet_ways.specs.Deliveries.{in_order, sends_at};
-ghost use Rattle.packet_ways.specs.declared.numbers.Numbers.{Numbers as NumbersState};
+ghost use Rattle.delivery_laws.specs.Deliveries.{in_order, sends_at};
+ghost use Rattle.delivery_laws.specs.declared.numbers.Numbers.{Numbers as NumbersState};
 ghost use Rattle.fabric_wire.specs.Spreading.{AreReached, Gets, IsGrown, numbers_at};
 
 use crate::adapter_ports::adapter_at;
 use crate::cabling::Cabling;
 use data_packet::Packet;
+use delivery_laws::Numbers;
 use fabric_parts::PortRef;
 use indexmap::IndexSet;
-use packet_ways::Numbers;
 use smp_wire::Node;
 use std::alloc::{AllocError, Global};
 
@@ -29,7 +29,7 @@ fn copies(nodes: &[Node], packet: &Packet, here: PortRef) -> u64
     }
 }
 
-/// Adds the ports where a packet to a multicast LID that came in here comes in next. Memory alone can be refused.
+/// Adds the ports where a packet to a multicast LID that came in here comes in next. It can only run out of memory.
 fn go_on(
     nodes: &[Node],
     cabling: &Cabling,
@@ -59,10 +59,10 @@ fn go_on(
 }
 
 /// Every port where a packet to a multicast LID comes in that came in first there, in the order in which the search
-/// comes to them. Memory alone can be refused.
+/// comes to them. It can only run out of memory.
 ///
 /// The ports found so far are also the list of those from which the search goes on: so it ends where masks lead in
-/// circles, and comes to each port once where ways meet.
+/// cycles, and comes to each port once where ways meet.
 pub(crate) fn reached(
     alloc: Global,
     nodes: &[Node],
@@ -99,7 +99,7 @@ fn numbers_at(nodes: &[Node], packet: &Packet, at: PortRef) -> Option<Numbers>
     }
 }
 
-/// The numbers of the ports of channel adapters among these that accept the packet. Memory alone can be refused.
+/// The numbers of the ports of channel adapters among these that accept the packet. It can only run out of memory.
 fn accepting(
     alloc: Global,
     nodes: &[Node],
@@ -126,7 +126,7 @@ fn in_order(numbers: Vec<Numbers>) -> Vec<Numbers>
 }
 
 /// The ports that get a packet to a multicast LID which leaves by the port at `from`, in order of LID, then of GUID.
-/// Memory alone can be refused.
+/// It can only run out of memory.
 pub(crate) fn receivers(
     alloc: Global,
     nodes: &[Node],

@@ -6,7 +6,7 @@ use Rattle.std.proofs.lemmas.Bool.{eq-eqb}
 use Rattle.std.proofs.lemmas.Bool.Decides.{nat_tests}
 use Rattle.lid_assign.specs.Laws.{LidsAndGuidsNameEachOther, LidsCountFrom1}
 use Rattle.lid_assign.specs.Lids.{guid_in, lid_in}
-use Rattle.result_words.proofs.RisingLemmas.{place_here, place_later}
+use Rattle.step_results.proofs.RisingLemmas.{place_here, place_later}
 
 -- ---- places
 same_some : (a b : ℕ) → Some a ≡ Some b → a ≡ b

@@ -12,14 +12,14 @@ use Rattle.std.proofs.lemmas.Bool.Decides.{nat_tests}
 use Rattle.std.proofs.lemmas.List.Elements.{All-from_recursion}
 use Rattle.std.proofs.lemmas.List.Folds.{list_any_at}
 use Rattle.std.proofs.lemmas.List.Sorted.{list_any-IsPermutation, sum_by-IsPermutation}
-use Rattle.result_words.proofs.TestLemmas.{same_either_way}
+use Rattle.step_results.proofs.TestLemmas.{same_either_way}
 use Rattle.pkey_rules.specs.declared.end_port.EndPort.{EndPort}
 use Rattle.subnet_model.specs.EndPorts.{lid_of}
 use Rattle.sweep.specs.Graph.{GraphState, IsGraph, end_guids}
 use Rattle.sweep.specs.declared.graph.GraphPort.{GraphPort}
 use Rattle.sweep.specs.declared.graph.GraphSwitch.{GraphSwitch}
 use Rattle.lid_assign.specs.Lids.{AreLids, StandInOrder, adapter_end, end_ports, lid_in, switch_end}
-use Rattle.result_words.proofs.RisingLemmas.{Rises, counted, nowhere, place_at, place_here, place_is_count, place_later, place_nowhere, rise, rises}
+use Rattle.step_results.proofs.RisingLemmas.{Rises, counted, nowhere, place_at, place_here, place_is_count, place_later, place_nowhere, rise, rises}
 
 abbrev guids_of : List EndPort → List ℕ
 guids_of ports = map (λ port. port.guid) ports

@@ -8,7 +8,7 @@ use std::alloc::{AllocError, Global};
 use sweep::Graph;
 
 /// The LIDs of the end ports of a graph: 1 for the subnet manager's, the others from 2 in the order of their GUIDs.
-/// Memory alone can be refused.
+/// It can only run out of memory.
 pub fn assign(alloc: Global, graph: &Graph) -> Result<Lids, AllocError>
     ensures lids { IfOk result (λ lids. AreLids (end_ports graph.now) lids) }
     ensures order { IfOk result (λ lids. IsInOrder graph.now.manager lids) }
@@ -21,7 +21,7 @@ pub fn assign(alloc: Global, graph: &Graph) -> Result<Lids, AllocError>
     Ok(Lids { manager, others })
 }
 
-/// The GUIDs that are not the subnet manager's. Memory alone can be refused.
+/// The GUIDs that are not the subnet manager's. It can only run out of memory.
 fn others(alloc: Global, manager: u64, guids: &[u64]) -> Result<Vec<u64>, AllocError>
     ensures { IfOk result (λ others. others.items ≡ filter (λ guid. not (guid == manager)) guids.now) }
 {

@@ -3,7 +3,8 @@ use Rattle.std.specs.Prelude.{ℕ, List, [], ◌∷◌, ◌++◌, codes, decimal
 use Rattle.std.specs.Int.{w16, to_be_bytes}
 use Rattle.partition_file.specs.declared.heading.Heading.{Heading}
 use Rattle.subnet_model.specs.declared.subnet_port.SubnetPort.{SubnetPort}
-use Rattle.line_parts.specs.Parts.{hex_text, port_text}
+use Rattle.line_parts.specs.Ports.{port_text}
+use Rattle.text_parts.specs.Parts.{hex_text}
 
 -- an empty name is shown as `-`
 abbrev pub shown_name : List ℕ → List ℕ

@@ -1,15 +1,13 @@
-//! What printed lines are made of: numbers in decimal and in hexadecimal digits, ports by the names of their nodes, and
-//! the lines that stand in more than one text.
+//! The lines that stand in more than one output, and the ports in them, by the names of their nodes.
 //!
-//! Each call adds a part to a text that grows, and where memory is refused the text has some beginning of the part.
-//! `specs/Parts.antt` says what the parts look like, `specs/Lines.antt` the lines, and `specs/Whole.antt` shows each form of a
-//! line as a whole.
+//! Each call adds to a text that grows; if an allocation fails, the text has some beginning of what is added. `specs/Ports.antt`
+//! and `specs/Lines.antt` say how ports and lines look, and `specs/Whole.antt` shows each form of a line as a whole.
 #![tactic(auto)]
 
 mod laws;
 mod lines;
-mod parts;
+mod ports;
 
 pub use crate::laws::lines_are_whole;
 pub use crate::lines::{push_heading_line, push_member_line};
-pub use crate::parts::{digits_of, push_decimal, push_hex, push_port};
+pub use crate::ports::push_port;

@@ -3,11 +3,12 @@
 ghost use Rattle.std.specs.Prelude.{◌≡◌, ◌++◌, OnOk};
 ghost use Rattle.line_parts.specs.Lines.{heading_line, member_line, shown_name};
 
-use crate::parts::{push_decimal, push_hex, push_port};
+use crate::ports::push_port;
 use partition_file::Heading;
 use pkey_rules::PKey;
 use std::alloc::AllocError;
 use subnet_model::SubnetPort;
+use text_parts::{push_decimal, push_hex};
 
 /// Adds `partition NUMBER BASE NAME`, an empty name as `-`.
 pub fn push_heading_line(

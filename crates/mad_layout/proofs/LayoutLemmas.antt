@@ -10,7 +10,7 @@ use Rattle.std.proofs.Math.Pow.{mod-mod-pow}
 use Rattle.std.proofs.Math.Nat.{div-eq_of_lt, mod-eq_of_lt}
 use Rattle.byteorder.specs.Numbers.{length-bytes_high_first}
 use Rattle.mad_layout.specs.Bits.{number, digits, field, replaced, put_field}
-use Rattle.mad_layout.specs.Layout.{Field, Holds, Fits, put_all, is_apart, is_free, is_layout, Spells, Sets}
+use Rattle.mad_layout.specs.Layout.{Field, Holds, Fits, put_all, is_apart, is_free, is_layout, Encodes, Sets}
 use Rattle.mad_layout.proofs.NumberLemmas.{below_bytes, number_bytes, number_cons}
 
 pub length-put_field : (xs : List ℕ) (off len v : ℕ) → length (put_field xs off len v) ≡ length xs
@@ -178,8 +178,8 @@ zeros_below zero = tt
 zeros_below (suc n) = (omega arith, zeros_below n)
 
 -- and fields that were put over them
-pub spelled_below : (ps : List Field) (n : ℕ) → AllBelowBase 256 (put_all (replicate n 0) ps)
-spelled_below ps n = over ps (replicate n 0) (zeros_below n)
+pub encoded_below : (ps : List Field) (n : ℕ) → AllBelowBase 256 (put_all (replicate n 0) ps)
+encoded_below ps n = over ps (replicate n 0) (zeros_below n)
   where
     over : (ps : List Field) (xs : List ℕ) → AllBelowBase 256 xs → AllBelowBase 256 (put_all xs ps)
     over [] xs below = below
@@ -193,8 +193,8 @@ field_zeros n off len =
     ∙ ap (λ (m : ℕ). m % 2 ^ len) (div-eq_of_lt (pow_pos low))
     ∙ mod-eq_of_lt (pow_pos len)
 
-pub spells_put_all : (ps : List Field) (n : ℕ) → is_layout (8 * n) ps ≡ true → Fits ps → Spells (put_all (replicate n 0) ps) ps
-spells_put_all ps n layout fits =
+pub encodes_put_all : (ps : List Field) (n : ℕ) → is_layout (8 * n) ps ≡ true → Fits ps → Encodes (put_all (replicate n 0) ps) ps
+encodes_put_all ps n layout fits =
     let zeros = replicate n 0 in
     let test : is_layout (8 * length zeros) ps ≡ true = ap (λ (m : ℕ). is_layout (8 * m) ps) (length-replicate n 0) ∙ layout in
     let size = length-put_all zeros ps in

@@ -1,4 +1,4 @@
--- Bytes as the number that they spell.
+-- Bytes as the number that they encode.
 use Rattle.std.proofs.Common.{◌≡◌, ℕ, zero, suc, ◌+◌, ◌*◌, ◌-◌, ◌%◌, ◌^◌, ◌<◌, ◌≤◌, List, [], ◌∷◌, ◌++◌, length, get_or, take, drop, refl, sym, ◌∙◌, ap, arith, length-take-le}
 use Rattle.std.specs.Int.{byte_at, bytes_high_first}
 use Rattle.std.specs.Int.Digits.{number_from_digits_after, AllBelowBase}
@@ -45,7 +45,7 @@ below_append (x ∷ xs) ys h g = (h.0, below_append xs ys h.1 g)
 pub number_below : (xs : List ℕ) → AllBelowBase 256 xs → number xs < 2 ^ (8 * length xs)
 number_below xs h = let p = pow_bytes (length xs) in rw (← p) (number_lt 256 xs h)
 
--- equal numbers are spelled by equal bytes
+-- equal numbers are encoded by equal bytes
 pub number_same : (xs ys : List ℕ) → AllBelowBase 256 xs → AllBelowBase 256 ys → length xs ≡ length ys → number xs ≡ number ys → xs ≡ ys
 number_same [] [] h g l e = refl
 number_same [] (y ∷ ys) h g l e = absurd (omega arith)
@@ -62,7 +62,7 @@ number_same (x ∷ xs) (y ∷ ys) h g l e =
     let t : xs ≡ ys = number_same xs ys h.1 g.1 m s.1 in
     cc (s.0, t)
 
--- the bytes of x spell x, as far as they reach
+-- the bytes of x encode x, as far as they reach
 big_is : (xs : List ℕ) → big_from 0 (length xs) xs ≡ number xs
 big_is [] = refl
 big_is (x ∷ xs) =

@@ -55,11 +55,11 @@ put_zero n off len =
     number_same _ zeros (below_bytes (length zeros) (replaced (number zeros) low len 0)) (zeros_below n)
     (length-bytes_high_first (length zeros) (replaced (number zeros) low len 0)) (nothing ∙ sym none)
 
--- a record that zeros are read as is spelled by zeros
-pub zeros_spelled : (n m : ℕ) (ps : List Field) → Holds (replicate m 0) ps → put_all (replicate n 0) ps ≡ replicate n 0
-zeros_spelled n m [] held = refl
-zeros_spelled n m (p ∷ ps) held =
+-- a record that zeros are read as is encoded by zeros
+pub zeros_encoded : (n m : ℕ) (ps : List Field) → Holds (replicate m 0) ps → put_all (replicate n 0) ps ≡ replicate n 0
+zeros_encoded n m [] held = refl
+zeros_encoded n m (p ∷ ps) held =
     let none : p.value ≡ 0 = held.0 ∙ field_zeros m p.off p.len in
     ap (λ (v : ℕ). put_all (put_field (replicate n 0) p.off p.len v) ps) none
     ∙ ap (λ (bytes : List ℕ). put_all bytes ps) (put_zero n p.off p.len)
-    ∙ zeros_spelled n m ps held.1
+    ∙ zeros_encoded n m ps held.1

@@ -148,8 +148,8 @@ put_is xs t first count off len low v below fits long within ends starts e =
     ∙ ap (λ (n : ℕ). replaced (number xs) n len v) place in
     let good : AllBelowBase 256 (a ++ (t ++ r)) = below_append a (t ++ r) parts.0 (below_append t r fits inner.1) in
     let small : number (a ++ (t ++ r)) < 2 ^ (8 * length xs) = rw size at (number_below (a ++ (t ++ r)) good) in
-    let spelled : number (bytes_high_first (length xs) x) ≡ x = number_bytes (length xs) x ∙ mod-eq_of_lt (rw value at small) in
-    number_same (a ++ (t ++ r)) (bytes_high_first (length xs) x) good (below_bytes (length xs) x) (size ∙ sym (length-bytes_high_first (length xs) x)) (value ∙ sym spelled)
+    let encoded : number (bytes_high_first (length xs) x) ≡ x = number_bytes (length xs) x ∙ mod-eq_of_lt (rw value at small) in
+    number_same (a ++ (t ++ r)) (bytes_high_first (length xs) x) good (below_bytes (length xs) x) (size ∙ sym (length-bytes_high_first (length xs) x)) (value ∙ sym encoded)
 
 -- the shifts of `with_digits` lose nothing in 128 bits, and its result is as wide as the number
 pub record Shifts (n low len v m : ℕ) : Type 0 where

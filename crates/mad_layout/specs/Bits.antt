@@ -1,10 +1,10 @@
 -- A field of some bytes, as the InfiniBand standard counts them: bit 0 is the first bit of the first
--- byte, and the bytes spell one number, the highest byte first.
+-- byte, and the bytes encode one number, the highest byte first.
 use Rattle.std.specs.Prelude.{ℕ, ◌+◌, ◌*◌, ◌-◌, ◌/◌, ◌%◌, ◌^◌, Bool, true, false, List, length}
 use Rattle.std.specs.Int.Digits.{number_from_digits}
 use Rattle.std.specs.Int.{bytes_high_first}
 
--- the number that bytes spell
+-- the number that bytes encode
 abbrev pub number : List ℕ → ℕ
 number bytes = number_from_digits 256 bytes
 

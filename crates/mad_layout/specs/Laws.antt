@@ -2,7 +2,7 @@
 use Rattle.std.specs.Prelude.{ℕ, ◌≡◌, ◌+◌, ◌*◌, ◌^◌, ◌<◌, ◌≤◌, ◌⊎◌, true, List, length, replicate, slice_range, slice_index, slice_set}
 use Rattle.std.specs.Int.Digits.{AllBelowBase}
 use Rattle.mad_layout.specs.Bits.{field, put_field}
-use Rattle.mad_layout.specs.Layout.{Field, Holds, Fits, put_all, is_layout, Spells, Sets}
+use Rattle.mad_layout.specs.Layout.{Field, Holds, Fits, put_all, is_layout, Encodes, Sets}
 
 -- a field that is set reads as the value
 abbrev pub PutReadsBack : Type 0
@@ -42,11 +42,11 @@ LayoutsSet =
     (layout : List Field) (old : List ℕ) → is_layout (8 * length old) layout ≡ true → Fits layout
     → Sets old (put_all old layout) layout
 
--- a layout written over zero bytes is spelled there
-abbrev pub LayoutsSpell : Type 0
-LayoutsSpell =
+-- a layout written over zero bytes is encoded there
+abbrev pub LayoutsEncode : Type 0
+LayoutsEncode =
     (layout : List Field) (size : ℕ) → is_layout (8 * size) layout ≡ true → Fits layout
-    → Spells (put_all (replicate size 0) layout) layout
+    → Encodes (put_all (replicate size 0) layout) layout
 
 -- what bytes hold is narrow enough to be written
 abbrev pub WhatIsHeldFits : Type 0

@@ -40,8 +40,8 @@ abbrev pub is_layout : ℕ → List Field → Bool
 is_layout size [] = true
 is_layout size (p ∷ ps) = nat_le (p.off + p.len) size && (is_free p.off p.len ps && is_layout size ps)
 
--- the bytes spell this record: each field holds its value, and each bit outside the fields is 0
-pub record Spells (bytes : List ℕ) (layout : List Field) : Type 0 where
+-- the bytes encode this record: each field holds its value, and each bit outside the fields is 0
+pub record Encodes (bytes : List ℕ) (layout : List Field) : Type 0 where
   pub fields : Holds bytes layout
   pub others : (off len : ℕ) → off + len ≤ 8 * length bytes → is_free off len layout ≡ true → field bytes off len ≡ 0
 

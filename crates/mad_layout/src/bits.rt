@@ -49,7 +49,7 @@ fn with_digits(number: u128, low: usize, len: usize, value: u64) -> u128
     (((high << len) + u128::from(value)) << low) + number % (1 << low)
 }
 
-/// The number that at most nine bytes spell.
+/// The number that at most nine bytes encode.
 fn window(bytes: &[u8]) -> u128
     requires { length bytes.now ≤ 9 }
     ensures value { result ≡ number bytes.now }

@@ -6,7 +6,7 @@ ghost use Rattle.mad_layout.specs.Layout.{Sets};
 ghost use Rattle.mad_layout.specs.MadHeader.{mad_header};
 ghost use Rattle.mad_layout.specs.RmppHeader.{rmpp_header};
 ghost use Rattle.mad_layout.specs.SaMad.{sa_mad};
-ghost use Rattle.mad_layout.specs.Laws.{PutReadsBack, PutLeavesOthers, PartsHaveFields, BytesAreFields, BytesAreSet, LayoutsSet, LayoutsSpell, WhatIsHeldFits};
+ghost use Rattle.mad_layout.specs.Laws.{PutReadsBack, PutLeavesOthers, PartsHaveFields, BytesAreFields, BytesAreSet, LayoutsSet, LayoutsEncode, WhatIsHeldFits};
 
 use crate::dr_smp::DrSmp;
 use crate::mad_header::{Header, Mad};
@@ -44,9 +44,9 @@ pub fn layouts_set()
     ensures { LayoutsSet }
 {}
 
-/// A layout that is written over zero bytes is spelled there, and all other bits are 0.
-pub fn layouts_spell()
-    ensures { LayoutsSpell }
+/// A layout that is written over zero bytes is encoded there, and all other bits are 0.
+pub fn layouts_encode()
+    ensures { LayoutsEncode }
 {}
 
 /// What bytes hold is narrow enough for its fields.

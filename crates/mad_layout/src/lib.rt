@@ -29,8 +29,8 @@ pub use crate::bits::{get_bits, known_bytes, put_bits};
 pub use crate::dr_smp::DrSmp;
 pub use crate::join_state::JoinState;
 pub use crate::laws::{
-    bytes_are_fields, bytes_are_set, dr_smp_reads_back, header_reads_back, layouts_set,
-    layouts_spell, parts_have_fields, put_leaves_others, put_reads_back, rmpp_header_reads_back,
+    bytes_are_fields, bytes_are_set, dr_smp_reads_back, header_reads_back, layouts_encode,
+    layouts_set, parts_have_fields, put_leaves_others, put_reads_back, rmpp_header_reads_back,
     sa_mad_reads_back, what_is_held_fits,
 };
 pub use crate::mad_header::{Header, Mad};

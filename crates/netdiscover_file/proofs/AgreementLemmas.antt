@@ -4,7 +4,7 @@ use Rattle.std.specs.List.{list_all, list_any}
 use Rattle.std.specs.Option.{option_and_then, option_map_or}
 use Rattle.std.proofs.lemmas.Bool.{and_from, cases_Bool}
 use Rattle.std.proofs.lemmas.Map.Keys.{any_passes_from_place}
-use Rattle.result_words.proofs.ListLemmas.{list_all_weaker}
+use Rattle.step_results.proofs.ListLemmas.{list_all_weaker}
 use Rattle.fabric_parts.specs.Cable.{port}
 use Rattle.netdiscover_file.specs.declared.node.Node.{Node}
 use Rattle.netdiscover_file.specs.declared.port.PortLine.{PortLine}

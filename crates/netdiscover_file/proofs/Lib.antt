@@ -4,6 +4,6 @@ pub mod SoundLemmas
 pub mod AgreementLemmas
 pub mod OtherEndLemmas
 pub mod LawLemmas
-pub mod ToldLemmas
+pub mod ReportedLemmas
 pub mod WrongLemmas
 pub mod ExampleLemmas

@@ -7,9 +7,9 @@ use Rattle.std.proofs.lemmas.Bool.Decides.{nat_tests}
 use Rattle.std.proofs.lemmas.List.Quantifiers.{position-Some}
 use Rattle.std.proofs.lemmas.Option.{slice_get-get_or}
 use Rattle.std.proofs.lemmas.Map.Keys.{any_passes_from_place, IsDistinct-tail}
-use Rattle.result_words.proofs.DistinctLemmas.{none_shares}
-use Rattle.result_words.proofs.PlaceLemmas.{not_there}
-use Rattle.result_words.proofs.TestLemmas.{same_either_way}
+use Rattle.step_results.proofs.DistinctLemmas.{none_shares}
+use Rattle.step_results.proofs.PlaceLemmas.{not_there}
+use Rattle.step_results.proofs.TestLemmas.{same_either_way}
 use Rattle.fabric_parts.specs.declared.cable.PortRef.{PortRef}
 use Rattle.fabric_parts.specs.Cable.{is_same_port, port}
 use Rattle.netdiscover_file.specs.declared.node.Node.{Node}
@@ -17,7 +17,7 @@ use Rattle.netdiscover_file.specs.declared.port.PortLine.{PortLine}
 use Rattle.netdiscover_file.specs.declared.ends.FarEnd.{FarEnd}
 use Rattle.netdiscover_file.specs.declared.ends.NodeId.{NodeId}
 use Rattle.netdiscover_file.specs.Agreement.{is_one_cable, names, stands_at_both_ends}
-use Rattle.netdiscover_file.specs.Laws.{OneOtherEnd, OnlyMissingEndsAreTold}
+use Rattle.netdiscover_file.specs.Laws.{OneOtherEnd, OnlyMissingEndsAreReported}
 use Rattle.netdiscover_file.specs.Node.{is_node_at, place_of}
 use Rattle.netdiscover_file.specs.Port.{place_of_line}
 use Rattle.netdiscover_file.specs.Sound.{has_other_end, shares_guid, shares_port, AreSound}
@@ -142,8 +142,8 @@ leads_back nodes ports sound line back =
     let at : place_of_line end ports ≡ Some back.place = line_found ports end back.place other sound.own_lines back.there is in
     rw (node, at, back.there) back.passes
 
-pub only_missing_ends_are_told : OnlyMissingEndsAreTold
-only_missing_ends_are_told nodes ports sound line = by (has_other_end nodes ports line) refl
+pub only_missing_ends_are_reported : OnlyMissingEndsAreReported
+only_missing_ends_are_reported nodes ports sound line = by (has_other_end nodes ports line) refl
   where
     by : (has : Bool) → has_other_end nodes ports line ≡ has → stands_at_both_ends nodes ports line ≡ has_other_end nodes ports line
     by true e = leads_back nodes ports sound line (found_in (is_one_cable nodes line) ports e) ∙ sym e

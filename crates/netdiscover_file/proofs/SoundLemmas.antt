@@ -1,20 +1,21 @@
 -- What stays so with one more node and one more line, and so of every discovery that was read.
-use Rattle.std.proofs.Common.{◌≡◌, ◌∙◌, ap, ap₂, refl, sym, ℕ, zero, suc, ◌≤◌, Bool, true, false, not, ◌==◌, ◌&&◌, nat_eq, nat_le, List, [], ◌∷◌, ◌++◌, flat_map}
+use Rattle.std.proofs.Common.{◌≡◌, ◌∙◌, ap, ap₂, refl, sym, ℕ, Bool, true, false, not, ◌==◌, ◌&&◌, nat_eq, List, [], ◌∷◌, ◌++◌, flat_map}
 use Rattle.std.proofs.Common.{Option, Some, None, option_to_list, is_some, arith}
 use Rattle.std.specs.List.{list_all, list_any, IsDistinct}
 use Rattle.std.proofs.lemmas.Bool.{and_parts, and_from, false_from_ne_true, not_from_false, not-true, or_from, or_parts, or_right}
 use Rattle.std.proofs.lemmas.Bool.Decides.{nat_tests}
 use Rattle.std.proofs.lemmas.List.{append-nil, append_assoc, flat_map_more}
 use Rattle.std.proofs.lemmas.List.Folds.{list_all-append, list_any-append}
-use Rattle.result_words.proofs.DistinctLemmas.{all_differ, differ, distinct}
-use Rattle.result_words.proofs.ListLemmas.{IsDistinct-nil, all_joined, list_all_push, list_all_weaker, none_passes}
-use Rattle.result_words.proofs.PlaceLemmas.{not_there}
-use Rattle.result_words.proofs.TestLemmas.{same_either_way}
+use Rattle.step_results.proofs.DistinctLemmas.{all_differ, differ, distinct}
+use Rattle.step_results.proofs.ListLemmas.{IsDistinct-nil, all_joined, list_all_push, list_all_weaker, none_passes}
+use Rattle.step_results.proofs.PlaceLemmas.{not_there, port_still, read_still}
+use Rattle.step_results.proofs.TestLemmas.{same_either_way}
 use Rattle.fabric_parts.specs.declared.cable.PortRef.{PortRef}
 use Rattle.netdiscover_file.specs.declared.node.Node.{Node}
 use Rattle.netdiscover_file.specs.declared.port.PortLine.{PortLine}
-use Rattle.netdiscover_file.specs.Node.{is_switch_at, place_of, ports_at}
-use Rattle.netdiscover_file.specs.Port.{is_told, is_told_already, place_of_line}
+use Rattle.netdiscover_file.specs.Kind.{is_switch}
+use Rattle.netdiscover_file.specs.Node.{is_switch_at, place_of}
+use Rattle.netdiscover_file.specs.Port.{is_reported, is_reported_already, place_of_line}
 use Rattle.netdiscover_file.specs.Sound.{has_own, is_port, port_guids, shares_guid, shares_port, IsSoundSoFar}
 
 -- ---- one more that differs from all before it, by a test that is the same both ways
@@ -33,7 +34,7 @@ distinct_more : {X : Type 0} (same : X → X → Bool) → ((a b : X) → same a
 distinct_more same turned xs x own none = distinct same (xs ++ x ∷ []) (differs_more same turned xs x (differ same xs own) none)
 
 -- ---- one more GUID, somewhere among others
-differs_among : (guid : ℕ) (xs ys : List ℕ) → all_differ nat_eq (xs ++ ys) ≡ true → is_told guid (xs ++ ys) ≡ false → all_differ nat_eq (xs ++ guid ∷ ys) ≡ true
+differs_among : (guid : ℕ) (xs ys : List ℕ) → all_differ nat_eq (xs ++ ys) ≡ true → is_reported guid (xs ++ ys) ≡ false → all_differ nat_eq (xs ++ guid ∷ ys) ≡ true
 differs_among guid [] ys all new = and_from (not (list_any (nat_eq guid) ys)) _ (not_from_false _ new) all
 differs_among guid (x ∷ xs) ys all new =
     let parts = and_parts (not (list_any (nat_eq x) (xs ++ ys))) _ all in
@@ -44,61 +45,48 @@ differs_among guid (x ∷ xs) ys all new =
     and_from (not (list_any (nat_eq x) (xs ++ guid ∷ ys))) _ (not_from_false _ still) (differs_among guid xs ys parts.1 apart.1)
 
 -- what is not noted is none of what is
-pub fresh : (guid : ℕ) (noted guids : List ℕ) → list_all (λ other. is_told other noted) guids ≡ true → is_told guid noted ≡ false → is_told guid guids ≡ false
+pub fresh : (guid : ℕ) (noted guids : List ℕ) → list_all (λ other. is_reported other noted) guids ≡ true → is_reported guid noted ≡ false → is_reported guid guids ≡ false
 fresh guid noted guids all new =
-    none_passes (λ other. is_told other noted) (λ other. guid == other)
-    (λ other told. false_from_ne_true (guid == other) (λ same. let e : guid ≡ other = grind (arith, nat_tests) in let both : true ≡ false = sym told ∙ ap (λ (n : ℕ). is_told n noted) (sym e) ∙ new in cc))
+    none_passes (λ other. is_reported other noted) (λ other. guid == other)
+    (λ other reported. false_from_ne_true (guid == other) (λ same. let e : guid ≡ other = grind (arith, nat_tests) in let both : true ≡ false = sym reported ∙ ap (λ (n : ℕ). is_reported n noted) (sym e) ∙ new in cc))
     guids all
 
-noted_still : (noted more guids : List ℕ) → list_all (λ guid. is_told guid noted) guids ≡ true → list_all (λ guid. is_told guid (noted ++ more)) guids ≡ true
+noted_still : (noted more guids : List ℕ) → list_all (λ guid. is_reported guid noted) guids ≡ true → list_all (λ guid. is_reported guid (noted ++ more)) guids ≡ true
 noted_still noted more guids all =
-    list_all_weaker (λ guid. is_told guid noted) (λ guid. is_told guid (noted ++ more))
-    (λ guid told. list_any-append (λ other. guid == other) noted more ∙ rw told refl) guids all
+    list_all_weaker (λ guid. is_reported guid noted) (λ guid. is_reported guid (noted ++ more))
+    (λ guid reported. list_any-append (λ other. guid == other) noted more ∙ rw reported refl) guids all
 
-noted_last : (guid : ℕ) (noted : List ℕ) → is_told guid (noted ++ guid ∷ []) ≡ true
+noted_last : (guid : ℕ) (noted : List ℕ) → is_reported guid (noted ++ guid ∷ []) ≡ true
 noted_last guid [] = let same : (guid == guid) ≡ true = grind (arith, nat_tests) in rw same refl
 noted_last guid (other ∷ noted) = or_right (guid == other) _ (noted_last guid noted)
 
 -- of a port, if it has one
-own_among : (guid : Option ℕ) (noted xs ys : List ℕ) → is_told_already guid noted ≡ false → list_all (λ other. is_told other noted) (xs ++ ys) ≡ true
+own_among : (guid : Option ℕ) (noted xs ys : List ℕ) → is_reported_already guid noted ≡ false → list_all (λ other. is_reported other noted) (xs ++ ys) ≡ true
     → IsDistinct nat_eq (xs ++ ys) → IsDistinct nat_eq (xs ++ (option_to_list guid ++ ys))
 own_among None noted xs ys new all own = own
 own_among (Some guid) noted xs ys new all own =
     distinct nat_eq (xs ++ guid ∷ ys) (differs_among guid xs ys (differ nat_eq (xs ++ ys) own) (fresh guid noted (xs ++ ys) all new))
 
-noted_among : (guid : Option ℕ) (noted xs ys : List ℕ) → list_all (λ other. is_told other noted) (xs ++ ys) ≡ true
-    → list_all (λ other. is_told other (noted ++ option_to_list guid)) (xs ++ (option_to_list guid ++ ys)) ≡ true
+noted_among : (guid : Option ℕ) (noted xs ys : List ℕ) → list_all (λ other. is_reported other noted) (xs ++ ys) ≡ true
+    → list_all (λ other. is_reported other (noted ++ option_to_list guid)) (xs ++ (option_to_list guid ++ ys)) ≡ true
 noted_among None noted xs ys all = noted_still noted [] (xs ++ ys) all
 noted_among (Some guid) noted xs ys all =
-    let test : ℕ → Bool = λ other. is_told other (noted ++ guid ∷ []) in
+    let test : ℕ → Bool = λ other. is_reported other (noted ++ guid ∷ []) in
     let parts = and_parts (list_all test xs) (list_all test ys) (sym (list_all-append test xs ys) ∙ noted_still noted (guid ∷ []) (xs ++ ys) all) in
     all_joined test xs (guid ∷ ys) parts.0 (and_from (test guid) _ (noted_last guid noted) parts.1)
 
 -- ---- nodes: a port stays one, and of the same kind of node
-ports_grow : (nodes : List Node) (place : ℕ) (node : Node) → ports_at nodes place ≤ ports_at (nodes ++ node ∷ []) place
-ports_grow [] place node = omega arith
-ports_grow (first ∷ nodes) zero node = omega arith
-ports_grow (first ∷ nodes) (suc place) node = ports_grow nodes place node
+is_port_still : (nodes : List Node) (node : Node) (port : PortRef) → is_port nodes port ≡ true → is_port (nodes ++ node ∷ []) port ≡ true
+is_port_still nodes node port h = port_still (λ one. one.ports) nodes node port.node port.port h
 
-below_more : (number few many : ℕ) → few ≤ many → (nat_le 1 number && nat_le number few) ≡ true → (nat_le 1 number && nat_le number many) ≡ true
-below_more number few many more h = grind (arith, nat_tests)
-
-port_still : (nodes : List Node) (node : Node) (port : PortRef) → is_port nodes port ≡ true → is_port (nodes ++ node ∷ []) port ≡ true
-port_still nodes node port h = below_more port.port (ports_at nodes port.node) (ports_at (nodes ++ node ∷ []) port.node) (ports_grow nodes port.node node) h
-
-kind_still : (nodes : List Node) (node : Node) (place number : ℕ) → (nat_le 1 number && nat_le number (ports_at nodes place)) ≡ true
-    → is_switch_at (nodes ++ node ∷ []) place ≡ is_switch_at nodes place
-kind_still [] node place number h = absurd (let none = none_at number in cc)
-  where
-    none_at : (number : ℕ) → (nat_le 1 number && nat_le number 0) ≡ false
-    none_at number = grind (arith, nat_tests)
-kind_still (first ∷ nodes) node zero number h = refl
-kind_still (first ∷ nodes) node (suc place) number h = kind_still nodes node place number h
+kind_still : (nodes : List Node) (node : Node) (port : PortRef) → is_port nodes port ≡ true
+    → is_switch_at (nodes ++ node ∷ []) port.node ≡ is_switch_at nodes port.node
+kind_still nodes node port h = read_still (λ one. one.ports) (λ one. is_switch one.id.kind) false nodes node port.node port.port h
 
 ports_still : (nodes : List Node) (node : Node) (ports : List PortLine) → list_all (λ line. is_port nodes line.port) ports ≡ true
     → list_all (λ line. is_port (nodes ++ node ∷ []) line.port) ports ≡ true
 ports_still nodes node ports h =
-    list_all_weaker (λ line. is_port nodes line.port) (λ line. is_port (nodes ++ node ∷ []) line.port) (λ line is. port_still nodes node line.port is) ports h
+    list_all_weaker (λ line. is_port nodes line.port) (λ line. is_port (nodes ++ node ∷ []) line.port) (λ line is. is_port_still nodes node line.port is) ports h
 
 own_still : (nodes : List Node) (node : Node) (ports : List PortLine) → list_all (λ line. is_port nodes line.port) ports ≡ true
     → list_all (has_own nodes) ports ≡ true → list_all (has_own (nodes ++ node ∷ [])) ports ≡ true
@@ -106,7 +94,7 @@ own_still nodes node [] are have = refl
 own_still nodes node (line ∷ ports) are have =
     let is = and_parts (is_port nodes line.port) _ are in
     let has = and_parts (has_own nodes line) _ have in
-    and_from (has_own (nodes ++ node ∷ []) line) _ (rw (kind_still nodes node line.port.node line.port.port is.0) has.0) (own_still nodes node ports is.1 has.1)
+    and_from (has_own (nodes ++ node ∷ []) line) _ (rw (kind_still nodes node line.port is.0) has.0) (own_still nodes node ports is.1 has.1)
 
 -- ---- one more node
 pub guids_with_node : (nodes : List Node) (node : Node) (ports : List PortLine) → port_guids (nodes ++ node ∷ []) ports
@@ -116,7 +104,7 @@ guids_with_node nodes node ports =
     ∙ append_assoc (flat_map (λ n. option_to_list n.port_guid) nodes) (option_to_list node.port_guid) (flat_map (λ line. option_to_list line.guid) ports)
 
 pub sound_with_node : (nodes : List Node) (ports : List PortLine) (noted : List ℕ) (node : Node) → IsSoundSoFar nodes ports noted
-    → place_of node.id.guid nodes ≡ None → is_told_already node.port_guid noted ≡ false
+    → place_of node.id.guid nodes ≡ None → is_reported_already node.port_guid noted ≡ false
     → IsSoundSoFar (nodes ++ node ∷ []) ports (noted ++ option_to_list node.port_guid)
 sound_with_node nodes ports noted node sound new own =
     let front = flat_map (λ (n : Node). option_to_list n.port_guid) nodes in
@@ -146,12 +134,12 @@ pub lines_turned : (a b : PortLine) → shares_port a b ≡ shares_port b a
 lines_turned a b = ap₂ (λ (x y : Bool). x && y) (same_either_way a.port.node b.port.node) (same_either_way a.port.port b.port.port)
 
 pub sound_with_line : (nodes : List Node) (ports : List PortLine) (noted : List ℕ) (line : PortLine) → IsSoundSoFar nodes ports noted
-    → place_of_line line.port ports ≡ None → is_told_already line.guid noted ≡ false → is_port nodes line.port ≡ true → has_own nodes line ≡ true
+    → place_of_line line.port ports ≡ None → is_reported_already line.guid noted ≡ false → is_port nodes line.port ≡ true → has_own nodes line ≡ true
     → IsSoundSoFar nodes (ports ++ line ∷ []) (noted ++ option_to_list line.guid)
 sound_with_line nodes ports noted line sound new own is has =
     let all = port_guids nodes ports in
     let whole : all ++ [] ≡ all = append-nil all in
-    let noted_all : list_all (λ other. is_told other noted) (all ++ []) ≡ true = rw whole sound.all_noted in
+    let noted_all : list_all (λ other. is_reported other noted) (all ++ []) ≡ true = rw whole sound.all_noted in
     let distinct_all : IsDistinct nat_eq (all ++ []) = rw whole sound.lines.own_guids in
     record {
       lines = record {

@@ -2,14 +2,14 @@
 use Rattle.std.proofs.Common.{◌≡◌, refl, ℕ, true, false, nat_eq, arith, List, [], ◌∷◌, Option, Some, None}
 use Rattle.std.proofs.lemmas.Bool.{false≢true, true≢false}
 use Rattle.fabric_parts.specs.Cable.{port}
-use Rattle.result_words.proofs.DistinctLemmas.{differ, distinct}
-use Rattle.result_words.proofs.ListLemmas.{IsDistinct-nil}
+use Rattle.step_results.proofs.DistinctLemmas.{differ, distinct}
+use Rattle.step_results.proofs.ListLemmas.{IsDistinct-nil}
 use Rattle.netdiscover_file.specs.declared.assignment.SwitchGuids.{SwitchGuids}
 use Rattle.netdiscover_file.specs.declared.kind.NodeKind.TheVariants.{ChannelAdapter, Switch}
 use Rattle.netdiscover_file.specs.declared.node.Node.{Node}
 use Rattle.netdiscover_file.specs.declared.port.PortLine.{PortLine}
 use Rattle.netdiscover_file.specs.Discovery.{DraftState}
-use Rattle.netdiscover_file.specs.Laws.{IsToldSoFar}
+use Rattle.netdiscover_file.specs.Laws.{IsReportedSoFar}
 use Rattle.netdiscover_file.specs.Sound.{shares_guid, shares_port, AreSound}
 use Rattle.netdiscover_file.specs.WrongRules.{ANodeMayBeJoinedToItself, FarEndsAloneAreNotEnough, NodesAloneAreNotEnough, NumbersAloneAreNotEnough, OtherEndsAloneMayBeTwo, OtherSwitchesAreWanted, PortsAloneAreNotEnough, SomeGuidsAreFree}
 
@@ -25,15 +25,15 @@ leads place number far_guid far_number =
 -- both ports of the first switch lead to port 1 of the second, which leads back to port 1 alone
 pub far_ends_alone_are_not_enough : FarEndsAloneAreNotEnough
 far_ends_alone_are_not_enough law =
-    let told : false ≡ true = law (switch 1 1 ∷ switch 2 2 ∷ []) (leads 0 1 2 1 ∷ leads 0 2 2 1 ∷ leads 1 1 1 1 ∷ []) refl in
-    false≢true told
+    let reported : false ≡ true = law (switch 1 1 ∷ switch 2 2 ∷ []) (leads 0 1 2 1 ∷ leads 0 2 2 1 ∷ leads 1 1 1 1 ∷ []) refl in
+    false≢true reported
 
 -- one switch stands already
 abbrev one_switch : Option SwitchGuids → DraftState
-one_switch told = record { nodes = switch 1 1 ∷ []; ports = []; port_guids = 1 ∷ []; switch_guids = told; initiator = None }
+one_switch reported = record { nodes = switch 1 1 ∷ []; ports = []; port_guids = 1 ∷ []; switch_guids = reported; initiator = None }
 
-one_told : (told : Option SwitchGuids) → IsToldSoFar (one_switch told)
-one_told told = record {
+one_reported : (reported : Option SwitchGuids) → IsReportedSoFar (one_switch reported)
+one_reported reported = record {
   sound = record {
     lines = record {
       own_nodes = distinct shares_guid (switch 1 1 ∷ []) refl;
@@ -50,26 +50,26 @@ one_told told = record {
 -- another, whose port 0 has the GUID of the first one's
 pub nodes_alone_are_not_enough : NodesAloneAreNotEnough
 nodes_alone_are_not_enough law =
-    let told : false ≡ true = differ nat_eq (1 ∷ 1 ∷ []) ((law (one_switch None) (switch 2 1) (one_told None)).0 refl).apart.own_guids in
-    false≢true told
+    let reported : false ≡ true = differ nat_eq (1 ∷ 1 ∷ []) ((law (one_switch None) (switch 2 1) (one_reported None)).0 refl).apart.own_guids in
+    false≢true reported
 
 -- another of the same GUID
 pub ports_alone_are_not_enough : PortsAloneAreNotEnough
 ports_alone_are_not_enough law =
-    let told : false ≡ true = differ shares_guid (switch 1 1 ∷ switch 1 2 ∷ []) ((law (one_switch None) (switch 1 2) (one_told None)).0 refl).apart.own_nodes in
-    false≢true told
+    let reported : false ≡ true = differ shares_guid (switch 1 1 ∷ switch 1 2 ∷ []) ((law (one_switch None) (switch 1 2) (one_reported None)).0 refl).apart.own_nodes in
+    false≢true reported
 
--- another, where the line before told the GUIDs of a third
+-- another, where the line before reported the GUIDs of a third
 pub other_switches_are_wanted : OtherSwitchesAreWanted
 other_switches_are_wanted law =
     let third : SwitchGuids = record { node = 3; port = 2 } in
-    let same : ◌≡◌ {A = ℕ} 2 3 = (((law (one_switch (Some third)) (switch 2 2) (one_told (Some third))).0 refl).meant third refl).1 in
+    let same : ◌≡◌ {A = ℕ} 2 3 = (((law (one_switch (Some third)) (switch 2 2) (one_reported (Some third))).0 refl).meant third refl).1 in
     omega (arith, same)
 
 -- another, whose GUIDs are all new
 pub some_guids_are_free : SomeGuidsAreFree
 some_guids_are_free law =
-    let told : true ≡ false = (law (one_switch None) (switch 2 2) (one_told None)).1 (record {
+    let reported : true ≡ false = (law (one_switch None) (switch 2 2) (one_reported None)).1 (record {
       apart = record {
         own_nodes = distinct shares_guid (switch 1 1 ∷ switch 2 2 ∷ []) refl;
         own_lines = IsDistinct-nil shares_port;
@@ -79,9 +79,9 @@ some_guids_are_free law =
       };
       meant = λ guids is. absurd cc;
     }) in
-    true≢false told
+    true≢false reported
 
--- two adapters, whose ports have the GUIDs 5 and 7; the line of the one tells 9 of the other
+-- two adapters, whose ports have the GUIDs 5 and 7; the line of the one reports 9 of the other
 abbrev adapter : ℕ → Node
 adapter guid = record { id = record { kind = ChannelAdapter; guid = guid }; ports = 1; name = []; lid = None; port_guid = None; line = 1 }
 
@@ -91,8 +91,8 @@ joined place guid far_node far_guid =
 
 pub numbers_alone_are_not_enough : NumbersAloneAreNotEnough
 numbers_alone_are_not_enough law =
-    let told : false ≡ true = law (adapter 1 ∷ adapter 2 ∷ []) (joined 0 5 2 9 ∷ joined 1 7 1 5 ∷ []) refl in
-    false≢true told
+    let reported : false ≡ true = law (adapter 1 ∷ adapter 2 ∷ []) (joined 0 5 2 9 ∷ joined 1 7 1 5 ∷ []) refl in
+    false≢true reported
 
 -- a switch whose ports are joined to each other
 abbrev loop_lines : List PortLine
@@ -109,8 +109,8 @@ loop_sound = record {
 
 pub a_node_may_be_joined_to_itself : ANodeMayBeJoinedToItself
 a_node_may_be_joined_to_itself law =
-    let told : false ≡ true = law (switch 1 1 ∷ []) loop_lines loop_sound (leads 0 1 1 2) in
-    false≢true told
+    let reported : false ≡ true = law (switch 1 1 ∷ []) loop_lines loop_sound (leads 0 1 1 2) in
+    false≢true reported
 
 -- two lines of one port, both of which lead back
 pub other_ends_alone_may_be_two : OtherEndsAloneMayBeTwo

@@ -16,7 +16,7 @@ names nodes far line = is_node_at nodes line.port.node far.node && ((line.port.p
 abbrev pub is_one_cable : List Node → PortLine → PortLine → Bool
 is_one_cable nodes line other = names nodes line.far other && names nodes other.far line
 
--- the line of the port that a far end tells by the GUID of its node and by its number
+-- the line of the port that a far end reports by the GUID of its node and by its number
 abbrev pub far_line : List Node → List PortLine → FarEnd → Option PortLine
 far_line nodes ports far = option_and_then (λ place. line_of (port place far.port) ports) (place_of far.node.guid nodes)
 

@@ -3,7 +3,7 @@ use Rattle.std.specs.Prelude.{ℕ, Bool, not, ◌==◌, ◌&&◌, ◌||◌, List
 use Rattle.std.specs.Option.{ok_or}
 use Rattle.std.specs.List.{list_all}
 use Rattle.std.specs.Char.{is_ascii_digit, is_ascii_lowercase}
-use Rattle.result_words.specs.Steps.{◌>>=◌}
+use Rattle.step_results.specs.Steps.{◌>>=◌}
 use Rattle.text_words.specs.Cut.{cut_at}
 use Rattle.text_words.specs.Lines.{words_of}
 use Rattle.netdiscover_file.specs.declared.assignment.SwitchGuids.{SwitchGuids}
@@ -35,8 +35,8 @@ abbrev pub prefixed_guid_in : List ℕ → Result ℕ DiscoveryCause
 prefixed_guid_in word =
     ok_or (cut_at (λ byte. byte == 120) word) Malformed >>= λ parts. if bytes_eq parts.0 (codes "0") then guid_in parts.1 else Err Malformed
 
-unfoldable pub switch_guids_spelt : List ℕ → Result SwitchGuids DiscoveryCause
-switch_guids_spelt word = do
+unfoldable pub switch_guids_encoded : List ℕ → Result SwitchGuids DiscoveryCause
+switch_guids_encoded word = do
   parts ← enclosed 40 41 word
   node ← prefixed_guid_in parts.before
   port ← guid_in parts.inside
@@ -44,7 +44,7 @@ switch_guids_spelt word = do
 
 -- behind them a comment may stand, or what else there is
 unfoldable pub first_switch_guids : List (List ℕ) → Result SwitchGuids DiscoveryCause
-first_switch_guids (word ∷ rest) = switch_guids_spelt word
+first_switch_guids (word ∷ rest) = switch_guids_encoded word
 first_switch_guids [] = Err Malformed
 
 unfoldable pub switch_guids_in : List ℕ → Result SwitchGuids DiscoveryCause

@@ -1,7 +1,7 @@
 -- What stands behind the `#` of a line.
 use Rattle.std.specs.Prelude.{ℕ, Bool, ◌==◌, ◌&&◌, List, [], ◌∷◌, codes, bytes_eq, if◌then◌else◌, Result, Err}
 use Rattle.std.specs.Option.{ok_or, option_map_or}
-use Rattle.result_words.specs.Steps.{◌>>=◌}
+use Rattle.step_results.specs.Steps.{◌>>=◌}
 use Rattle.text_words.specs.Cut.{cut_at}
 use Rattle.text_words.specs.Lines.{words_of}
 use Rattle.netdiscover_file.specs.declared.fault.DiscoveryCause.{DiscoveryCause}

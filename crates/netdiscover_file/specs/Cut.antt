@@ -1,7 +1,7 @@
 -- Texts in parts.
 use Rattle.std.specs.Prelude.{ℕ, Bool, false, ◌==◌, List, [], ◌∷◌, length, Option, Some, None, if◌then◌else◌, Result, Ok}
 use Rattle.std.specs.Option.{ok_or, option_map_or}
-use Rattle.result_words.specs.Steps.{◌>>=◌}
+use Rattle.step_results.specs.Steps.{◌>>=◌}
 use Rattle.text_words.specs.Cut.{cut_at}
 use Rattle.text_words.specs.Lines.{words_of}
 use Rattle.netdiscover_file.specs.declared.cut.Between.{Between}

@@ -1,10 +1,10 @@
--- What a text of `ibnetdiscover` tells, or the first line that is at fault.
+-- What a text of `ibnetdiscover` reports, or the first line that is at fault.
 use Rattle.std.specs.Prelude.{ℕ, Bool, false, not, ◌==◌, ◌&&◌, ◌||◌, nat_eq, List, [], ◌∷◌, ◌++◌, codes, bytes_eq, option_to_list}
 use Rattle.std.specs.Prelude.{Option, Some, None, is_some, option_map, Result, Ok, Err, if◌then◌else◌}
 use Rattle.std.specs.List.{starts_with}
 use Rattle.std.specs.Option.{ok_or}
-use Rattle.result_words.specs.AtLine.{AtLine, after_lines}
-use Rattle.result_words.specs.Steps.{◌>>=◌}
+use Rattle.step_results.specs.AtLine.{AtLine, after_lines}
+use Rattle.step_results.specs.Steps.{◌>>=◌}
 use Rattle.text_words.specs.Lines.{lines, words_of}
 use Rattle.netdiscover_file.specs.declared.fault.DiscoveryCause.{DiscoveryCause}
 use Rattle.netdiscover_file.specs.declared.fault.DiscoveryCause.TheVariants.{Malformed, NoSuchPort, DuplicateGuid, WrongFarEnd}
@@ -20,7 +20,7 @@ use Rattle.netdiscover_file.specs.Ends.{far_end_of, node_id_in, own_end_in}
 use Rattle.netdiscover_file.specs.Kind.{is_same_kind, is_switch, kind_headed}
 use Rattle.netdiscover_file.specs.Lids.{node_lid, own_lid}
 use Rattle.netdiscover_file.specs.Node.{is_switch_at, last_place, place_of, port_at}
-use Rattle.netdiscover_file.specs.Port.{is_told_already, place_of_line}
+use Rattle.netdiscover_file.specs.Port.{is_reported_already, place_of_line}
 use Rattle.netdiscover_file.specs.Spelling.{only_if, port_count_in}
 
 -- what was discovered: nodes and lines of ports in the order of the text, and the GUID of the port at which it was printed
@@ -29,7 +29,7 @@ pub record DiscoveryState : Type 0 where
   pub ports : List PortLine
   pub initiator : Option ℕ
 
--- what the lines so far tell; `port_guids` are those of ports, in the order in which they were told, and `switch_guids`
+-- what the lines so far report; `port_guids` are those of ports, in the order in which they were reported, and `switch_guids`
 -- those of the switch whose header is to come
 pub record DraftState : Type 0 where
   pub nodes : List Node
@@ -39,8 +39,8 @@ pub record DraftState : Type 0 where
   pub initiator : Option ℕ
 
 -- ---- a header: `Switch 36 "S-0002c902004085a0" # "leaf-1" base port 0 lid 4 lmc 0`
-unfoldable pub header_spelt : ℕ → NodeKind → Option ℕ → List ℕ → List ℕ → List ℕ → Result Node DiscoveryCause
-header_spelt line kind port_guid ports id comment = do
+unfoldable pub header_encoded : ℕ → NodeKind → Option ℕ → List ℕ → List ℕ → List ℕ → Result Node DiscoveryCause
+header_encoded line kind port_guid ports id comment = do
   count ← port_count_in ports
   node ← node_id_in id
   named ← quoted_name comment
@@ -48,10 +48,10 @@ header_spelt line kind port_guid ports id comment = do
   only_if (is_same_kind node.kind kind) (record { id = node; ports = count; name = named.0; lid = lid; port_guid = port_guid; line = line })
 
 unfoldable pub header_of : ℕ → NodeKind → Option ℕ → List (List ℕ) → List ℕ → Result Node DiscoveryCause
-header_of line kind port_guid (ports ∷ id ∷ []) comment = header_spelt line kind port_guid ports id comment
+header_of line kind port_guid (ports ∷ id ∷ []) comment = header_encoded line kind port_guid ports id comment
 header_of line kind port_guid _ comment = Err Malformed
 
--- the line before told the GUIDs of another switch
+-- the line before reported the GUIDs of another switch
 abbrev pub is_of_another : Option SwitchGuids → NodeId → Bool
 is_of_another (Some guids) id = not (is_switch id.kind && (guids.node == id.guid))
 is_of_another None id = false
@@ -60,10 +60,10 @@ is_of_another None id = false
 abbrev pub has_taken_guid : DraftState → Node → Bool
 has_taken_guid so_far node =
     is_of_another so_far.switch_guids node.id
-    || (is_some (place_of node.id.guid so_far.nodes) || is_told_already node.port_guid so_far.port_guids)
+    || (is_some (place_of node.id.guid so_far.nodes) || is_reported_already node.port_guid so_far.port_guids)
 
-unfoldable pub node_told : DraftState → ℕ → NodeKind → List (List ℕ) → List ℕ → Result Node DiscoveryCause
-node_told so_far line kind words comment = do
+unfoldable pub node_reported : DraftState → ℕ → NodeKind → List (List ℕ) → List ℕ → Result Node DiscoveryCause
+node_reported so_far line kind words comment = do
   node ← header_of line kind (option_map (λ guids. guids.port) so_far.switch_guids) words comment
   if has_taken_guid so_far node then Err DuplicateGuid else Ok node
 
@@ -71,11 +71,11 @@ node_told so_far line kind words comment = do
 abbrev pub new_port : DraftState → PortLine → Result PortLine DiscoveryCause
 new_port so_far line =
     if is_some (place_of_line line.port so_far.ports) then Err NoSuchPort
-    else (if is_told_already line.guid so_far.port_guids then Err DuplicateGuid
+    else (if is_reported_already line.guid so_far.port_guids then Err DuplicateGuid
     else Ok line)
 
-unfoldable pub port_told : DraftState → ℕ → List ℕ → List (List ℕ) → List ℕ → Result PortLine DiscoveryCause
-port_told so_far line first words comment = do
+unfoldable pub port_reported : DraftState → ℕ → List ℕ → List (List ℕ) → List ℕ → Result PortLine DiscoveryCause
+port_reported so_far line first words comment = do
   own ← own_end_in first
   far ← far_end_of words
   place ← ok_or (last_place so_far.nodes) NoSuchPort
@@ -83,27 +83,27 @@ port_told so_far line first words comment = do
   port ← ok_or (port_at so_far.nodes place own.number) NoSuchPort
   new_port so_far (record { port = port; guid = own.guid; lid = lid; far = far; line = line })
 
--- ---- a line after those before it: what is told with what the line tells
+-- ---- a line after those before it: what is reported with what the line reports
 abbrev pub with_node : DraftState → Result Node DiscoveryCause → Result DraftState DiscoveryCause
-with_node so_far told = told >>= λ node. Ok (record so_far {
+with_node so_far reported = reported >>= λ node. Ok (record so_far {
   nodes = so_far.nodes ++ node ∷ [];
   port_guids = so_far.port_guids ++ option_to_list node.port_guid;
   switch_guids = None;
 })
 
 abbrev pub with_port : DraftState → Result PortLine DiscoveryCause → Result DraftState DiscoveryCause
-with_port so_far told = told >>= λ line. Ok (record so_far {
+with_port so_far reported = reported >>= λ line. Ok (record so_far {
   ports = so_far.ports ++ line ∷ [];
   port_guids = so_far.port_guids ++ option_to_list line.guid;
 })
 
--- `switchguid=..` is of the next header; what other words are told so is passed over
+-- `switchguid=..` is of the next header; what other words are reported so is passed over
 abbrev pub with_value : DraftState → List ℕ → List ℕ → Result DraftState DiscoveryCause
 with_value so_far key value =
     if bytes_eq key (codes "switchguid") then (switch_guids_in value >>= λ guids. Ok (record so_far { switch_guids = Some guids }))
     else Ok so_far
 
--- of comments only the first counts that tells where the text was printed
+-- of comments only the first counts that reports where the text was printed
 abbrev pub found : Result ℕ DiscoveryCause → Option ℕ
 found (Ok guid) = Some guid
 found (Err cause) = None
@@ -120,9 +120,9 @@ are_nodes _ = false
 unfoldable pub after_words : ℕ → DraftState → List (List ℕ) → List ℕ → Result DraftState DiscoveryCause
 after_words number so_far [] comment = Ok (with_comment so_far comment)
 after_words number so_far (first ∷ rest) comment =
-    if starts_with nat_eq first (codes "[") then with_port so_far (port_told so_far number first rest comment)
+    if starts_with nat_eq first (codes "[") then with_port so_far (port_reported so_far number first rest comment)
     else (if bytes_eq first (codes "Non-Chassis") then (if are_nodes rest then Ok so_far else Err Malformed)
-    else (kind_headed first >>= λ kind. with_node so_far (node_told so_far number kind rest comment)))
+    else (kind_headed first >>= λ kind. with_node so_far (node_reported so_far number kind rest comment)))
 
 -- a line that assigns nothing is one of words
 abbrev pub after_assignment : ℕ → DraftState → List ℕ → Option (List ℕ × List ℕ) → Result DraftState DiscoveryCause
@@ -143,14 +143,14 @@ if_agreed all None = Ok (record { nodes = all.nodes; ports = all.ports; initiato
 unfoldable pub whole : DraftState → Result DiscoveryState (AtLine DiscoveryCause)
 whole all = if_agreed all (first_wrong all.nodes all.ports)
 
--- before the first line nothing is told
+-- before the first line nothing is reported
 abbrev pub nothing : DraftState
 nothing = record { nodes = []; ports = []; port_guids = []; switch_guids = None; initiator = None }
 
--- what all lines tell
-abbrev pub told_by : List ℕ → Result DraftState (AtLine DiscoveryCause)
-told_by text = after_lines after_line 1 nothing (lines text)
+-- what all lines report
+abbrev pub reported_by : List ℕ → Result DraftState (AtLine DiscoveryCause)
+reported_by text = after_lines after_line 1 nothing (lines text)
 
--- what the text tells, or its first fault
+-- what the text reports, or its first fault
 unfoldable pub discovery_of : List ℕ → Result DiscoveryState (AtLine DiscoveryCause)
-discovery_of text = told_by text >>= whole
+discovery_of text = reported_by text >>= whole

@@ -1,7 +1,7 @@
--- The two ends of a cable, as the line of a port tells them, before it is known which nodes and ports there are.
+-- The two ends of a cable, as the line of a port reports them, before it is known which nodes and ports there are.
 use Rattle.std.specs.Prelude.{ℕ, Bool, not, ◌==◌, ◌&&◌, List, [], ◌∷◌, if◌then◌else◌, Option, Some, None, is_some, Result, Ok, Err}
 use Rattle.std.specs.Option.{ok_or}
-use Rattle.result_words.specs.Steps.{◌>>=◌}
+use Rattle.step_results.specs.Steps.{◌>>=◌}
 use Rattle.text_words.specs.Cut.{cut_at}
 use Rattle.netdiscover_file.specs.declared.ends.NodeId.{NodeId}
 use Rattle.netdiscover_file.specs.declared.ends.OwnEnd.{OwnEnd}

@@ -46,7 +46,7 @@ pub record HeadersAreRead : Type 0 where
   pub initiator : initiator_in (codes " Initiated from node 0002c90300a1b200 port 0002c90300a1b201\r\n") ≡ Ok 0x2c90300a1b201
 
 -- ---- a whole text: a switch with as many ports as there may be and the greatest LID, an adapter of two ports, and a router.
--- Of comments the first counts that tells where it was printed; chassis are passed over, and words that are told besides.
+-- Of comments the first counts that reports where it was printed; chassis are passed over, and words that are reported besides.
 abbrev switch_text : List ℕ
 switch_text =
     codes "#\n# Initiated from node 0000000000000100 port 0000000000000101\n# Initiated from node 0000000000000200 port 0000000000000201\n\n"
@@ -80,13 +80,13 @@ found_ports =
 
 pub record TextsAreRead : Type 0 where
   pub whole : discovery_of (switch_text ++ adapter_text ++ router_text) ≡ Ok (record { nodes = found_nodes; ports = found_ports; initiator = Some 257 })
-  -- a cable whose other end is not told, the line of a port before any node, and a heading that is none
+  -- a cable whose other end is not reported, the line of a port before any node, and a heading that is none
   pub of_one_end : discovery_of (switch_text ++ adapter_text) ≡ Err (record { line = 16; cause = WrongFarEnd })
   pub of_no_node : discovery_of (codes "\n[1]\t\"S-0000000000000020\"[1]\n") ≡ Err (record { line = 2; cause = NoSuchPort })
   pub of_no_heading : discovery_of (codes "Non-Chassis Node\n") ≡ Err (record { line = 1; cause = Malformed })
 
 -- ---- ports that are none, and lines that lack what is their own or have what is not
-pub record UnsoundAreTold : Type 0 where
+pub record UnsoundAreReported : Type 0 where
   pub below : is_port found_nodes (port 1 0) ≡ false
   pub past : is_port found_nodes (port 1 3) ≡ false
   pub at_no_node : is_port found_nodes (port 3 1) ≡ false

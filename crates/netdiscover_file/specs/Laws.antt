@@ -6,8 +6,8 @@ use Rattle.netdiscover_file.specs.declared.kind.NodeKind.TheVariants.{Switch}
 use Rattle.netdiscover_file.specs.declared.node.Node.{Node}
 use Rattle.netdiscover_file.specs.declared.port.PortLine.{PortLine}
 use Rattle.netdiscover_file.specs.Agreement.{is_one_cable, stands_at_both_ends}
-use Rattle.netdiscover_file.specs.Discovery.{DiscoveryState, DraftState, has_taken_guid, told_by}
-use Rattle.netdiscover_file.specs.Port.{is_told}
+use Rattle.netdiscover_file.specs.Discovery.{DiscoveryState, DraftState, has_taken_guid, reported_by}
+use Rattle.netdiscover_file.specs.Port.{is_reported}
 use Rattle.netdiscover_file.specs.Sound.{has_other_end, port_guids, AreSound, IsSound, IsSoundSoFar}
 
 -- a cable stands once at its other end: the lines that lead back to a line are one, in every discovery of which this is so
@@ -21,39 +21,39 @@ abbrev pub OneOtherEnd : Type 0
 OneOtherEnd = OneOtherEndWhere IsSound
 
 -- where no line fails this test, each has one that leads back
-abbrev pub TellsMissingEnds : (List Node → List PortLine → PortLine → Bool) → Type 0
-TellsMissingEnds test =
+abbrev pub ReportsMissingEnds : (List Node → List PortLine → PortLine → Bool) → Type 0
+ReportsMissingEnds test =
     (nodes : List Node) (ports : List PortLine) → find (λ line. not (test nodes ports line)) ports ≡ None
     → list_all (has_other_end nodes ports) ports ≡ true
 
-abbrev pub MissingEndsAreTold : Type 0
-MissingEndsAreTold = TellsMissingEnds stands_at_both_ends
+abbrev pub MissingEndsAreReported : Type 0
+MissingEndsAreReported = ReportsMissingEnds stands_at_both_ends
 
 -- a line passes this test exactly where some line leads back
-abbrev pub TellsOnlyMissingEnds : (List Node → List PortLine → PortLine → Bool) → Type 0
-TellsOnlyMissingEnds test =
+abbrev pub ReportsOnlyMissingEnds : (List Node → List PortLine → PortLine → Bool) → Type 0
+ReportsOnlyMissingEnds test =
     (nodes : List Node) (ports : List PortLine) → AreSound nodes ports → (line : PortLine)
     → test nodes ports line ≡ has_other_end nodes ports line
 
-abbrev pub OnlyMissingEndsAreTold : Type 0
-OnlyMissingEndsAreTold = TellsOnlyMissingEnds stands_at_both_ends
+abbrev pub OnlyMissingEndsAreReported : Type 0
+OnlyMissingEndsAreReported = ReportsOnlyMissingEnds stands_at_both_ends
 
 -- what is so after each line: all is sound, and the GUIDs that are noted are those of the ports
-pub record IsToldSoFar (so_far : DraftState) : Type 0 where
+pub record IsReportedSoFar (so_far : DraftState) : Type 0 where
   pub sound : IsSoundSoFar so_far.nodes so_far.ports so_far.port_guids
-  pub noted_alone : list_all (λ guid. is_told guid (port_guids so_far.nodes so_far.ports)) so_far.port_guids ≡ true
+  pub noted_alone : list_all (λ guid. is_reported guid (port_guids so_far.nodes so_far.ports)) so_far.port_guids ≡ true
 
-abbrev pub LinesTellSo : Type 0
-LinesTellSo = (text : List ℕ) (so_far : DraftState) → told_by text ≡ Ok so_far → IsToldSoFar so_far
+abbrev pub LinesSaySo : Type 0
+LinesSaySo = (text : List ℕ) (so_far : DraftState) → reported_by text ≡ Ok so_far → IsReportedSoFar so_far
 
--- with this node all GUIDs stay apart, and where the line before told those of a switch, it is that switch
+-- with this node all GUIDs stay apart, and where the line before reported those of a switch, it is that switch
 pub record HasOwnGuids (so_far : DraftState) (node : Node) : Type 0 where
   pub apart : AreSound (so_far.nodes ++ node ∷ []) so_far.ports
   pub meant : (guids : SwitchGuids) → so_far.switch_guids ≡ Some guids → (node.id.kind ≡ Switch) × (node.id.guid ≡ guids.node)
 
--- this test tells that a GUID of a node is taken exactly where the node has none of its own
-abbrev pub TellsTakenGuids : (DraftState → Node → Bool) → Type 0
-TellsTakenGuids test = (so_far : DraftState) (node : Node) → IsToldSoFar so_far → (test so_far node ≡ false) ↔ HasOwnGuids so_far node
+-- this test reports that a GUID of a node is taken exactly where the node has none of its own
+abbrev pub ReportsTakenGuids : (DraftState → Node → Bool) → Type 0
+ReportsTakenGuids test = (so_far : DraftState) (node : Node) → IsReportedSoFar so_far → (test so_far node ≡ false) ↔ HasOwnGuids so_far node
 
-abbrev pub TakenGuidsAreTold : Type 0
-TakenGuidsAreTold = TellsTakenGuids has_taken_guid
+abbrev pub TakenGuidsAreReported : Type 0
+TakenGuidsAreReported = ReportsTakenGuids has_taken_guid

@@ -1,7 +1,7 @@
--- The LIDs that lines tell.
+-- The LIDs that lines report.
 use Rattle.std.specs.Prelude.{ℕ, Bool, not, ◌==◌, ◌&&◌, ◌||◌, List, [], ◌∷◌, codes, bytes_eq, if◌then◌else◌, Option, Some, None, is_some, Result, Ok, Err}
 use Rattle.std.specs.Option.{ok_or, option_map_or}
-use Rattle.result_words.specs.Steps.{◌>>=◌}
+use Rattle.step_results.specs.Steps.{◌>>=◌}
 use Rattle.text_words.specs.Cut.{cut_at}
 use Rattle.text_words.specs.Lines.{words_of}
 use Rattle.netdiscover_file.specs.declared.kind.NodeKind.{NodeKind}
@@ -12,20 +12,20 @@ use Rattle.netdiscover_file.specs.Kind.{is_switch}
 use Rattle.netdiscover_file.specs.Spelling.{lid_in, lmc_in, only_if}
 
 -- ---- `lid 4 lmc 0`
-unfoldable pub lid_spelt : List ℕ → List ℕ → List ℕ → List ℕ → Result ℕ DiscoveryCause
-lid_spelt lid_word lid lmc_word lmc = do
+unfoldable pub lid_encoded : List ℕ → List ℕ → List ℕ → List ℕ → Result ℕ DiscoveryCause
+lid_encoded lid_word lid lmc_word lmc = do
   number ← lid_in lid
   mask ← lmc_in lmc
   only_if (bytes_eq lid_word (codes "lid") && bytes_eq lmc_word (codes "lmc")) number
 
 -- the words that come first
 unfoldable pub first_lid : List (List ℕ) → Result ℕ DiscoveryCause
-first_lid (lid_word ∷ lid ∷ lmc_word ∷ lmc ∷ rest) = lid_spelt lid_word lid lmc_word lmc
+first_lid (lid_word ∷ lid ∷ lmc_word ∷ lmc ∷ rest) = lid_encoded lid_word lid lmc_word lmc
 first_lid _ = Err Malformed
 
 -- the words that are all
 unfoldable pub only_lid : List (List ℕ) → Result ℕ DiscoveryCause
-only_lid (lid_word ∷ lid ∷ lmc_word ∷ lmc ∷ []) = lid_spelt lid_word lid lmc_word lmc
+only_lid (lid_word ∷ lid ∷ lmc_word ∷ lmc ∷ []) = lid_encoded lid_word lid lmc_word lmc
 only_lid _ = Err Malformed
 
 -- in the comment of an adapter's port line its own LID stands before the name of the far node, which begins with a `"`

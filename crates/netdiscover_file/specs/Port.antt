@@ -15,13 +15,13 @@ abbrev pub line_of : PortRef → List PortLine → Option PortLine
 line_of port lines = option_and_then (λ place. slice_get lines place) (place_of_line port lines)
 
 -- the GUID is one of these
-abbrev pub is_told : ℕ → List ℕ → Bool
-is_told guid told = list_any (λ other. guid == other) told
+abbrev pub is_reported : ℕ → List ℕ → Bool
+is_reported guid reported = list_any (λ other. guid == other) reported
 
 -- likewise, where there is one
-abbrev pub is_told_already : Option ℕ → List ℕ → Bool
-is_told_already (Some guid) told = is_told guid told
-is_told_already None told = false
+abbrev pub is_reported_already : Option ℕ → List ℕ → Bool
+is_reported_already (Some guid) reported = is_reported guid reported
+is_reported_already None reported = false
 
 -- both are the same GUID, or both are none
 abbrev pub is_same_guid : Option ℕ → Option ℕ → Bool

@@ -8,7 +8,7 @@ use Rattle.netdiscover_file.specs.declared.port.PortLine.{PortLine}
 use Rattle.netdiscover_file.specs.Agreement.{is_one_cable, stands_at_both_ends}
 use Rattle.netdiscover_file.specs.Discovery.{DiscoveryState}
 use Rattle.netdiscover_file.specs.Node.{is_switch_at, ports_at}
-use Rattle.netdiscover_file.specs.Port.{is_told}
+use Rattle.netdiscover_file.specs.Port.{is_reported}
 use Rattle.netdiscover_file.specs.Lids.{owns}
 
 -- both nodes have one GUID
@@ -42,7 +42,7 @@ pub record AreSound (nodes : List Node) (ports : List PortLine) : Type 0 where
 -- what stands after each line: the GUIDs of all ports are noted
 pub record IsSoundSoFar (nodes : List Node) (ports : List PortLine) (noted : List ℕ) : Type 0 where
   pub lines : AreSound nodes ports
-  pub all_noted : list_all (λ guid. is_told guid noted) (port_guids nodes ports) ≡ true
+  pub all_noted : list_all (λ guid. is_reported guid noted) (port_guids nodes ports) ≡ true
 
 -- some line leads back: the far end of each of the two is the port of the other
 abbrev pub has_other_end : List Node → List PortLine → PortLine → Bool

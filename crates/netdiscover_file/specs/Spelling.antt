@@ -1,7 +1,7 @@
 -- Numbers as `ibnetdiscover` prints them: decimal ones without a sign, GUIDs in hexadecimal digits of either case.
 use Rattle.std.specs.Prelude.{ℕ, Bool, ◌^◌, ◌==◌, nat_le, if◌then◌else◌, List, length, Result, Ok, Err}
 use Rattle.std.specs.Option.{ok_or}
-use Rattle.result_words.specs.Steps.{◌>>=◌}
+use Rattle.step_results.specs.Steps.{◌>>=◌}
 use Rattle.text_words.specs.Number.{digits_in, if_under}
 use Rattle.netdiscover_file.specs.declared.fault.DiscoveryCause.{DiscoveryCause}
 use Rattle.netdiscover_file.specs.declared.fault.DiscoveryCause.TheVariants.{Malformed}

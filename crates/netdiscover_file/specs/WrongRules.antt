@@ -7,9 +7,9 @@ use Rattle.netdiscover_file.specs.declared.node.Node.{Node}
 use Rattle.netdiscover_file.specs.declared.port.PortLine.{PortLine}
 use Rattle.netdiscover_file.specs.Agreement.{far_line, names, stands_at_both_ends}
 use Rattle.netdiscover_file.specs.Discovery.{DiscoveryState, DraftState}
-use Rattle.netdiscover_file.specs.Laws.{OneOtherEndWhere, TellsMissingEnds, TellsOnlyMissingEnds, TellsTakenGuids}
+use Rattle.netdiscover_file.specs.Laws.{OneOtherEndWhere, ReportsMissingEnds, ReportsOnlyMissingEnds, ReportsTakenGuids}
 use Rattle.netdiscover_file.specs.Node.{is_node_at, place_of}
-use Rattle.netdiscover_file.specs.Port.{is_told_already}
+use Rattle.netdiscover_file.specs.Port.{is_reported_already}
 use Rattle.netdiscover_file.specs.Sound.{has_other_end}
 
 -- the far end is there, wherever its own line leads
@@ -17,9 +17,9 @@ abbrev pub has_far_end : List Node → List PortLine → PortLine → Bool
 has_far_end nodes ports line = option_map_or (names nodes line.far) (far_line nodes ports line.far) false
 
 abbrev pub FarEndsAloneAreNotEnough : Type 0
-FarEndsAloneAreNotEnough = TellsMissingEnds has_far_end → ⊥
+FarEndsAloneAreNotEnough = ReportsMissingEnds has_far_end → ⊥
 
--- both ends name one another's nodes and numbers, whatever GUIDs they tell of the ports
+-- both ends name one another's nodes and numbers, whatever GUIDs they report of the ports
 abbrev pub names_number : List Node → FarEnd → PortLine → Bool
 names_number nodes far line = is_node_at nodes line.port.node far.node && (line.port.port == far.port)
 
@@ -28,14 +28,14 @@ has_far_number nodes ports line =
     option_map_or (λ other. names_number nodes line.far other && names_number nodes other.far line) (far_line nodes ports line.far) false
 
 abbrev pub NumbersAloneAreNotEnough : Type 0
-NumbersAloneAreNotEnough = TellsMissingEnds has_far_number → ⊥
+NumbersAloneAreNotEnough = ReportsMissingEnds has_far_number → ⊥
 
 -- a cable must join two nodes
 abbrev pub joins_two_nodes : List Node → List PortLine → PortLine → Bool
 joins_two_nodes nodes ports line = stands_at_both_ends nodes ports line && not (is_node_at nodes line.port.node line.far.node)
 
 abbrev pub ANodeMayBeJoinedToItself : Type 0
-ANodeMayBeJoinedToItself = TellsOnlyMissingEnds joins_two_nodes → ⊥
+ANodeMayBeJoinedToItself = ReportsOnlyMissingEnds joins_two_nodes → ⊥
 
 -- each line has one that leads back, whether or not two lines are of one port
 abbrev pub HaveOtherEnds : DiscoveryState → Type 0
@@ -49,22 +49,22 @@ abbrev pub has_taken_node_guid : DraftState → Node → Bool
 has_taken_node_guid so_far node = is_some (place_of node.id.guid so_far.nodes)
 
 abbrev pub NodesAloneAreNotEnough : Type 0
-NodesAloneAreNotEnough = TellsTakenGuids has_taken_node_guid → ⊥
+NodesAloneAreNotEnough = ReportsTakenGuids has_taken_node_guid → ⊥
 
 -- the GUID of the port is new, whatever that of the node is
 abbrev pub has_taken_port_guid : DraftState → Node → Bool
-has_taken_port_guid so_far node = is_told_already node.port_guid so_far.port_guids
+has_taken_port_guid so_far node = is_reported_already node.port_guid so_far.port_guids
 
 abbrev pub PortsAloneAreNotEnough : Type 0
-PortsAloneAreNotEnough = TellsTakenGuids has_taken_port_guid → ⊥
+PortsAloneAreNotEnough = ReportsTakenGuids has_taken_port_guid → ⊥
 
--- both are new, whichever switch the line before told
+-- both are new, whichever switch the line before reported
 abbrev pub has_taken_either : DraftState → Node → Bool
 has_taken_either so_far node = has_taken_node_guid so_far node || has_taken_port_guid so_far node
 
 abbrev pub OtherSwitchesAreWanted : Type 0
-OtherSwitchesAreWanted = TellsTakenGuids has_taken_either → ⊥
+OtherSwitchesAreWanted = ReportsTakenGuids has_taken_either → ⊥
 
 -- every node has a GUID that is taken
 abbrev pub SomeGuidsAreFree : Type 0
-SomeGuidsAreFree = TellsTakenGuids (λ so_far node. true) → ⊥
+SomeGuidsAreFree = ReportsTakenGuids (λ so_far node. true) → ⊥

@@ -24,7 +24,7 @@ fn is_one_cable(nodes: &[Node], line: &PortLine, other: &PortLine) -> bool
     names(nodes, &line.far, other) && names(nodes, &other.far, line)
 }
 
-/// The line of the port that a far end tells, if there is one.
+/// The line of the port that a far end reports, if there is one.
 pub(crate) fn far_line<'a>(
     nodes: &NodeList,
     ports: &'a PortList,

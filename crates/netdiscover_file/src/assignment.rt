@@ -4,14 +4,14 @@ ghost use Rattle.std.specs.Prelude.{◌≡◌};
 ghost use Rattle.std.specs.List.{list_all};
 ghost use Rattle.std.specs.Option.{option_map};
 ghost use Rattle.text_words.specs.Cut.{both};
-ghost use Rattle.netdiscover_file.specs.Assignment.{assignment_in, is_key, is_key_byte, prefixed_guid_in, switch_guids_in, switch_guids_spelt};
+ghost use Rattle.netdiscover_file.specs.Assignment.{assignment_in, is_key, is_key_byte, prefixed_guid_in, switch_guids_in, switch_guids_encoded};
 
 use crate::cut::enclosed;
 use crate::fault::DiscoveryCause;
 use crate::spelling::guid_in;
 use text_words::{Words, cut_at};
 
-/// The GUIDs of a switch that a line before its header tells.
+/// The GUIDs of a switch that a line before its header reports.
 #[derive(Clone, Copy, Debug)]
 pub(crate) struct SwitchGuids {
     /// The node's.
@@ -30,9 +30,9 @@ fn prefixed_guid_in(word: &[u8]) -> Result<u64, DiscoveryCause>
     guid_in(digits)
 }
 
-#[tactic(auto, unfolding(crate::specs::Assignment::switch_guids_spelt))]
-fn switch_guids_spelt(word: &[u8]) -> Result<SwitchGuids, DiscoveryCause>
-    ensures { result ≡ switch_guids_spelt word.now }
+#[tactic(auto, unfolding(crate::specs::Assignment::switch_guids_encoded))]
+fn switch_guids_encoded(word: &[u8]) -> Result<SwitchGuids, DiscoveryCause>
+    ensures { result ≡ switch_guids_encoded word.now }
 {
     let parts = enclosed(b'(', b')', word)?;
     let node = prefixed_guid_in(parts.before)?;
@@ -52,7 +52,7 @@ pub(crate) fn switch_guids_in(value: &[u8]) -> Result<SwitchGuids, DiscoveryCaus
     let Some(word) = words.next() else {
         return Err(DiscoveryCause::Malformed);
     };
-    switch_guids_spelt(word)
+    switch_guids_encoded(word)
 }
 
 /// Whether a word names what follows behind its `=`: lower-case letters, digits and `_`.

@@ -1,7 +1,7 @@
 //! What stands behind the `#` of a line.
 
 ghost use Rattle.std.specs.Prelude.{◌≡◌};
-ghost use Rattle.result_words.specs.Gives.{seen_by};
+ghost use Rattle.step_results.specs.Gives.{seen_by};
 ghost use Rattle.text_words.specs.Cut.{both};
 ghost use Rattle.netdiscover_file.specs.Comment.{comment_of, initiating_port, initiator_in, initiator_of, is_initiated, quoted_name};
 
@@ -74,7 +74,7 @@ fn initiator_of(words: Words<'_>) -> Result<u64, DiscoveryCause>
     initiating_port(words)
 }
 
-/// The GUID of the port at which a text was printed, if a comment tells it.
+/// The GUID of the port at which a text was printed, if a comment reports it.
 #[tactic(auto, unfolding(crate::specs::Comment::initiator_in))]
 pub(crate) fn initiator_in(comment: &[u8]) -> Result<u64, DiscoveryCause>
     ensures { result ≡ initiator_in comment.now }

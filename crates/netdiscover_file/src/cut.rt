@@ -2,7 +2,7 @@
 
 ghost use Rattle.std.specs.Prelude.{◌≡◌, ◌==◌, length};
 ghost use Rattle.std.specs.Option.{option_map};
-ghost use Rattle.result_words.specs.Gives.{seen_by};
+ghost use Rattle.step_results.specs.Gives.{seen_by};
 ghost use Rattle.text_words.specs.Cut.{both};
 ghost use Rattle.netdiscover_file.specs.Cut.{cut_at_last, enclosed, has_no_words, parts_of};
 

@@ -63,7 +63,7 @@ impl Discovery {
         self.ports.as_slice()
     }
 
-    /// The GUID of the port at which the text was printed, if it tells one.
+    /// The GUID of the port at which the text was printed, if it reports one.
     pub fn initiator(&self) -> Option<u64>
         ensures { result ≡ self.now.initiator }
     {

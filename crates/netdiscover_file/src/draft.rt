@@ -1,10 +1,10 @@
 //! A discovery of which lines are still to come.
 
 ghost use Rattle.std.specs.Prelude.{◌≡◌, None, false, true, IfOk, option_map};
-ghost use Rattle.result_words.specs.Gives.{seen_by};
-ghost use Rattle.netdiscover_file.specs.Discovery.{has_taken_guid, header_of, header_spelt, is_of_another, new_port, node_told, nothing, port_told};
+ghost use Rattle.step_results.specs.Gives.{seen_by};
+ghost use Rattle.netdiscover_file.specs.Discovery.{has_taken_guid, header_of, header_encoded, is_of_another, new_port, node_reported, nothing, port_reported};
 ghost use Rattle.netdiscover_file.specs.Node.{node_seen, place_of};
-ghost use Rattle.netdiscover_file.specs.Port.{is_told_already, place_of_line};
+ghost use Rattle.netdiscover_file.specs.Port.{is_reported_already, place_of_line};
 ghost use Rattle.netdiscover_file.specs.Sound.{has_own, is_port};
 
 use crate::assignment::SwitchGuids;
@@ -20,12 +20,12 @@ use std::alloc::Global;
 use std::marker::Model;
 use text_words::Words;
 
-/// What the lines so far tell.
+/// What the lines so far report.
 #[derive(Drop)]
 pub(crate) struct Draft {
     pub(crate) nodes: NodeList,
     pub(crate) ports: PortList,
-    // Of all ports that were told: of adapters' and routers' ports, and of switches' ports 0.
+    // Of all ports that were reported: of adapters' and routers' ports, and of switches' ports 0.
     pub(crate) port_guids: GuidList,
     // Of the switch whose header is to come.
     pub(crate) switch_guids: Option<SwitchGuids>,
@@ -69,10 +69,10 @@ impl Draft {
     {
         is_of_another(self.switch_guids, node.id)
             || (self.nodes.place_of(node.id.guid).is_some()
-                || self.port_guids.is_told_already(node.port_guid))
+                || self.port_guids.is_reported_already(node.port_guid))
     }
 
-    /// The GUID that was told of port 0 of the node whose header is to come.
+    /// The GUID that was reported of port 0 of the node whose header is to come.
     fn coming_port_guid(&self) -> Option<u64>
         ensures { result ≡ option_map (λ guids. guids.port) self.now.switch_guids }
     {
@@ -82,18 +82,18 @@ impl Draft {
         }
     }
 
-    /// The node that a header tells, by the words after the first and the comment.
-    #[tactic(auto, unfolding(crate::specs::Discovery::node_told))]
-    pub(crate) fn node_told<'a>(
+    /// The node that a header reports, by the words after the first and the comment.
+    #[tactic(auto, unfolding(crate::specs::Discovery::node_reported))]
+    pub(crate) fn node_reported<'a>(
         &self,
         line: usize,
         kind: NodeKind,
         words: Words<'_>,
         comment: &'a [u8],
     ) -> Result<NewNode<'a>, DiscoveryCause>
-        ensures value { seen_by node_seen result ≡ node_told self.now line kind words.entry comment.now }
+        ensures value { seen_by node_seen result ≡ node_reported self.now line kind words.entry comment.now }
         ensures new { IfOk result (λ node. place_of node.id.guid self.now.nodes ≡ None) }
-        ensures own { IfOk result (λ node. is_told_already node.port_guid self.now.port_guids ≡ false) }
+        ensures own { IfOk result (λ node. is_reported_already node.port_guid self.now.port_guids ≡ false) }
     {
         let node = header_of(line, kind, self.coming_port_guid(), words, comment)?;
         if self.has_taken_guid(&node) {
@@ -105,33 +105,33 @@ impl Draft {
     /// Judges the line of a port against those before it.
     fn new_port(&self, line: PortLine) -> Result<PortLine, DiscoveryCause>
         ensures value { result ≡ new_port self.now line }
-        ensures same { IfOk result (λ told. told ≡ line) }
-        ensures new { IfOk result (λ told. place_of_line told.port self.now.ports ≡ None) }
-        ensures own { IfOk result (λ told. is_told_already told.guid self.now.port_guids ≡ false) }
+        ensures same { IfOk result (λ reported. reported ≡ line) }
+        ensures new { IfOk result (λ reported. place_of_line reported.port self.now.ports ≡ None) }
+        ensures own { IfOk result (λ reported. is_reported_already reported.guid self.now.port_guids ≡ false) }
     {
         if self.ports.place_of_line(line.port).is_some() {
             return Err(DiscoveryCause::NoSuchPort);
         }
-        if self.port_guids.is_told_already(line.guid) {
+        if self.port_guids.is_reported_already(line.guid) {
             return Err(DiscoveryCause::DuplicateGuid);
         }
         Ok(line)
     }
 
-    /// What the line of a port tells, by its words and its comment.
-    #[tactic(auto, unfolding(crate::specs::Discovery::port_told))]
-    pub(crate) fn port_told(
+    /// What the line of a port reports, by its words and its comment.
+    #[tactic(auto, unfolding(crate::specs::Discovery::port_reported))]
+    pub(crate) fn port_reported(
         &self,
         line: usize,
         first: &[u8],
         words: Words<'_>,
         comment: &[u8],
     ) -> Result<PortLine, DiscoveryCause>
-        ensures value { result ≡ port_told self.now line first.now words.entry comment.now }
-        ensures new { IfOk result (λ told. place_of_line told.port self.now.ports ≡ None) }
-        ensures own { IfOk result (λ told. is_told_already told.guid self.now.port_guids ≡ false) }
-        ensures is_port { IfOk result (λ told. is_port self.now.nodes told.port ≡ true) }
-        ensures has_own { IfOk result (λ told. has_own self.now.nodes told ≡ true) }
+        ensures value { result ≡ port_reported self.now line first.now words.entry comment.now }
+        ensures new { IfOk result (λ reported. place_of_line reported.port self.now.ports ≡ None) }
+        ensures own { IfOk result (λ reported. is_reported_already reported.guid self.now.port_guids ≡ false) }
+        ensures is_port { IfOk result (λ reported. is_port self.now.nodes reported.port ≡ true) }
+        ensures has_own { IfOk result (λ reported. has_own self.now.nodes reported ≡ true) }
     {
         let own = own_end_in(first)?;
         let far = far_end_of(words)?;
@@ -149,7 +149,7 @@ impl Draft {
     }
 }
 
-/// Whether the line before a header told the GUIDs of another switch.
+/// Whether the line before a header reported the GUIDs of another switch.
 fn is_of_another(guids: Option<SwitchGuids>, id: NodeId) -> bool
     ensures { result ≡ is_of_another guids id }
 {
@@ -173,11 +173,11 @@ fn header_of<'a>(
     let (Some(ports), Some(id), None) = (words.next(), words.next(), words.next()) else {
         return Err(DiscoveryCause::Malformed);
     };
-    header_spelt(line, kind, port_guid, ports, id, comment)
+    header_encoded(line, kind, port_guid, ports, id, comment)
 }
 
-#[tactic(auto, unfolding(crate::specs::Discovery::header_spelt))]
-fn header_spelt<'a>(
+#[tactic(auto, unfolding(crate::specs::Discovery::header_encoded))]
+fn header_encoded<'a>(
     line: usize,
     kind: NodeKind,
     port_guid: Option<u64>,
@@ -185,7 +185,7 @@ fn header_spelt<'a>(
     id: &[u8],
     comment: &'a [u8],
 ) -> Result<NewNode<'a>, DiscoveryCause>
-    ensures { seen_by node_seen result ≡ header_spelt line kind port_guid ports.now id.now comment.now }
+    ensures { seen_by node_seen result ≡ header_encoded line kind port_guid ports.now id.now comment.now }
 {
     let ports = port_count_in(ports)?;
     let id = node_id_in(id)?;

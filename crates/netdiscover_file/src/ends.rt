@@ -1,4 +1,4 @@
-//! The two ends of a cable, as the line of a port tells them.
+//! The two ends of a cable, as the line of a port reports them.
 
 ghost use Rattle.std.specs.Prelude.{◌≡◌};
 ghost use Rattle.netdiscover_file.specs.Ends.{far_end_apart, far_end_in, far_end_of, node_id_in, own_end_in, port_guid_if_any, port_guid_in};

@@ -1,9 +1,9 @@
 //! What the definitions give for lines and texts as they are printed. Each function does nothing: its contract is the
 //! example.
 
-ghost use Rattle.netdiscover_file.specs.Examples.{EndsAreRead, HeadersAreRead, TextsAreRead, UnsoundAreTold};
+ghost use Rattle.netdiscover_file.specs.Examples.{EndsAreRead, HeadersAreRead, TextsAreRead, UnsoundAreReported};
 
-/// The two ends that the line of a port tells.
+/// The two ends that the line of a port reports.
 pub fn ends_are_read()
     ensures { EndsAreRead }
 {}
@@ -19,6 +19,6 @@ pub fn texts_are_read()
 {}
 
 /// What is so of every discovery that was read is not so of all.
-pub fn unsound_are_told()
-    ensures { UnsoundAreTold }
+pub fn unsound_are_reported()
+    ensures { UnsoundAreReported }
 {}

@@ -3,8 +3,7 @@
 ghost use Rattle.std.specs.Prelude.{◌≡◌};
 ghost use Rattle.netdiscover_file.specs.Fault.{code_of};
 
-use result_words::LineError;
-use std::alloc::AllocError;
+use step_results::{LineError, TextFault};
 use thiserror::Error;
 
 /// What is wrong with a line.
@@ -17,7 +16,7 @@ pub enum DiscoveryCause {
     /// has a line already.
     #[error("the port is of no node, not one of its node's, or has a line already")]
     NoSuchPort,
-    /// A GUID of a node or of a port is told already, or is not the one that its line before tells.
+    /// A GUID of a node or of a port is reported already, or is not the one that its line before reports.
     #[error("a node or port of this GUID is told already, or the GUIDs of the switch differ from those told before")]
     DuplicateGuid,
     /// The cable does not stand so at its other end.
@@ -40,38 +39,14 @@ impl DiscoveryCause {
 }
 
 /// Why a text was not read.
-#[derive(Clone, Copy, Debug, PartialEq, Eq, Error)]
-pub enum DiscoveryFault {
-    /// Memory was refused.
-    #[error("out of memory")]
-    NoMemory,
-    /// The first fault of the text.
-    #[error("line {line}: {cause}")]
-    At {
-        /// The line, counted from 1.
-        line: usize,
-        /// What is wrong.
-        cause: DiscoveryCause,
-    },
-}
+pub type DiscoveryFault = TextFault<DiscoveryCause>;
 
 impl From<DiscoveryCause> for LineError<DiscoveryCause> {
-    ghost use Rattle.result_words.specs.declared.line_error.LineError.TheVariants.{Fault};
+    ghost use Rattle.step_results.specs.declared.line_error.LineError.TheVariants.{Fault};
 
     ghost from_gives = { λ cause e. e ≡ Fault cause };
 
     fn from(cause: DiscoveryCause) -> LineError<DiscoveryCause> {
         LineError::Fault(cause)
-    }
-}
-
-impl From<AllocError> for DiscoveryFault {
-    ghost use Rattle.std.specs.Prelude.{◌≡◌};
-    ghost use Rattle.netdiscover_file.specs.declared.fault.DiscoveryFault.TheVariants as text;
-
-    ghost from_gives = { λ _ e. e ≡ text.NoMemory };
-
-    fn from(_error: AllocError) -> DiscoveryFault {
-        DiscoveryFault::NoMemory
     }
 }

@@ -5,7 +5,7 @@ ghost use Rattle.netdiscover_file.specs.Kind.{is_same_kind, is_switch, kind_head
 
 use crate::fault::DiscoveryCause;
 
-/// What kind of node a text tells.
+/// What kind of node a text reports.
 ///
 /// Source: IBA volume 1, 14.2.5.3 (NodeInfo).
 #[derive(Clone, Copy, Debug, PartialEq, Eq)]

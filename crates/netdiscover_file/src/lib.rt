@@ -1,6 +1,6 @@
 //! What `ibnetdiscover` prints of a real fabric, read into nodes and the ends of their cables.
 //!
-//! [`read`] gives the [`Discovery`] that a text tells, or the first fault with its line. What a text tells
+//! [`read`] gives the [`Discovery`] that a text reports, or the first fault with its line. What a text reports
 //! is stated in `specs/Discovery.antt`, line by line; what the words of a line say, in `specs/Ends.antt`,
 //! `specs/Lids.antt`, `specs/Comment.antt` and `specs/Assignment.antt`.
 //! A discovery agrees with itself: `specs/Sound.antt` says how.

@@ -1,7 +1,7 @@
-//! The LIDs that lines tell.
+//! The LIDs that lines report.
 
 ghost use Rattle.std.specs.Prelude.{◌≡◌, true, IfOk};
-ghost use Rattle.netdiscover_file.specs.Lids.{before_name, first_lid, is_port_0, lid_spelt, node_lid, only_lid, own_lid, own_lid_in, owns, port_0_lid};
+ghost use Rattle.netdiscover_file.specs.Lids.{before_name, first_lid, is_port_0, lid_encoded, node_lid, only_lid, own_lid, own_lid_in, owns, port_0_lid};
 
 use crate::cut::has_no_words;
 use crate::fault::DiscoveryCause;
@@ -9,14 +9,14 @@ use crate::kind::NodeKind;
 use crate::spelling::{lid_in, lmc_in};
 use text_words::{Words, cut_at};
 
-#[tactic(auto, unfolding(crate::specs::Lids::lid_spelt))]
-fn lid_spelt(
+#[tactic(auto, unfolding(crate::specs::Lids::lid_encoded))]
+fn lid_encoded(
     lid_word: &[u8],
     lid: &[u8],
     lmc_word: &[u8],
     lmc: &[u8],
 ) -> Result<u16, DiscoveryCause>
-    ensures { result ≡ lid_spelt lid_word.now lid.now lmc_word.now lmc.now }
+    ensures { result ≡ lid_encoded lid_word.now lid.now lmc_word.now lmc.now }
 {
     let number = lid_in(lid)?;
     lmc_in(lmc)?;
@@ -26,7 +26,7 @@ fn lid_spelt(
     Ok(number)
 }
 
-/// The LID that the first words tell.
+/// The LID that the first words report.
 #[tactic(auto, unfolding(crate::specs::Lids::first_lid))]
 fn first_lid(words: Words<'_>) -> Result<u16, DiscoveryCause>
     ensures { result ≡ first_lid words.entry }
@@ -40,10 +40,10 @@ fn first_lid(words: Words<'_>) -> Result<u16, DiscoveryCause>
     ) else {
         return Err(DiscoveryCause::Malformed);
     };
-    lid_spelt(lid_word, lid, lmc_word, lmc)
+    lid_encoded(lid_word, lid, lmc_word, lmc)
 }
 
-/// The LID that all words tell.
+/// The LID that all words report.
 #[tactic(auto, unfolding(crate::specs::Lids::only_lid))]
 fn only_lid(words: Words<'_>) -> Result<u16, DiscoveryCause>
     ensures { result ≡ only_lid words.entry }
@@ -58,7 +58,7 @@ fn only_lid(words: Words<'_>) -> Result<u16, DiscoveryCause>
     ) else {
         return Err(DiscoveryCause::Malformed);
     };
-    lid_spelt(lid_word, lid, lmc_word, lmc)
+    lid_encoded(lid_word, lid, lmc_word, lmc)
 }
 
 /// The own LID of an adapter's port, by the comment of its line.

@@ -40,7 +40,7 @@ impl NodeName {
     }
 }
 
-/// A node, as its header tells it.
+/// A node, as its header reports it.
 #[derive(Debug, Drop)]
 pub struct Node {
     /// What it is, and its GUID, which no other node has.
@@ -51,7 +51,7 @@ pub struct Node {
     pub name: NodeName,
     /// Of a switch the LID of its port 0.
     pub lid: Option<u16>,
-    /// Of a switch the GUID of its port 0, if a line tells it.
+    /// Of a switch the GUID of its port 0, if a line reports it.
     pub port_guid: Option<u64>,
     /// The line of its header.
     pub line: usize,
@@ -111,7 +111,7 @@ impl NodeList {
         self.guids.get_index_of(&guid)
     }
 
-    /// Adds a node at the end. Memory alone can be refused, and then the list stays as it was.
+    /// Adds a node at the end. It can only run out of memory, and then the list stays as it was.
     pub(crate) fn push(&mut self, alloc: Global, node: &NewNode) -> Result<(), AllocError>
         requires new { place_of node.now.id.guid self.old ≡ None }
         ensures ok { OnOk result (self.new ≡ self.old ++ node_seen node.now ∷ []) }

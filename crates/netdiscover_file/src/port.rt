@@ -1,8 +1,8 @@
-//! The lines of ports, and the GUIDs that they tell.
+//! The lines of ports, and the GUIDs that they report.
 
 ghost use Rattle.std.specs.Prelude.{◌≡◌, [], ◌∷◌, ◌++◌, false, None, option_to_list, OnErr, OnOk};
 ghost use Rattle.std.specs.Option.{option_copied};
-ghost use Rattle.netdiscover_file.specs.Port.{is_same_guid, is_told, is_told_already, line_of, place_of_line};
+ghost use Rattle.netdiscover_file.specs.Port.{is_same_guid, is_reported, is_reported_already, line_of, place_of_line};
 
 use crate::ends::FarEnd;
 use fabric_parts::PortRef;
@@ -10,7 +10,7 @@ use indexmap::IndexSet;
 use std::alloc::{AllocError, Global};
 use std::marker::Model;
 
-/// One end of a cable, as the line of its port tells it.
+/// One end of a cable, as the line of its port reports it.
 #[derive(Clone, Copy, Debug, PartialEq, Eq)]
 pub struct PortLine {
     /// The port, by the place of its node among the nodes.
@@ -78,7 +78,7 @@ impl PortList {
         }
     }
 
-    /// Adds a line at the end. Memory alone can be refused, and then the list stays as it was.
+    /// Adds a line at the end. It can only run out of memory, and then the list stays as it was.
     pub(crate) fn push(&mut self, line: PortLine) -> Result<(), AllocError>
         requires new { place_of_line line.port self.old ≡ None }
         ensures ok { OnOk result (self.new ≡ self.old ++ line ∷ []) }
@@ -91,7 +91,7 @@ impl PortList {
     }
 }
 
-/// Different GUIDs, in the order in which they were told.
+/// Different GUIDs, in the order in which they were reported.
 #[derive(Drop)]
 pub(crate) struct GuidList {
     guids: IndexSet<u64>,
@@ -115,24 +115,24 @@ impl GuidList {
     }
 
     /// Whether the GUID is one of these, looked up in constant time.
-    fn is_told(&self, guid: u64) -> bool
-        ensures { result ≡ is_told guid self.now }
+    fn is_reported(&self, guid: u64) -> bool
+        ensures { result ≡ is_reported guid self.now }
     {
         self.guids.contains(&guid)
     }
 
     /// Whether it is one of these, where there is one.
-    pub(crate) fn is_told_already(&self, guid: Option<u64>) -> bool
-        ensures { result ≡ is_told_already guid self.now }
+    pub(crate) fn is_reported_already(&self, guid: Option<u64>) -> bool
+        ensures { result ≡ is_reported_already guid self.now }
     {
         match guid {
-            Some(guid) => self.is_told(guid),
+            Some(guid) => self.is_reported(guid),
             None => false,
         }
     }
 
     fn insert(&mut self, guid: u64) -> Result<(), AllocError>
-        requires new { is_told guid self.old ≡ false }
+        requires new { is_reported guid self.old ≡ false }
         ensures ok { OnOk result (self.new ≡ self.old ++ guid ∷ []) }
         ensures err { OnErr result (self.new ≡ self.old) }
     {
@@ -140,9 +140,9 @@ impl GuidList {
         Ok(())
     }
 
-    /// Adds a GUID, where there is one. Memory alone can be refused, and then the list stays as it was.
+    /// Adds a GUID, where there is one. It can only run out of memory, and then the list stays as it was.
     pub(crate) fn push(&mut self, guid: Option<u64>) -> Result<(), AllocError>
-        requires new { is_told_already guid self.old ≡ false }
+        requires new { is_reported_already guid self.old ≡ false }
         ensures ok { OnOk result (self.new ≡ self.old ++ option_to_list guid) }
         ensures err { OnErr result (self.new ≡ self.old) }
     {

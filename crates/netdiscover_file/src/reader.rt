@@ -1,10 +1,9 @@
 //! The reader of a whole text.
 
 ghost use Rattle.std.specs.Prelude.{◌≡◌, IfOk};
-ghost use Rattle.result_words.specs.AtLine.{on_line};
-ghost use Rattle.result_words.specs.Gives.{Gives, LineGives};
-ghost use Rattle.netdiscover_file.specs.Fault.{fault_in};
-ghost use Rattle.netdiscover_file.specs.Discovery.{after_line, after_words, are_nodes, discovery_of, node_told, port_told, told_by, whole, with_comment, with_node, with_port, with_value};
+ghost use Rattle.step_results.specs.Gives.{LineGives};
+ghost use Rattle.step_results.specs.TextGives.{TextGives};
+ghost use Rattle.netdiscover_file.specs.Discovery.{after_line, after_words, are_nodes, discovery_of, node_reported, port_reported, whole, with_comment, with_node, with_port, with_value};
 ghost use Rattle.netdiscover_file.specs.Sound.{IsSound};
 
 use crate::agreement::first_wrong;
@@ -14,9 +13,9 @@ use crate::discovery::Discovery;
 use crate::draft::Draft;
 use crate::fault::{DiscoveryCause, DiscoveryFault};
 use crate::kind::{NodeKind, kind_headed};
-use result_words::LineError;
 use std::alloc::Global;
-use text_words::{Lines, Words, cut_at};
+use step_results::LineError;
+use text_words::{LineReader, Words, read_lines};
 
 impl Draft {
     fn take_node(
@@ -27,9 +26,9 @@ impl Draft {
         words: Words<'_>,
         comment: &[u8],
     ) -> Result<(), LineError<DiscoveryCause>>
-        ensures { LineGives (λ _. self.new) result (with_node self.old (node_told self.old number kind words.entry comment.now)) }
+        ensures { LineGives (λ _. self.new) result (with_node self.old (node_reported self.old number kind words.entry comment.now)) }
     {
-        let node = self.node_told(number, kind, words, comment)?;
+        let node = self.node_reported(number, kind, words, comment)?;
         self.port_guids.push(node.port_guid)?;
         self.nodes.push(alloc, &node)?;
         self.switch_guids = None;
@@ -43,9 +42,9 @@ impl Draft {
         words: Words<'_>,
         comment: &[u8],
     ) -> Result<(), LineError<DiscoveryCause>>
-        ensures { LineGives (λ _. self.new) result (with_port self.old (port_told self.old number first.now words.entry comment.now)) }
+        ensures { LineGives (λ _. self.new) result (with_port self.old (port_reported self.old number first.now words.entry comment.now)) }
     {
-        let line = self.port_told(number, first, words, comment)?;
+        let line = self.port_reported(number, first, words, comment)?;
         self.port_guids.push(line.guid)?;
         self.ports.push(line)?;
         Ok(())
@@ -101,48 +100,10 @@ impl Draft {
         self.take_node(alloc, number, kind, words, comment)
     }
 
-    #[tactic(auto, unfolding(crate::specs::Discovery::after_line))]
-    fn take_line(
-        &mut self,
-        alloc: Global,
-        number: usize,
-        line: &[u8],
-    ) -> Result<(), LineError<DiscoveryCause>>
-        ensures { LineGives (λ _. self.new) result (after_line number self.old line.now) }
-    {
-        if line.starts_with(b"Chassis ") {
-            return Ok(());
-        }
-        if let Some((key, value)) = assignment_in(line) {
-            return self.take_value(key, value);
-        }
-        let words = Words::of(line).ok_or(DiscoveryCause::Malformed)?;
-        self.take_words(alloc, number, words, comment_of(line))
-    }
-
-    /// Takes the line of this number, and tells its fault with the number.
-    fn take_numbered(
-        &mut self,
-        alloc: Global,
-        number: usize,
-        line: &[u8],
-    ) -> Result<(), DiscoveryFault>
-        ensures { Gives fault_in (λ _. self.new) result (on_line number (after_line number self.old line.now)) }
-    {
-        match self.take_line(alloc, number, line) {
-            Ok(()) => Ok(()),
-            Err(LineError::NoMemory) => Err(DiscoveryFault::NoMemory),
-            Err(LineError::Fault(cause)) => Err(DiscoveryFault::At {
-                line: number,
-                cause,
-            }),
-        }
-    }
-
     /// The discovery, if all its cables stand at both ends.
     #[tactic(auto, unfolding(crate::specs::Discovery::whole), using(crate::proofs::AgreementLemmas::all_found, crate::proofs::AgreementLemmas::all_lead_back))]
     fn finish(self) -> Result<Discovery, DiscoveryFault>
-        ensures { Gives fault_in (λ discovery. discovery) result (whole self) }
+        ensures { TextGives (λ discovery. discovery) result (whole self) }
     {
         match first_wrong(&self.nodes, &self.ports) {
             Some(line) => Err(DiscoveryFault::At {
@@ -158,6 +119,29 @@ impl Draft {
     }
 }
 
+impl LineReader for Draft {
+    type Cause = DiscoveryCause;
+
+    ghost after_line = { after_line };
+
+    #[tactic(auto, unfolding(crate::specs::Discovery::after_line))]
+    fn take_line(
+        &mut self,
+        alloc: Global,
+        number: usize,
+        line: &[u8],
+    ) -> Result<(), LineError<DiscoveryCause>> {
+        if line.starts_with(b"Chassis ") {
+            return Ok(());
+        }
+        if let Some((key, value)) = assignment_in(line) {
+            return self.take_value(key, value);
+        }
+        let words = Words::of(line).ok_or(DiscoveryCause::Malformed)?;
+        self.take_words(alloc, number, words, comment_of(line))
+    }
+}
+
 #[tactic(auto, unfolding(crate::specs::Discovery::are_nodes))]
 fn are_nodes(words: Words<'_>) -> bool
     ensures { result ≡ are_nodes words.entry }
@@ -169,30 +153,18 @@ fn are_nodes(words: Words<'_>) -> bool
     word == b"Nodes".as_slice()
 }
 
-fn told_by(alloc: Global, text: &[u8]) -> Result<Draft, DiscoveryFault>
-    ensures { Gives fault_in (λ draft. draft) result (told_by text.now) }
-{
-    let mut draft = Draft::new(alloc);
-    let mut number = 0;
-    for line in Lines::new(text) {
-        number += 1;
-        draft.take_numbered(alloc, number, line)?;
-    }
-    Ok(draft)
-}
-
-/// What a text of `ibnetdiscover` tells, or its first fault with the line.
+/// What a text of `ibnetdiscover` reports, or its first fault with the line.
 ///
 /// Lines are judged in turn, each after those before it; `specs/Discovery.antt` says how. Time is linear
 /// in the length of the text, and only names are copied.
 #[tactic(auto, unfolding(crate::specs::Discovery::discovery_of))]
 pub fn read(alloc: Global, text: &[u8]) -> Result<Discovery, DiscoveryFault>
-    // What the text tells, or its first fault.
-    ensures exact { Gives fault_in (λ discovery. discovery) result (discovery_of text.now) }
+    // What the text reports, or its first fault.
+    ensures exact { TextGives (λ discovery. discovery) result (discovery_of text.now) }
     // No two nodes or ports share a GUID, and each cable has both its ends.
     ensures sound { IfOk result (λ discovery. IsSound discovery) }
 {
-    let draft = told_by(alloc, text)?;
+    let draft = read_lines(alloc, text, Draft::new(alloc))?;
     let discovery = draft.finish()?;
     discovery.known_sound();
     Ok(discovery)

@@ -1,39 +1,12 @@
 //! Numbers, as `ibnetdiscover` prints them.
 
 ghost use Rattle.std.specs.Prelude.{◌≡◌, ◌≤◌, ◌<◌, IfOk};
-ghost use Rattle.text_words.specs.Number.{digits_in, digit_step};
 ghost use Rattle.netdiscover_file.specs.Spelling.{decimal_in, full_guid_in, guid_in, lid_in, lmc_in, number_below, port_count_in, port_number_in};
 
 use crate::fault::DiscoveryCause;
+use text_words::digits_in;
 
-fn digits_in(radix: u32, digits: &[u8]) -> Option<u128>
-    requires low { 2 ≤ radix }
-    requires high { radix ≤ 36 }
-    ensures { result ≡ digits_in radix digits.now }
-{
-    if digits.is_empty() {
-        return None;
-    }
-    let mut value = 0;
-    for byte in digits {
-        value = with_digit(radix, value, *byte)?;
-    }
-    Some(value)
-}
-
-/// The number that one more digit makes, if it is a digit and 128 bits hold the number.
-fn with_digit(radix: u32, value: u128, byte: u8) -> Option<u128>
-    requires low { 2 ≤ radix }
-    requires high { radix ≤ 36 }
-    ensures { result ≡ digit_step radix value byte }
-{
-    let digit = char::from(byte).to_digit(radix)?;
-    value
-        .checked_mul(u128::from(radix))?
-        .checked_add(u128::from(digit))
-}
-
-/// The number below the top that digits of this radix spell.
+/// The number below the top that digits of this radix encode.
 fn number_below(top: u128, radix: u32, digits: &[u8]) -> Result<u128, DiscoveryCause>
     requires low { 2 ≤ radix }
     requires high { radix ≤ 36 }
@@ -61,7 +34,7 @@ pub(crate) fn guid_in(digits: &[u8]) -> Result<u64, DiscoveryCause>
     }
 }
 
-/// A GUID that is spelt with all its digits.
+/// A GUID that is encoded with all its digits.
 pub(crate) fn full_guid_in(digits: &[u8]) -> Result<u64, DiscoveryCause>
     ensures { result ≡ full_guid_in digits.now }
 {

@@ -10,12 +10,12 @@ pub fn far_ends_alone_are_not_enough()
     ensures { FarEndsAloneAreNotEnough }
 {}
 
-/// Where both ends need only name one another's nodes and numbers, they may tell the GUID of another port.
+/// Where both ends need only name one another's nodes and numbers, they may report the GUID of another port.
 pub fn numbers_alone_are_not_enough()
     ensures { NumbersAloneAreNotEnough }
 {}
 
-/// Where a cable must join two nodes, one between two ports of a node is told to be wrong.
+/// Where a cable must join two nodes, one between two ports of a node is reported to be wrong.
 pub fn a_node_may_be_joined_to_itself()
     ensures { ANodeMayBeJoinedToItself }
 {}
@@ -35,12 +35,12 @@ pub fn ports_alone_are_not_enough()
     ensures { PortsAloneAreNotEnough }
 {}
 
-/// Where GUIDs need only be new, those that the line before told may be another switch's.
+/// Where GUIDs need only be new, those that the line before reported may be another switch's.
 pub fn other_switches_are_wanted()
     ensures { OtherSwitchesAreWanted }
 {}
 
-/// Where a GUID of every node is taken, one is told of a node that has its own.
+/// If the GUID of every node counts as taken, a node with a GUID of its own is refused.
 pub fn some_guids_are_free()
     ensures { SomeGuidsAreFree }
 {}

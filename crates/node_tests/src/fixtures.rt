@@ -7,19 +7,18 @@ use pkey_rules::PKey;
 
 /// A request of that method, 1 for a Get and 2 for a Set, with TransactionID, M_Key and paths that a reply has to give back.
 pub fn request(method: u8, attribute: SmpAttribute, modifier: u32, data: [u8; 64]) -> Mad {
-    asked_by(1, 0x81, 1, method, attribute.code(), modifier, data)
+    asked_by((1, 0x81, 1), method, attribute.code(), modifier, data)
 }
 
 /// The same of these versions and of that class.
 pub fn asked_by(
-    base_version: u8,
-    mgmt_class: u8,
-    class_version: u8,
+    class: (u8, u8, u8),
     method: u8,
     attribute_id: u16,
     attribute_modifier: u32,
     data: [u8; 64],
 ) -> Mad {
+    let (base_version, mgmt_class, class_version) = class;
     let header = Header {
         base_version,
         mgmt_class,

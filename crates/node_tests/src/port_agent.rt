@@ -83,7 +83,13 @@ const REFUSED: [(u8, u8, u8, u8, u16, u32, u8, u8); 18] = [
 #[test]
 fn an_adapter_port_refuses_in_order(rt: HostRuntime) {
     for (base, class, version, asked, attribute, modifier, method, status) in REFUSED {
-        let sent = asked_by(base, class, version, asked, attribute, modifier, [0xee; 64]);
+        let sent = asked_by(
+            (base, class, version),
+            asked,
+            attribute,
+            modifier,
+            [0xee; 64],
+        );
         let refused = replied(sent, method, status);
         let answer = if method == 0 { None } else { Some(refused) };
         assert_eq!(rt; answer_of(2, sent), answer);

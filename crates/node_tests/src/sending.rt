@@ -67,10 +67,10 @@ fn refusal_of(port: &AdapterPort, dlid: u16, key: u16, number: u32) -> Option<Op
 
 fn sends(rt: &impl Abort, port: &AdapterPort, is_active: bool) {
     for (dlid, key, number, refusal) in SENDS {
-        let told = refusal_of(port, dlid, key, number);
+        let reported = refusal_of(port, dlid, key, number);
         let not_active = Some(Refusal::PortNotActive);
         let expected = if is_active { refusal } else { not_active };
-        assert_eq!(rt; told, Some(expected));
+        assert_eq!(rt; reported, Some(expected));
     }
 }
 

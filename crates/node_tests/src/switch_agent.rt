@@ -126,7 +126,7 @@ fn port_info_of(state: u8, physical: u8) -> [u8; 64] {
 }
 
 #[test]
-fn ports_of_a_new_switch_are_told_by_the_modifier(rt: HostRuntime) {
+fn ports_of_a_new_switch_are_reported_by_the_modifier(rt: HostRuntime) {
     for (number, state, physical) in STATES {
         let sent = request(1, SmpAttribute::PortInfo, number, [0; 64]);
         let given = with_data(replied(sent, 0x81, 0), port_info_of(state, physical));

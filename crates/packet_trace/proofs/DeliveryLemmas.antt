@@ -12,16 +12,16 @@ use Rattle.fabric_parts.specs.declared.cable.PortRef.{PortRef}
 use Rattle.packet_trace.specs.Trace.{next_after, step, steps_from, turn_after, turn_at, turn_by, turn_in, turn_of_fate, way_of}
 use Rattle.packet_trace.specs.declared.turn.Step.{Step}
 use Rattle.packet_trace.specs.declared.turn.Turn.TheVariants.{Accepts, DropsKey, GoesOut, NoCable}
-use Rattle.packet_ways.proofs.WayLemmas.{adapter_stops, few_hops, from_next, in_none, no_longer, to_next}
-use Rattle.packet_ways.specs.Deliveries.{Goes, IsDelivered, Passes, adapter_at, adapter_ports}
-use Rattle.packet_ways.specs.Unicast.{next_port, node_out_port}
+use Rattle.delivery_laws.proofs.WayLemmas.{adapter_stops, few_hops, from_next, in_none, no_longer, to_next}
+use Rattle.delivery_laws.specs.Deliveries.{Goes, IsDelivered, Passes, adapter_at, adapter_ports}
+use Rattle.delivery_laws.specs.Unicast.{next_port, node_out_port}
 use Rattle.port_model.specs.AdapterState.{AdapterState}
 use Rattle.port_model.specs.Packets.{accepts_packet}
 use Rattle.smp_wire.proofs.CableLemmas.{same_port}
 use Rattle.smp_wire.specs.FabricState.{FabricState, adapter_port}
 use Rattle.smp_wire.specs.declared.node.Node.{Node}
 use Rattle.smp_wire.specs.declared.node.Node.TheVariants.{Switch, Adapter}
-use Rattle.switch_model.proofs.FateLemmas.{fates_tell_ways_out}
+use Rattle.switch_model.proofs.FateLemmas.{fates_report_ways_out}
 use Rattle.switch_model.specs.Fate.{fate, way_out}
 use Rattle.switch_model.specs.declared.fate.Fate.{Fate}
 use Rattle.switch_model.specs.declared.fate.Fate.TheVariants.{KeptOut, OverTop, NoPort, Taken, KeptIn, Leaves}
@@ -56,7 +56,7 @@ by_node : (cables : List Cable) (packet : Packet) (here : PortRef) (node : Optio
 by_node cables packet here None = refl
 by_node cables packet here (Some (Switch held)) =
     by_fate cables here (fate held here.port packet)
-    ∙ ap (option_and_then (λ out. far_end cables (record { node = here.node; port = out }))) (sym (fates_tell_ways_out held here.port packet))
+    ∙ ap (option_and_then (λ out. far_end cables (record { node = here.node; port = out }))) (sym (fates_report_ways_out held here.port packet))
 by_node cables packet here (Some (Adapter ports)) = no_turn cables packet here (adapter_port ports here.port)
 
 -- what a step says leads where the packet goes
@@ -130,17 +130,17 @@ module _ (fabric : FabricState) (packet : Packet) (unicast : is_multicast packet
   abbrev GoesBy : PortRef → List PortRef → Type 0
   GoesBy here way = Goes fabric.nodes fabric.cables packet here way at
 
-  record IsTold (here : PortRef) : Type 0 where
+  record IsReported (here : PortRef) : Type 0 where
     way : List PortRef
     goes : GoesBy here way
     accepts : turn_at fabric packet at ≡ Accepts
 
-  told_here : (before : List Step) (here : PortRef) (again : Bool) → list_any (λ one. is_same_port one.at here) before ≡ again
-      → step at Accepts ≡ step here (turn_after fabric packet before here) → IsTold here
-  told_here before here true was is =
+  reported_here : (before : List Step) (here : PortRef) (again : Bool) → list_any (λ one. is_same_port one.at here) before ≡ again
+      → step at Accepts ≡ step here (turn_after fabric packet before here) → IsReported here
+  reported_here before here true was is =
       let turn : Accepts ≡ turn_after fabric packet before here = ap (λ (one : Step). one.turn) is in
       let other = rw was at turn in cc
-  told_here before here false was is =
+  reported_here before here false was is =
       let turn : Accepts ≡ turn_after fabric packet before here = ap (λ (one : Step). one.turn) is in
       let there : at ≡ here = ap (λ (one : Step). one.at) is in
       let same = rw was at turn in
@@ -156,32 +156,32 @@ module _ (fabric : FabricState) (packet : Packet) (unicast : is_multicast packet
   abbrev now_at : List Step → PortRef → Step
   now_at before here = step here (turn_after fabric packet before here)
 
-  told_later : (before : List Step) (here : PortRef) (rest : List Step → PortRef → List Step) (next : Option PortRef)
+  reported_later : (before : List Step) (here : PortRef) (rest : List Step → PortRef → List Step) (next : Option PortRef)
       → next_after fabric.cables here (now_at before here).turn ≡ next
-      → ((there : PortRef) → Contains (rest (before ++ now_at before here ∷ []) there) (step at Accepts) → IsTold there)
-      → Contains (option_map_or (rest (before ++ now_at before here ∷ [])) next []) (step at Accepts) → IsTold here
-  told_later before here rest None leads on there = absurd (nothing_in (step at Accepts) there)
-  told_later before here rest (Some next) leads on there =
-      let told = on next there in
+      → ((there : PortRef) → Contains (rest (before ++ now_at before here ∷ []) there) (step at Accepts) → IsReported there)
+      → Contains (option_map_or (rest (before ++ now_at before here ∷ [])) next []) (step at Accepts) → IsReported here
+  reported_later before here rest None leads on there = absurd (nothing_in (step at Accepts) there)
+  reported_later before here rest (Some next) leads on there =
+      let reported = on next there in
       record {
-        way = next ∷ told.way;
-        goes = (leads_on before here next (list_any (λ one. is_same_port one.at here) before) refl leads, told.goes);
-        accepts = told.accepts;
+        way = next ∷ reported.way;
+        goes = (leads_on before here next (list_any (λ one. is_same_port one.at here) before) refl leads, reported.goes);
+        accepts = reported.accepts;
       }
 
-  told_by : (before : List Step) (here : PortRef) (others : List Step) → (Contains others (step at Accepts) → IsTold here)
-      → Contains (now_at before here ∷ []) (step at Accepts) ⊎ Contains others (step at Accepts) → IsTold here
-  told_by before here others on (inl now) =
-      told_here before here (list_any (λ one. is_same_port one.at here) before) refl (in_one (now_at before here) (step at Accepts) now)
-  told_by before here others on (inr after) = on after
+  reported_by : (before : List Step) (here : PortRef) (others : List Step) → (Contains others (step at Accepts) → IsReported here)
+      → Contains (now_at before here ∷ []) (step at Accepts) ⊎ Contains others (step at Accepts) → IsReported here
+  reported_by before here others on (inl now) =
+      reported_here before here (list_any (λ one. is_same_port one.at here) before) refl (in_one (now_at before here) (step at Accepts) now)
+  reported_by before here others on (inr after) = on after
 
-  told_from : (more : ℕ) (before : List Step) (here : PortRef) → Contains (steps_from fabric packet more before here) (step at Accepts) → IsTold here
-  told_from zero before here there = absurd (nothing_in (step at Accepts) there)
-  told_from (suc more) before here there =
+  reported_from : (more : ℕ) (before : List Step) (here : PortRef) → Contains (steps_from fabric packet more before here) (step at Accepts) → IsReported here
+  reported_from zero before here there = absurd (nothing_in (step at Accepts) there)
+  reported_from (suc more) before here there =
       let others = option_map_or (steps_from fabric packet more (before ++ now_at before here ∷ [])) (next_after fabric.cables here (now_at before here).turn) [] in
-      told_by before here others
-      (told_later before here (steps_from fabric packet more) (next_after fabric.cables here (now_at before here).turn) refl
-      (λ next. told_from more (before ++ now_at before here ∷ []) next))
+      reported_by before here others
+      (reported_later before here (steps_from fabric packet more) (next_after fabric.cables here (now_at before here).turn) refl
+      (λ next. reported_from more (before ++ now_at before here ∷ []) next))
       (Contains-append_cases (now_at before here ∷ []) others (step at Accepts) there)
 
   -- ---- from a way to a trace
@@ -216,39 +216,39 @@ module _ (fabric : FabricState) (packet : Packet) (unicast : is_multicast packet
       let more = far.0.2 in
       ((far.0.0, far.0.1, omega (arith, more)), far_more before next later now goes far.1)
 
-  told_on : (more : ℕ) (before : List Step) (here : PortRef) (way : List PortRef) → GoesBy here way → Stops → Far way before → length way < more
+  reported_on : (more : ℕ) (before : List Step) (here : PortRef) (way : List PortRef) → GoesBy here way → Stops → Far way before → length way < more
       → turn_at fabric packet at ≡ Accepts → Contains (steps_from fabric packet more before here) (step at Accepts)
-  told_on zero before here way goes stops far low accepts = absurd (omega (arith, low))
-  told_on (suc more) before here [] goes stops far low accepts =
+  reported_on zero before here way goes stops far low accepts = absurd (omega (arith, low))
+  reported_on (suc more) before here [] goes stops far low accepts =
       let fresh = not_before before [] here goes stops far in
       let now : step here (turn_after fabric packet before here) ≡ step at Accepts = rw fresh (ap (λ (p : PortRef). step p (turn_at fabric packet p)) goes ∙ ap (step at) accepts) in
       subst (λ (one : Step). Contains (steps_from fabric packet (suc more) before here) one) now
       (at_first (step here (turn_after fabric packet before here)) _)
-  told_on (suc more) before here (next ∷ later) goes stops far low accepts =
+  reported_on (suc more) before here (next ∷ later) goes stops far low accepts =
       let now = step here (turn_after fabric packet before here) in
       let fresh = not_before before (next ∷ later) here goes stops far in
       let leads : next_after fabric.cables here (turn_after fabric packet before here) ≡ Some next =
       rw fresh (turns_lead fabric packet here ∙ to_next fabric.nodes fabric.cables packet here next unicast goes.0) in
-      let rest = told_on more (before ++ now ∷ []) next later goes.1 stops (far_more before next later now goes far) (omega (arith, low)) accepts in
+      let rest = reported_on more (before ++ now ∷ []) next later goes.1 stops (far_more before next later now goes far) (omega (arith, low)) accepts in
       subst (λ (there : Option PortRef). Contains (now ∷ option_map_or (steps_from fabric packet more (before ++ now ∷ [])) there []) (step at Accepts)) (sym leads)
       (Contains-append_right (now ∷ []) (steps_from fabric packet more (before ++ now ∷ []) next) (step at Accepts) rest)
 
 -- ---- the laws
 module _ (fabric : FabricState) (packet : Packet) (unicast : is_multicast packet.dlid ≡ false) (first at : PortRef) where
-  pub told_of : (from : PortRef) (port : AdapterState) → far_end fabric.cables from ≡ Some first → adapter_at fabric.nodes at ≡ Some port
+  pub reported_of : (from : PortRef) (port : AdapterState) → far_end fabric.cables from ≡ Some first → adapter_at fabric.nodes at ≡ Some port
       → IsDelivered fabric.nodes fabric.cables from packet at port → Contains (way_of fabric packet first) (step at Accepts)
-  told_of from port cable there is =
+  reported_of from port cable there is =
       let stops = adapter_stops fabric.nodes fabric.cables packet at port there in
       let first_is = same_Some is.first first (sym is.cable ∙ cable) in
       let goes = subst (λ (p : PortRef). Goes fabric.nodes fabric.cables packet p is.way at) first_is is.goes in
       let few = few_hops fabric.nodes fabric.cables packet unicast is.way first at goes stops in
-      told_on fabric packet unicast at (2 * length fabric.cables + 1) [] first is.way goes stops tt (omega (arith, few))
+      reported_on fabric packet unicast at (2 * length fabric.cables + 1) [] first is.way goes stops tt (omega (arith, few))
       (turn_there fabric packet at port there ∙ rw is.accepts refl)
 
   pub delivered_of : (from : PortRef) (port : AdapterState) → far_end fabric.cables from ≡ Some first → adapter_at fabric.nodes at ≡ Some port
       → Contains (way_of fabric packet first) (step at Accepts) → IsDelivered fabric.nodes fabric.cables from packet at port
-  delivered_of from port cable there told =
-      let is = told_from fabric packet unicast at (2 * length fabric.cables + 1) [] first told in
+  delivered_of from port cable there reported =
+      let is = reported_from fabric packet unicast at (2 * length fabric.cables + 1) [] first reported in
       record {
         first = first;
         cable = cable;
@@ -259,4 +259,4 @@ module _ (fabric : FabricState) (packet : Packet) (unicast : is_multicast packet
       }
 
   pub adapter_of : Contains (way_of fabric packet first) (step at Accepts) → (port : AdapterState) × (adapter_at fabric.nodes at ≡ Some port)
-  adapter_of told = adapter_there fabric packet at (told_from fabric packet unicast at (2 * length fabric.cables + 1) [] first told).accepts
+  adapter_of reported = adapter_there fabric packet at (reported_from fabric packet unicast at (2 * length fabric.cables + 1) [] first reported).accepts

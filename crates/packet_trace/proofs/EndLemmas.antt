@@ -4,7 +4,7 @@ use Rattle.std.specs.List.{list_any}
 use Rattle.std.specs.Option.{option_map_or}
 use Rattle.std.proofs.lemmas.Bool.{and_from, not_from_false}
 use Rattle.std.proofs.lemmas.Map.Made.{length-le_from_is_member}
-use Rattle.result_words.proofs.TestLemmas.{or_turned}
+use Rattle.step_results.proofs.TestLemmas.{or_turned}
 use Rattle.data_packet.specs.declared.packet.Packet.{Packet}
 use Rattle.fabric_parts.specs.Cable.{far_end, is_same_port}
 use Rattle.fabric_parts.specs.declared.cable.Cable.{Cable}
@@ -17,7 +17,7 @@ use Rattle.packet_trace.specs.declared.turn.Turn.TheVariants.{Again, DropsInboun
 use Rattle.port_model.specs.AdapterState.{AdapterState}
 use Rattle.port_model.specs.Packets.{accepts_packet}
 use Rattle.smp_wire.proofs.CableLemmas.{count_ends, far_is_end, ports_equiv, ports_turn}
-use Rattle.result_words.proofs.DistinctLemmas.{all_differ, distinct}
+use Rattle.step_results.proofs.DistinctLemmas.{all_differ, distinct}
 use Rattle.smp_wire.specs.FabricState.{FabricState, adapter_port}
 use Rattle.smp_wire.specs.Good.{ends_of}
 use Rattle.smp_wire.specs.declared.node.Node.{Node}
@@ -30,24 +30,24 @@ use Rattle.switch_model.specs.declared.fate.Fate.TheVariants.{KeptOut, OverTop, 
 out_by_cable : (cables : List Cable) (here : PortRef) (port out : ℕ) (far : Option PortRef)
     → far_end cables (record { node = here.node; port = port }) ≡ far
     → leaves_by cables here port ≡ GoesOut out → next_after cables here (leaves_by cables here port) ≡ None → ⊥
-out_by_cable cables here port out None is told stops = let no = rw is at told in cc
-out_by_cable cables here port out (Some there) is told stops =
+out_by_cable cables here port out None is reported stops = let no = rw is at reported in cc
+out_by_cable cables here port out (Some there) is reported stops =
     let none : far_end cables (record { node = here.node; port = port }) ≡ None = rw is at stops in
     let both = sym is ∙ none in cc
 
 out_by_fate : (cables : List Cable) (here : PortRef) (out : ℕ) (met : Fate)
     → turn_of_fate cables here met ≡ GoesOut out → next_after cables here (turn_of_fate cables here met) ≡ None → ⊥
-out_by_fate cables here out KeptOut told stops = cc
-out_by_fate cables here out OverTop told stops = cc
-out_by_fate cables here out (NoPort entry) told stops = cc
-out_by_fate cables here out Taken told stops = cc
-out_by_fate cables here out (KeptIn port) told stops = cc
-out_by_fate cables here out (Leaves port) told stops =
-    out_by_cable cables here port out (far_end cables (record { node = here.node; port = port })) refl told stops
+out_by_fate cables here out KeptOut reported stops = cc
+out_by_fate cables here out OverTop reported stops = cc
+out_by_fate cables here out (NoPort entry) reported stops = cc
+out_by_fate cables here out Taken reported stops = cc
+out_by_fate cables here out (KeptIn port) reported stops = cc
+out_by_fate cables here out (Leaves port) reported stops =
+    out_by_cable cables here port out (far_end cables (record { node = here.node; port = port })) refl reported stops
 
 none_out : (packet : Packet) (out : ℕ) (port : Option AdapterState) → option_map_or (turn_by packet) port DropsKey ≡ GoesOut out → ⊥
-none_out packet out None told = cc
-none_out packet out (Some port) told = by (accepts_packet port packet) told
+none_out packet out None reported = cc
+none_out packet out (Some port) reported = by (accepts_packet port packet) reported
   where
     by : (b : Bool) → (if b then Accepts else DropsKey) ≡ GoesOut out → ⊥
     by true is = cc
@@ -56,20 +56,20 @@ none_out packet out (Some port) told = by (accepts_packet port packet) told
 out_by_node : (cables : List Cable) (packet : Packet) (here : PortRef) (out : ℕ) (node : Option Node)
     → option_map_or (turn_in cables packet here) node DropsKey ≡ GoesOut out
     → next_after cables here (option_map_or (turn_in cables packet here) node DropsKey) ≡ None → ⊥
-out_by_node cables packet here out None told stops = cc
-out_by_node cables packet here out (Some (Switch held)) told stops = out_by_fate cables here out (fate held here.port packet) told stops
-out_by_node cables packet here out (Some (Adapter ports)) told stops = none_out packet out (adapter_port ports here.port) told
+out_by_node cables packet here out None reported stops = cc
+out_by_node cables packet here out (Some (Switch held)) reported stops = out_by_fate cables here out (fate held here.port packet) reported stops
+out_by_node cables packet here out (Some (Adapter ports)) reported stops = none_out packet out (adapter_port ports here.port) reported
 
 out_at : (fabric : FabricState) (packet : Packet) (here : PortRef) (out : ℕ)
     → turn_at fabric packet here ≡ GoesOut out → next_after fabric.cables here (turn_at fabric packet here) ≡ None → ⊥
 unfolding turn_at
-out_at fabric packet here out told stops = out_by_node fabric.cables packet here out (slice_get fabric.nodes here.node) told stops
+out_at fabric packet here out reported stops = out_by_node fabric.cables packet here out (slice_get fabric.nodes here.node) reported stops
 
 out_after : (fabric : FabricState) (packet : Packet) (before : List Step) (here : PortRef) (out : ℕ) (again : Bool)
     → list_any (λ one. is_same_port one.at here) before ≡ again
     → turn_after fabric packet before here ≡ GoesOut out → next_after fabric.cables here (turn_after fabric packet before here) ≡ None → ⊥
-out_after fabric packet before here out true was told stops = let no = rw was at told in cc
-out_after fabric packet before here out false was told stops = out_at fabric packet here out (rw was at told) (rw was at stops)
+out_after fabric packet before here out true was reported stops = let no = rw was at reported in cc
+out_after fabric packet before here out false was reported stops = out_at fabric packet here out (rw was at reported) (rw was at stops)
 
 -- ---- among some ports
 module _ (ports : List PortRef) where
@@ -157,7 +157,7 @@ module _ (fabric : FabricState) (packet : Packet) where
     before = [];
     last = now_at before here;
     whole = refl;
-    stays = λ out told. out_after fabric packet before here out (list_any (λ one. is_same_port one.at here) before) refl told stops;
+    stays = λ out reported. out_after fabric packet before here out (list_any (λ one. is_same_port one.at here) before) refl reported stops;
   }
   by_next before here rest (Some there) leads on = behind (now_at before here) (rest there) (on there leads)
 

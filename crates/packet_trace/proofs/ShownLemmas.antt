@@ -16,10 +16,10 @@ use Rattle.packet_trace.proofs.EndLemmas.{AreAmong, AreAt, IsAmong, at_more, com
 use Rattle.packet_trace.specs.Trace.{next_after, step, steps_from, turn_after, way_of}
 use Rattle.packet_trace.specs.declared.turn.Step.{Step}
 use Rattle.packet_trace.specs.declared.turn.Turn.{Turn}
-use Rattle.packet_ways.proofs.WayLemmas.{to_next}
-use Rattle.packet_ways.specs.Deliveries.{Goes}
-use Rattle.packet_ways.specs.Unicast.{next_port}
-use Rattle.result_words.proofs.DistinctLemmas.{all_differ}
+use Rattle.delivery_laws.proofs.WayLemmas.{to_next}
+use Rattle.delivery_laws.specs.Deliveries.{Goes}
+use Rattle.delivery_laws.specs.Unicast.{next_port}
+use Rattle.step_results.proofs.DistinctLemmas.{all_differ}
 use Rattle.smp_wire.proofs.CableLemmas.{count_ends, itself, same_port}
 use Rattle.smp_wire.specs.FabricState.{FabricState}
 use Rattle.smp_wire.specs.Good.{ends_of}
@@ -190,7 +190,7 @@ module _ (fabric : FabricState) (packet : Packet) (unicast : is_multicast packet
   pub way_shows : (first at : PortRef) → ((turn : Turn) × Contains (way_of fabric packet first) (step at turn))
       ↔ ((way : List PortRef) × Goes fabric.nodes fabric.cables packet first way at)
   way_shows first at = (
-    (λ told. comes at (2 * length fabric.cables + 1) [] first told.0 told.1),
+    (λ reported. comes at (2 * length fabric.cables + 1) [] first reported.0 reported.1),
     (λ goes. listed (way_of fabric packet first) at
         (along (way_of fabric packet first) (way_closed first) goes.0 first at (begins (2 * length fabric.cables + 1) [] first (omega arith)) goes.1)),
   )

@@ -22,8 +22,8 @@ use Rattle.packet_trace.specs.Trace.{next_after, step, turn_by}
 use Rattle.packet_trace.specs.declared.turn.Step.{Step}
 use Rattle.packet_trace.specs.declared.turn.Turn.{Turn}
 use Rattle.packet_trace.specs.declared.turn.Turn.TheVariants.{DropsInbound, DropsMask, Takes, DropsOutbound, NoCable, Meets, GoesOut, Accepts, DropsKey}
-use Rattle.packet_ways.proofs.WayLemmas.{in_none}
-use Rattle.packet_ways.specs.Deliveries.{adapter_at, sends_at}
+use Rattle.delivery_laws.proofs.WayLemmas.{in_none}
+use Rattle.delivery_laws.specs.Deliveries.{adapter_at, sends_at}
 use Rattle.port_model.specs.AdapterState.{AdapterState}
 use Rattle.port_model.specs.Packets.{accepts_packet}
 use Rattle.smp_wire.proofs.CableLemmas.{ports_equiv}
@@ -258,13 +258,13 @@ pub record IsStepped (nodes : List Node) (cables : List Cable) (packet : Packet)
   pub all : (one : Step) → Contains more one → one.at ≡ here
   pub some : (turn : Turn) × Contains more (step here turn)
   pub taken : (one : Step) → Contains more one → one.turn ≡ Accepts → IsTaken nodes packet here
-  pub told : (port : AdapterState) → adapter_at nodes here ≡ Some port → accepts_packet port packet ≡ true → Contains more (step here Accepts)
+  pub reported : (port : AdapterState) → adapter_at nodes here ≡ Some port → accepts_packet port packet ≡ true → Contains more (step here Accepts)
 
 module _ (nodes : List Node) (cables : List Cable) (packet : Packet) (here : PortRef) where
   it_ends : (turn : Turn) (old : SpreadState) → ((out : ℕ) → sends_at nodes here packet out ≡ false) → (turn ≡ Accepts → IsTaken nodes packet here)
       → ((port : AdapterState) → adapter_at nodes here ≡ Some port → accepts_packet port packet ≡ true → turn ≡ Accepts)
       → IsStepped nodes cables packet here old (ends_by turn here old)
-  it_ends turn old quiet taken told = record {
+  it_ends turn old quiet taken reported = record {
     more = step here turn ∷ [];
     kept = refl;
     grown = is_grown nodes cables packet here 0 old.known old.known (λ out sends. absurd (true-false _ sends (quiet out)))
@@ -272,8 +272,8 @@ module _ (nodes : List Node) (cables : List Cable) (packet : Packet) (here : Por
     all = λ one among. ap (λ (s : Step). s.at) (in_one (step here turn) one among);
     some = (turn, at_first (step here turn) []);
     taken = λ one among accepts. taken (ap (λ (s : Step). s.turn) (sym (in_one (step here turn) one among)) ∙ accepts);
-    told = λ port there accepts.
-        subst (λ (t : Turn). Contains (step here turn ∷ []) (step here t)) (told port there accepts) (at_first (step here turn) []);
+    reported = λ port there accepts.
+        subst (λ (t : Turn). Contains (step here turn ∷ []) (step here t)) (reported port there accepts) (at_first (step here turn) []);
   }
 
   -- no port of a switch takes it
@@ -302,7 +302,7 @@ module _ (nodes : List Node) (cables : List Cable) (packet : Packet) (here : Por
             all = below.all;
             some = below.some has;
             taken = λ one among accepts. absurd (below.refused one among accepts);
-            told = λ port there accepts. absurd (no_adapter held switch port there);
+            reported = λ port there accepts. absurd (no_adapter held switch port there);
           }
       by true false inbound none =
           it_ends DropsMask old (masks_none cables held packet here nodes multicast switch inbound none) (λ no. absurd (cc))
@@ -347,7 +347,7 @@ module _ (fabric : FabricState) (packet : Packet) (first : PortRef) (multicast :
     pub each : (at : PortRef) → has_port (take done spread.known) at → (turn : Turn) × Contains spread.steps (step at turn)
     pub sound : (one : Step) → Contains spread.steps one → has_port spread.known one.at
     pub taken : (one : Step) → Contains spread.steps one → one.turn ≡ Accepts → IsTaken fabric.nodes packet one.at
-    pub told : (at : PortRef) (port : AdapterState) → has_port (take done spread.known) at → adapter_at fabric.nodes at ≡ Some port
+    pub reported : (at : PortRef) (port : AdapterState) → has_port (take done spread.known) at → adapter_at fabric.nodes at ≡ Some port
         → accepts_packet port packet ≡ true → Contains spread.steps (step at Accepts)
 
   abbrev begun : SpreadState
@@ -364,7 +364,7 @@ module _ (fabric : FabricState) (packet : Packet) (first : PortRef) (multicast :
     each = λ at none. absurd (cc);
     sound = λ one none. absurd (nothing_in one none);
     taken = λ one none accepts. absurd (nothing_in one none);
-    told = λ at port none there accepts. absurd (cc);
+    reported = λ at port none there accepts. absurd (cc);
   }
 
   one_more : (done : ℕ) (here : PortRef) (old new : SpreadState) → slice_get old.known done ≡ Some here → IsTraced done old
@@ -372,14 +372,14 @@ module _ (fabric : FabricState) (packet : Packet) (first : PortRef) (multicast :
   one_more done here old new is so_far stepped = record {
     searched = search.goes_on fabric.nodes fabric.cables packet first done here old.known new.known so_far.searched is stepped.grown;
     each = λ at among. each at (search.done_or_here old.known stepped.grown.more new.known done here at stepped.grown.kept is among);
-    sound = λ one among. sound one (Contains-append_cases old.steps stepped.more one (told_there one among));
-    taken = λ one among accepts. taken one (Contains-append_cases old.steps stepped.more one (told_there one among)) accepts;
-    told = λ at port among there accepts.
-        told at port (search.done_or_here old.known stepped.grown.more new.known done here at stepped.grown.kept is among) there accepts;
+    sound = λ one among. sound one (Contains-append_cases old.steps stepped.more one (reported_there one among));
+    taken = λ one among accepts. taken one (Contains-append_cases old.steps stepped.more one (reported_there one among)) accepts;
+    reported = λ at port among there accepts.
+        reported at port (search.done_or_here old.known stepped.grown.more new.known done here at stepped.grown.kept is among) there accepts;
   }
     where
-      told_there : (one : Step) → Contains new.steps one → Contains (old.steps ++ stepped.more) one
-      told_there one among = subst (λ (steps : List Step). Contains steps one) stepped.kept among
+      reported_there : (one : Step) → Contains new.steps one → Contains (old.steps ++ stepped.more) one
+      reported_there one among = subst (λ (steps : List Step). Contains steps one) stepped.kept among
 
       earlier : (one : Step) → Contains old.steps one → Contains new.steps one
       earlier one among = subst (λ (steps : List Step). Contains steps one) (sym stepped.kept) (Contains-append_left old.steps stepped.more one among)
@@ -404,12 +404,12 @@ module _ (fabric : FabricState) (packet : Packet) (first : PortRef) (multicast :
       taken one (inl before) accepts = so_far.taken one before accepts
       taken one (inr last) accepts = subst (λ (p : PortRef). IsTaken fabric.nodes packet p) (sym (stepped.all one last)) (stepped.taken one last accepts)
 
-      told : (at : PortRef) (port : AdapterState) → has_port (take done old.known) at ⊎ (at ≡ here) → adapter_at fabric.nodes at ≡ Some port
+      reported : (at : PortRef) (port : AdapterState) → has_port (take done old.known) at ⊎ (at ≡ here) → adapter_at fabric.nodes at ≡ Some port
           → accepts_packet port packet ≡ true → Contains new.steps (step at Accepts)
-      told at port (inl before) there accepts = earlier (step at Accepts) (so_far.told at port before there accepts)
-      told at port (inr same) there accepts =
+      reported at port (inl before) there accepts = earlier (step at Accepts) (so_far.reported at port before there accepts)
+      reported at port (inr same) there accepts =
           subst (λ (p : PortRef). Contains new.steps (step p Accepts)) (sym same)
-          (now (step here Accepts) (stepped.told port (ap (adapter_at fabric.nodes) (sym same) ∙ there) accepts))
+          (now (step here Accepts) (stepped.reported port (ap (adapter_at fabric.nodes) (sym same) ∙ there) accepts))
 
   -- the search has come to its end
   pub record IsAll (spread : SpreadState) : Type 0 where
@@ -436,28 +436,28 @@ module _ (fabric : FabricState) (packet : Packet) (first : PortRef) (multicast :
       (is_stepped fabric packet here spread multicast traced.searched.differ))
       (omega (arith, count)))
 
-  pub record TellsAll (spread : SpreadState) : Type 0 where
+  pub record ReportsAll (spread : SpreadState) : Type 0 where
     pub reached : AreReached fabric.nodes fabric.cables packet first spread.known
     pub each : (at : PortRef) → has_port spread.known at → (turn : Turn) × Contains spread.steps (step at turn)
     pub sound : (one : Step) → Contains spread.steps one → has_port spread.known one.at
     pub taken : (one : Step) → Contains spread.steps one → one.turn ≡ Accepts → IsTaken fabric.nodes packet one.at
-    pub told : (at : PortRef) (port : AdapterState) → has_port spread.known at → adapter_at fabric.nodes at ≡ Some port
+    pub reported : (at : PortRef) (port : AdapterState) → has_port spread.known at → adapter_at fabric.nodes at ≡ Some port
         → accepts_packet port packet ≡ true → Contains spread.steps (step at Accepts)
 
-  tells_all : (spread : SpreadState) → IsAll spread → TellsAll spread
-  tells_all spread all =
+  reports_all : (spread : SpreadState) → IsAll spread → ReportsAll spread
+  reports_all spread all =
       let whole : spread.known ≡ take all.done spread.known = sym (search.take_all all.done spread.known all.past) in
       record {
         reached = search.are_reached fabric.nodes fabric.cables packet first all.done spread.known all.traced.searched all.past;
         each = λ at among. all.traced.each at (subst (λ (ports : List PortRef). has_port ports at) whole among);
         sound = all.traced.sound;
         taken = all.traced.taken;
-        told = λ at port among there accepts.
-            all.traced.told at port (subst (λ (ports : List PortRef). has_port ports at) whole among) there accepts;
+        reported = λ at port among there accepts.
+            all.traced.reported at port (subst (λ (ports : List PortRef). has_port ports at) whole among) there accepts;
       }
 
-  pub spread_tells_all : TellsAll (spread_of fabric packet first)
-  spread_tells_all = tells_all (spread_of fabric packet first) (all_from (2 * length fabric.cables + 1) 0 begun is_begun (omega arith))
+  pub spread_reports_all : ReportsAll (spread_of fabric packet first)
+  spread_reports_all = reports_all (spread_of fabric packet first) (all_from (2 * length fabric.cables + 1) 0 begun is_begun (omega arith))
 
 -- ---- in a loop
 module _ (fabric : FabricState) (packet : Packet) (whole spread : SpreadState) (place : ℕ) where

@@ -18,19 +18,19 @@ module _ (fabric : FabricState) (packet : Packet) (whole done : List Step) (here
         → whole ≡ (done ++ step here turn ∷ []) ++ steps_from fabric packet more (done ++ step here turn ∷ []) next
     goes_on next leads =
         let now = subst so_far count is in
-        let told : whole ≡ done ++ (step here turn ∷ option_map_or (steps_from fabric packet more (done ++ step here turn ∷ [])) (next_after fabric.cables here turn) []) =
+        let reported : whole ≡ done ++ (step here turn ∷ option_map_or (steps_from fabric packet more (done ++ step here turn ∷ [])) (next_after fabric.cables here turn) []) =
         rw (sym found) at now in
-        let on : whole ≡ done ++ (step here turn ∷ steps_from fabric packet more (done ++ step here turn ∷ []) next) = rw leads at told in
+        let on : whole ≡ done ++ (step here turn ∷ steps_from fabric packet more (done ++ step here turn ∷ []) next) = rw leads at reported in
         on ∙ sym (append_assoc done (step here turn ∷ []) (steps_from fabric packet more (done ++ step here turn ∷ []) next))
 
     -- and with the last one
     pub ends : next_after fabric.cables here turn ≡ None → whole ≡ done ++ step here turn ∷ []
     ends stops =
         let now = subst so_far count is in
-        let told : whole ≡ done ++ (step here turn ∷ option_map_or (steps_from fabric packet more (done ++ step here turn ∷ [])) (next_after fabric.cables here turn) []) =
+        let reported : whole ≡ done ++ (step here turn ∷ option_map_or (steps_from fabric packet more (done ++ step here turn ∷ [])) (next_after fabric.cables here turn) []) =
         rw (sym found) at now in
-        rw stops at told
+        rw stops at reported
 
   -- no more are looked for
-  pub all_told : (left : ℕ) → left ≡ 0 → so_far left → done ≡ whole
-  all_told left none is = sym (subst so_far none is ∙ append-nil done)
+  pub all_reported : (left : ℕ) → left ≡ 0 → so_far left → done ≡ whole
+  all_reported left none is = sym (subst so_far none is ∙ append-nil done)

@@ -1,4 +1,4 @@
--- What a wrong rule tells of a packet from one port to another in the fabric of two switches.
+-- What a wrong rule reports of a packet from one port to another in the fabric of two switches.
 use Rattle.std.proofs.Common.{◌≡◌, ◌==◌, ap, refl, [], ◌∷◌}
 use Rattle.std.specs.List.{Contains}
 use Rattle.std.proofs.lemmas.Bool.{false≢true}
@@ -10,7 +10,7 @@ use Rattle.packet_trace.specs.WrongRules.{EndsAreNotAll, ends_alone}
 use Rattle.packet_trace.specs.declared.turn.Step.{Step}
 use Rattle.packet_trace.specs.declared.turn.Turn.{Turn}
 use Rattle.packet_trace.specs.declared.turn.Turn.TheVariants.{Accepts}
-use Rattle.packet_ways.specs.Examples.{two_switches}
+use Rattle.delivery_laws.specs.Examples.{two_switches}
 use Rattle.switch_model.specs.Fate.{fate}
 
 -- from h0 on switch A, at place 0, to h2, at place 4, on switch B
@@ -28,5 +28,5 @@ left_out turn there =
 
 pub ends_are_not_all : EndsAreNotAll
 ends_are_not_all law =
-    let told = (law two_switches a_packet (port 0 1) (port 0 1)).1 ([], refl) in
-    left_out told.0 (rw last_step at told.1)
+    let reported = (law two_switches a_packet (port 0 1) (port 0 1)).1 ([], refl) in
+    left_out reported.0 (rw last_step at reported.1)

@@ -10,14 +10,14 @@ use Rattle.packet_trace.specs.Trace.{step}
 use Rattle.packet_trace.specs.declared.turn.Step.{Step}
 use Rattle.packet_trace.specs.declared.turn.Turn.{Turn}
 use Rattle.packet_trace.specs.declared.turn.Turn.TheVariants.{Accepts, GoesOut}
-use Rattle.packet_ways.specs.Deliveries.{Goes, IsDelivered, adapter_at}
+use Rattle.delivery_laws.specs.Deliveries.{Goes, IsDelivered, adapter_at}
 use Rattle.port_model.specs.AdapterState.{AdapterState}
 use Rattle.smp_wire.specs.FabricState.{FabricState}
 
 -- a packet that leaves by the port `from`, whose cable leads to `first`, is delivered at a port exactly where that accepts it
 -- in the trace
-abbrev pub TracesTellDeliveries : Type 0
-TracesTellDeliveries =
+abbrev pub TracesReportDeliveries : Type 0
+TracesReportDeliveries =
     (fabric : FabricState) (packet : Packet) (from first at : PortRef) (port : AdapterState)
     → far_end fabric.cables from ≡ Some first → adapter_at fabric.nodes at ≡ Some port
     → IsDelivered fabric.nodes fabric.cables from packet at port ↔ Contains (steps_of fabric packet first) (step at Accepts)
@@ -41,7 +41,7 @@ TracesHaveAnEnd =
     (fabric : FabricState) (packet : Packet) (from first : PortRef)
     → is_multicast packet.dlid ≡ false → far_end fabric.cables from ≡ Some first → HasEnd (steps_of fabric packet first)
 
--- traces told by this rule have a step at a port exactly where the packet, which comes in first at that port, comes in there,
+-- traces reported by this rule have a step at a port exactly where the packet, which comes in first at that port, comes in there,
 -- some way or other
 abbrev pub ShowAllWays : (FabricState → Packet → PortRef → List Step) → Type 0
 ShowAllWays steps =

@@ -8,7 +8,7 @@ use Rattle.packet_trace.specs.Steps.{steps_of}
 use Rattle.packet_trace.specs.declared.turn.Step.{Step}
 use Rattle.smp_wire.specs.FabricState.{FabricState}
 
--- of a packet to one port the last step alone is told
+-- of a packet to one port the last step alone is reported
 abbrev pub last_alone : List Step → List Step
 last_alone [] = []
 last_alone (step ∷ []) = step ∷ []

@@ -11,8 +11,8 @@ use fabric_parts::{PortRef, is_multicast};
 use fabric_wire::Fabric;
 use std::alloc::{AllocError, Global};
 
-/// What becomes of a packet that comes in at that port, there and at each port to which it goes on from there. Memory alone
-/// can be refused.
+/// What becomes of a packet that comes in at that port, there and at each port to which it goes on from there. It can only
+/// run out of memory.
 pub fn steps(
     alloc: Global,
     fabric: &Fabric,

@@ -2,14 +2,14 @@
 //! nothing.
 
 ghost use Rattle.std.specs.Prelude.{◌≡◌};
-ghost use Rattle.packet_trace.specs.Laws.{AdaptersAccept, TracesHaveAnEnd, TracesShowAllWays, TracesTellDeliveries};
+ghost use Rattle.packet_trace.specs.Laws.{AdaptersAccept, TracesHaveAnEnd, TracesShowAllWays, TracesReportDeliveries};
 ghost use Rattle.packet_trace.specs.Whole.{TraceLinesAreWhole};
 ghost use Rattle.packet_trace.specs.declared.lines.TheConstants.{DATA_QP};
 
 /// A port accepts a packet in its trace exactly where the packet is delivered there. So a trace names the ports to which
 /// the fabric carries a packet, and no others.
-pub fn traces_tell_deliveries()
-    ensures { TracesTellDeliveries }
+pub fn traces_report_deliveries()
+    ensures { TracesReportDeliveries }
 {}
 
 /// Where a trace says that a port accepts the packet, the port is one of a channel adapter.
@@ -18,7 +18,7 @@ pub fn adapters_accept()
 {}
 
 /// The trace of a unicast packet has an end: its last step says why the packet goes no further. So no trace is cut while the
-/// packet goes on, where the packet goes in a circle either.
+/// packet goes on, where the packet goes in a cycle either.
 pub fn traces_have_an_end()
     ensures { TracesHaveAnEnd }
 {}

@@ -1,7 +1,7 @@
 //! The ways of a packet, as lines.
 
 ghost use Rattle.std.specs.Prelude.{◌≡◌, ◌++◌, OnOk, IfOk, codes, decimal, flat_map};
-ghost use Rattle.packet_trace.specs.Lines.{entry_text, place_text, port_text, refuses_line, stamps_line, step_line, text_from, trace_text, turn_text, way_text};
+ghost use Rattle.packet_trace.specs.Lines.{entry_text, place_text, port_text, refuses_line, stamps_line, step_line, text_of_sent, trace_text, turn_text, way_text};
 ghost use Rattle.packet_trace.specs.declared.lines.TheConstants.{DATA_QP};
 
 use crate::following::steps;
@@ -9,9 +9,9 @@ use crate::turn::{Step, Turn};
 use data_packet::{Packet, QueuePair, Refusal};
 use fabric_parts::PortRef;
 use fabric_wire::{Fabric, adapter_at};
-use line_parts::{push_decimal, push_hex};
 use port_model::AdapterPort;
 use std::alloc::{AllocError, Global};
+use text_parts::{push_decimal, push_hex, push_port_name};
 use topo_file::{Topology, name_at};
 
 /// A queue pair for data: neither 0 nor 1, which are for management.
@@ -20,7 +20,7 @@ const DATA_QP: u32 = 2;
 /// The ways of a packet without payload that the port of a channel adapter sends to that LID under that key: a line for what
 /// the port makes of it, and one for each port that it comes to, with the reason where it ends; at a switch a packet to a
 /// multicast LID has a line for each port by which it would leave. Nothing where no port of a channel adapter is there.
-/// Memory alone can be refused.
+/// It can only run out of memory.
 ///
 /// The nodes of the fabric stand as the topology lists them, and are named as it names them.
 pub fn trace_text(
@@ -34,24 +34,26 @@ pub fn trace_text(
     ensures { IfOk result (λ text. text.items ≡ trace_text topology.now.nodes fabric.now from dlid p_key) }
 {
     match adapter_at(fabric.nodes(), from) {
-        Some(sender) => text_from(alloc, topology, fabric, from, sender, dlid, p_key),
+        Some(sender) => {
+            let sent = sender.stamp(dlid, p_key, data_queue_pair(), &[]);
+            text_of_sent(alloc, topology, fabric, from, sent)
+        }
         None => Ok(Vec::new(alloc)),
     }
 }
 
-fn text_from(
+/// The lines for what the port made: a packet, or a refusal.
+fn text_of_sent(
     alloc: Global,
     topology: &Topology,
     fabric: &Fabric,
     from: PortRef,
-    sender: &AdapterPort,
-    dlid: u16,
-    p_key: u16,
+    sent: Result<Packet, Refusal>,
 ) -> Result<Vec<u8>, AllocError>
-    ensures { IfOk result (λ text. text.items ≡ text_from topology.now.nodes fabric.now from dlid p_key sender.now) }
+    ensures { IfOk result (λ text. text.items ≡ text_of_sent topology.now.nodes fabric.now from sent) }
 {
     let mut text = Vec::new(alloc);
-    match sender.stamp(dlid, p_key, data_queue_pair(), &[]) {
+    match sent {
         Ok(packet) => {
             push_stamps_line(&mut text, topology, from, &packet)?;
             push_way(alloc, &mut text, topology, fabric, from, &packet)?;
@@ -169,9 +171,7 @@ fn push_out(text: &mut Vec<u8>, out: u8) -> Result<(), AllocError>
 fn push_port(text: &mut Vec<u8>, topology: &Topology, at: PortRef) -> Result<(), AllocError>
     ensures { OnOk result (text.new.items ≡ text.old.items ++ port_text topology.now.nodes at) }
 {
-    text.extend_from_slice(name_at(topology.nodes(), at.node))?;
-    text.extend_from_slice(b"/")?;
-    push_decimal(text, usize::from(at.port))
+    push_port_name(text, name_at(topology.nodes(), at.node), at.port)
 }
 
 /// Adds a switch and the port at which the packet came in, as `A in 2`.

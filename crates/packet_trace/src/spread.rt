@@ -19,7 +19,7 @@ use switch_model::{Switch, passes_inbound, passes_outbound};
 
 /// The ports where a packet comes in, in the order in which they are found, and its steps so far.
 ///
-/// The ports are also the list of those from which the packet goes on: so a trace ends where masks lead in circles, and comes
+/// The ports are also the list of those from which the packet goes on: so a trace ends where masks lead in cycles, and comes
 /// to each port once where ways meet.
 #[derive(Drop)]
 pub(crate) struct Spread {
@@ -36,7 +36,7 @@ impl Model for Spread {
 }
 
 impl Spread {
-    /// Of a packet to a multicast LID that comes in first at that port. Memory alone can be refused.
+    /// Of a packet to a multicast LID that comes in first at that port. It can only run out of memory.
     pub(crate) fn of(
         alloc: Global,
         fabric: &Fabric,

@@ -14,7 +14,7 @@ use std::alloc::{AllocError, Global};
 use switch_model::Fate;
 
 /// What becomes of a unicast packet that comes in at that port, there and at each port to which it goes on from there.
-/// Memory alone can be refused.
+/// It can only run out of memory.
 pub(crate) fn way(
     alloc: Global,
     fabric: &Fabric,

@@ -6,7 +6,7 @@ use fabric_parts::PortRef;
 /// multicast LID the first for each port that is in the masks of its LID.
 #[derive(Clone, Copy, Debug, PartialEq, Eq)]
 pub enum Turn {
-    /// It came in there before, so it goes in a circle.
+    /// It came in there before, so it goes in a cycle.
     Again,
     /// The port lets nothing under its key in.
     DropsInbound,

@@ -4,9 +4,9 @@ use Rattle.std.specs.List.{AllByRecursion, list_any}
 use Rattle.std.proofs.lemmas.Bool.{cases_Bool, eqb-true}
 use Rattle.std.proofs.lemmas.Bool.Decides.{nat_tests}
 use Rattle.std.specs.List.Sorted.{IsStrictlyIncreasing}
-use Rattle.result_words.proofs.TestLemmas.{or_turned}
-use Rattle.result_words.proofs.ListLemmas.{all_above}
-use Rattle.result_words.proofs.RisingLemmas.{Rises, rises, same_rising}
+use Rattle.step_results.proofs.TestLemmas.{or_turned}
+use Rattle.step_results.proofs.ListLemmas.{all_above}
+use Rattle.step_results.proofs.RisingLemmas.{Rises, rises, same_rising}
 use Rattle.partition_file.specs.declared.heading.Heading.{Heading}
 use Rattle.partition_changes.specs.Changes.{rising_bases, with_base}
 

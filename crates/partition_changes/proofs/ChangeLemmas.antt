@@ -43,8 +43,8 @@ shown_changes line false (Some x) (Some y) = ap (λ text. (codes "- " ++ line x)
 change_shown : {X : Type 0} (same : X → X → Bool) (line : X → List ℕ) (before after : Option X) → change_text same line before after ≡ changes_text line (changes_of same before after)
 change_shown same line before after = shown_changes line (stays same before after) before after
 
-abbrev told : {X : Type 0} → (X → List ℕ) → Change X → List ℕ
-told line change = sign change.comes ++ line change.what
+abbrev reported : {X : Type 0} → (X → List ℕ) → Change X → List ℕ
+reported line change = sign change.comes ++ line change.what
 
 -- ---- partitions, groups, members
 partitions_alike : (before after : List Heading) (bases : List ℕ)
@@ -52,27 +52,27 @@ partitions_alike : (before after : List Heading) (bases : List ℕ)
 partitions_alike before after bases =
     flat_same (partition_text before after) (λ base. changes_text partition_line (partition_changes_at before after base))
     (λ base. change_shown same_partition partition_line (partition_of before base) (partition_of after base)) bases
-    ∙ flat_flat (told partition_line) (partition_changes_at before after) bases
+    ∙ flat_flat (reported partition_line) (partition_changes_at before after) bases
 
 groups_alike : (before after : List Heading) (bases : List ℕ)
     → flat_map (group_text before after) bases ≡ changes_text group_line (flat_map (group_changes_at before after) bases)
 groups_alike before after bases =
     flat_same (group_text before after) (λ base. changes_text group_line (group_changes_at before after base))
     (λ base. change_shown same_group group_line (grouped before base) (grouped after base)) bases
-    ∙ flat_flat (told group_line) (group_changes_at before after) bases
+    ∙ flat_flat (reported group_line) (group_changes_at before after) bases
 
 members_at : (ports : List Both) (base : ℕ) → members_text ports base ≡ changes_text change_of_member_line (flat_map (member_changes_at base) (map seen ports))
 members_at ports base =
     flat_same (member_text base) (λ port. changes_text change_of_member_line (member_changes_at base (seen port)))
     (λ port. change_shown same_member change_of_member_line (member_of base port.before.now) (member_of base port.after.now)) ports
-    ∙ flat_flat (told change_of_member_line) (λ port. member_changes_at base (seen port)) ports
+    ∙ flat_flat (reported change_of_member_line) (λ port. member_changes_at base (seen port)) ports
     ∙ ap (changes_text change_of_member_line) (sym (flat_map-map (member_changes_at base) seen ports))
 
 members_alike : (ports : List Both) (bases : List ℕ)
     → flat_map (members_text ports) bases ≡ changes_text change_of_member_line (member_changes bases (map seen ports))
 members_alike ports bases =
     flat_same (members_text ports) (λ base. changes_text change_of_member_line (flat_map (member_changes_at base) (map seen ports))) (members_at ports) bases
-    ∙ flat_flat (told change_of_member_line) (λ base. flat_map (member_changes_at base) (map seen ports)) bases
+    ∙ flat_flat (reported change_of_member_line) (λ base. flat_map (member_changes_at base) (map seen ports)) bases
 
 -- ---- shares
 -- under other bases neither was nor will be a share
@@ -113,11 +113,11 @@ pair_alike bases p q are =
     ∙ sym (flat_same (share_text p q) (λ base. if may_change p q base then share_text p q base else []) (only_there p q) (range_with_len 1 32767))
     ∙ flat_same (share_text p q) (λ base. changes_text share_line (share_changes_at (seen p) (seen q) base))
     (λ base. change_shown same_share share_line (share_of p.before.now q.before.now base) (share_of p.after.now q.after.now base)) (range_with_len 1 32767)
-    ∙ flat_flat (told share_line) (share_changes_at (seen p) (seen q)) (range_with_len 1 32767)
+    ∙ flat_flat (reported share_line) (share_changes_at (seen p) (seen q)) (range_with_len 1 32767)
 
 others_alike : (p : Both) (others : List Both) → flat_map (pair_text p) others ≡ changes_text share_line (flat_map (pair_changes (seen p)) (map seen others))
 others_alike p others =
-    flat_flat (told share_line) (λ q. pair_changes (seen p) (seen q)) others
+    flat_flat (reported share_line) (λ q. pair_changes (seen p) (seen q)) others
     ∙ ap (changes_text share_line) (sym (flat_map-map (pair_changes (seen p)) seen others))
 
 shares_alike : (ports : List Both) → shares_text ports ≡ changes_text share_line (share_changes (map seen ports))
@@ -125,7 +125,7 @@ shares_alike [] = refl
 shares_alike (p ∷ ports) =
     ap (λ text. text ++ shares_text ports) (others_alike p ports)
     ∙ ap (λ text. changes_text share_line (flat_map (pair_changes (seen p)) (map seen ports)) ++ text) (shares_alike ports)
-    ∙ sym (flat_map-append (told share_line) (flat_map (pair_changes (seen p)) (map seen ports)) (share_changes (map seen ports)))
+    ∙ sym (flat_map-append (reported share_line) (flat_map (pair_changes (seen p)) (map seen ports)) (share_changes (map seen ports)))
 
 -- ---- all together
 pub all_alike : (before after : ConfigurationState) (bases : List ℕ) (ports : List Both) → bases ≡ bases_named before.partitions after.partitions → map seen ports ≡ zip before.ports after.ports

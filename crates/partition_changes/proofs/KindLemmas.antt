@@ -12,9 +12,9 @@ use Rattle.std.specs.Cmp.{both_ways}
 use Rattle.partition_file.specs.declared.broadcast_group.BroadcastGroup.{BroadcastGroup}
 use Rattle.partition_file.specs.declared.heading.Heading.{Heading}
 use Rattle.partition_changes.specs.Changes.{bases_named, grouped, partition_of, same_fields, same_group, same_groups, same_partition}
-use Rattle.partition_changes.specs.Laws.{GroupsAreTold, PartitionsAreTold, says}
+use Rattle.partition_changes.specs.Laws.{GroupsAreReported, PartitionsAreReported, says}
 use Rattle.partition_changes.proofs.BaseLemmas.{rising_rises, rising_there}
-use Rattle.partition_changes.proofs.ToldLemmas.{by_bases}
+use Rattle.partition_changes.proofs.ReportedLemmas.{by_bases}
 
 -- ---- partitions
 abbrev pub Alike : ℕ × Heading → ℕ × Heading → Type 0
@@ -71,8 +71,8 @@ of_either : (before after : List Heading) (n : ℕ) → (list_any (λ heading. h
     → list_any (λ base. base == n) (bases_named before after) ≡ true
 of_either before after n h = rising_there (before ++ after) n ∙ list_any-append (λ heading. heading.base == n) before after ∙ h
 
-pub partitions_are_told : PartitionsAreTold
-partitions_are_told before after =
+pub partitions_are_reported : PartitionsAreReported
+partitions_are_reported before after =
     by_bases same_partition partition_alike partition_joined (λ x. x.1.base) (partition_of before) (partition_of after) (bases_named before after) (rising_rises (before ++ after))
     (λ k x h. eq-eqb k x.1.base (sym (found_at before k x h).1)) (λ k x h. eq-eqb k x.1.base (sym (found_at after k x h).1))
     (λ x h. of_either before after x.1.base (or_left (list_any (λ heading. heading.base == x.1.base) before) (list_any (λ heading. heading.base == x.1.base) after) (found_at before x.1.base x h).0))
@@ -140,8 +140,8 @@ grouped_at (heading ∷ headings) k x h = elim (cases_Bool ((heading.base == k) 
       (or_right (heading.base == k) (list_any (λ heading. heading.base == k) headings) rest.0, rest.1)
 ]
 
-pub groups_are_told : GroupsAreTold
-groups_are_told before after =
+pub groups_are_reported : GroupsAreReported
+groups_are_reported before after =
     by_bases same_group group_alike group_joined (λ x. x.base) (grouped before) (grouped after) (bases_named before after) (rising_rises (before ++ after))
     (λ k x h. eq-eqb k x.base (sym (grouped_at before k x h).1)) (λ k x h. eq-eqb k x.base (sym (grouped_at after k x h).1))
     (λ x h. of_either before after x.base (or_left (list_any (λ heading. heading.base == x.base) before) (list_any (λ heading. heading.base == x.base) after) (grouped_at before x.base x h).0))

@@ -4,6 +4,6 @@ pub mod KindLemmas
 pub mod ShownLemmas
 pub mod MemberLemmas
 pub mod SameLemmas
-pub mod ShareToldLemmas
-pub mod ToldLemmas
+pub mod ShareReportedLemmas
+pub mod ReportedLemmas
 pub mod WrongLemmas

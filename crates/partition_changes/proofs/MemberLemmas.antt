@@ -7,9 +7,9 @@ use Rattle.pkey_rules.specs.KeyTable.{find_base}
 use Rattle.pkey_rules.specs.PKey.{base_of}
 use Rattle.subnet_model.specs.declared.subnet_port.SubnetPort.{SubnetPort}
 use Rattle.partition_changes.specs.Changes.{bases_named, member_changes_at, member_of, same_member}
-use Rattle.partition_changes.specs.Laws.{AreSamePorts, MembersAreTold, comings, goings, has_member, is_of, one_if, same_guid, says}
+use Rattle.partition_changes.specs.Laws.{AreSamePorts, MembersAreReported, comings, goings, has_member, is_of, one_if, same_guid, says}
 use Rattle.partition_changes.proofs.BaseLemmas.{rising_rises}
-use Rattle.partition_changes.proofs.ToldLemmas.{Apart, apart_by_base, count_flat, one_comes, one_goes, only_one, same_sum, told_apart}
+use Rattle.partition_changes.proofs.ReportedLemmas.{Apart, apart_by_base, count_flat, one_comes, one_goes, only_one, same_sum, kept_apart}
 
 abbrev Member : Type 0
 Member = SubnetPort × ℕ
@@ -96,7 +96,7 @@ go_at x base before after are =
     count_flat (λ change. not change.comes && same_member x change.what) (member_changes_at base) (zip before after)
     ∙ same_sum (λ both. goings same_member x (member_changes_at base both)) (λ both. one_if (held x base both.0 && not (held x base both.1)))
     (λ both. one_goes same_member member_alike member_joined x (member_of base both.0) (member_of base both.1)) (zip before after)
-    ∙ told_apart (own x.0.guid) (λ both. held x base both.0) (λ both. held x base both.1) (zip before after) (apart_ports x base before after are.same are.own)
+    ∙ kept_apart (own x.0.guid) (λ both. held x base both.0) (λ both. held x base both.1) (zip before after) (apart_ports x base before after are.same are.own)
     ∙ ap (λ b. one_if (b && not (list_any (λ both. held x base both.1) (zip before after)))) (any_first (held x base) before after are.same)
     ∙ ap (λ b. one_if (list_any (held x base) before && not b)) (any_second (held x base) before after are.same)
 
@@ -123,7 +123,7 @@ come_at x base before after are =
     count_flat (λ change. change.comes && same_member x change.what) (member_changes_at base) (zip before after)
     ∙ same_sum (λ both. comings same_member x (member_changes_at base both)) (λ both. one_if (held x base both.1 && not (held x base both.0)))
     (λ both. one_comes same_member member_alike member_joined x (member_of base both.0) (member_of base both.1)) (zip before after)
-    ∙ told_apart (own x.0.guid) (λ both. held x base both.1) (λ both. held x base both.0) (zip before after) (swapped_apart x base before after are.same are.own)
+    ∙ kept_apart (own x.0.guid) (λ both. held x base both.1) (λ both. held x base both.0) (zip before after) (swapped_apart x base before after are.same are.own)
     ∙ ap (λ b. one_if (b && not (list_any (λ both. held x base both.0) (zip before after)))) (any_second (held x base) before after are.same)
     ∙ ap (λ b. one_if (list_any (held x base) after && not b)) (any_first (held x base) before after are.same)
 
@@ -135,22 +135,22 @@ of_base x (port ∷ ports) base h = elim (cases_Bool (held x base port)) [
   | inr other ↦ of_base x ports base (rw other at h)
 ]
 
-pub members_are_told : MembersAreTold
-members_are_told before after headings others are =
+pub members_are_reported : MembersAreReported
+members_are_reported before after headings others are =
     let bases : List ℕ = bases_named headings others in
     let zs = zip before after in
     record {
       gone = λ x.
           count_flat (λ change. not change.comes && same_member x change.what) (λ base. flat_map (member_changes_at base) zs) bases
           ∙ same_sum (λ base. goings same_member x (flat_map (member_changes_at base) zs)) (λ base. one_if (list_any (held x base) before && not (list_any (held x base) after))) (λ base. go_at x base before after are) bases
-          ∙ told_apart (λ base. base == base_of x.1) (λ base. list_any (held x base) before) (λ base. list_any (held x base) after) bases
+          ∙ kept_apart (λ base. base == base_of x.1) (λ base. list_any (held x base) before) (λ base. list_any (held x base) after) bases
           (apart_by_base (λ base. list_any (held x base) before) (λ base. list_any (held x base) after) (base_of x.1) bases (rising_rises (headings ++ others)) (of_base x before) (of_base x after))
           ∙ ap (λ b. one_if (b && not (list_any (λ base. list_any (held x base) after) bases))) (only_one (λ base. list_any (held x base) before) (base_of x.1) bases (of_base x before))
           ∙ ap (λ b. one_if ((is_of bases x && has_member before x) && not b)) (only_one (λ base. list_any (held x base) after) (base_of x.1) bases (of_base x after));
       come = λ x.
           count_flat (λ change. change.comes && same_member x change.what) (λ base. flat_map (member_changes_at base) zs) bases
           ∙ same_sum (λ base. comings same_member x (flat_map (member_changes_at base) zs)) (λ base. one_if (list_any (held x base) after && not (list_any (held x base) before))) (λ base. come_at x base before after are) bases
-          ∙ told_apart (λ base. base == base_of x.1) (λ base. list_any (held x base) after) (λ base. list_any (held x base) before) bases
+          ∙ kept_apart (λ base. base == base_of x.1) (λ base. list_any (held x base) after) (λ base. list_any (held x base) before) bases
           (apart_by_base (λ base. list_any (held x base) after) (λ base. list_any (held x base) before) (base_of x.1) bases (rising_rises (headings ++ others)) (of_base x after) (of_base x before))
           ∙ ap (λ b. one_if (b && not (list_any (λ base. list_any (held x base) before) bases))) (only_one (λ base. list_any (held x base) after) (base_of x.1) bases (of_base x after))
           ∙ ap (λ b. one_if ((is_of bases x && has_member after x) && not b)) (only_one (λ base. list_any (held x base) before) (base_of x.1) bases (of_base x before));

@@ -11,10 +11,10 @@ use Rattle.port_shares.specs.Laws.{is_of_both}
 use Rattle.port_shares.specs.Shares.{Share, share_line, shares}
 use Rattle.subnet_model.specs.declared.subnet_port.SubnetPort.{SubnetPort}
 use Rattle.partition_changes.specs.Changes.{Change, bases_named, change_of_member_line, changes_of, changes_text, coming, going, group_changes, group_changes_at, group_line, grouped, member_changes, partition_changes, partition_line, same_group, same_groups, same_member, same_partition, same_share, share_changes, sign}
-use Rattle.partition_changes.specs.Laws.{NearStaysWhereNoShareIsTold, NothingIsToldOfTheSame, TellWhatChanges, comings, goings, has_group, has_member, has_partition, has_share, is_of, one_if}
-use Rattle.partition_changes.proofs.KindLemmas.{fields_if, groups_are_told, partitions_are_told, same_if}
-use Rattle.partition_changes.proofs.MemberLemmas.{members_are_told}
-use Rattle.partition_changes.proofs.ShareToldLemmas.{alike, shares_are_told}
+use Rattle.partition_changes.specs.Laws.{NearStaysWhereNoShareIsReported, NothingIsReportedOfTheSame, ReportWhatChanges, comings, goings, has_group, has_member, has_partition, has_share, is_of, one_if}
+use Rattle.partition_changes.proofs.KindLemmas.{fields_if, groups_are_reported, partitions_are_reported, same_if}
+use Rattle.partition_changes.proofs.MemberLemmas.{members_are_reported}
+use Rattle.partition_changes.proofs.ShareReportedLemmas.{alike, shares_are_reported}
 
 -- ---- changes of one kind
 -- what is printed is the same as itself
@@ -29,16 +29,16 @@ none_if : (so : Bool) → one_if so ≡ 0 → so ≡ false
 none_if true e = absurd (omega (arith, e))
 none_if false e = refl
 
-some_told : (is_new is_same : Bool) (gone come : ℕ) → is_same ≡ true → one_if (not is_new && is_same) + gone ≡ 0 → one_if (is_new && is_same) + come ≡ 0 → ⊥
-some_told true true gone come e f g = omega (arith, g)
-some_told false true gone come e f g = omega (arith, f)
-some_told is_new false gone come e f g = false≢true e
+some_reported : (is_new is_same : Bool) (gone come : ℕ) → is_same ≡ true → one_if (not is_new && is_same) + gone ≡ 0 → one_if (is_new && is_same) + come ≡ 0 → ⊥
+some_reported true true gone come e f g = omega (arith, g)
+some_reported false true gone come e f g = omega (arith, f)
+some_reported is_new false gone come e f g = false≢true e
 
-none_told : {X : Type 0} (same : X → X → Bool) (changes : List (Change X)) → AllByRecursion (IsOwn same) changes
+none_reported : {X : Type 0} (same : X → X → Bool) (changes : List (Change X)) → AllByRecursion (IsOwn same) changes
     → ((x : X) → goings same x changes ≡ 0) → ((x : X) → comings same x changes ≡ 0) → changes ≡ []
-none_told same [] own gone come = refl
-none_told same (change ∷ changes) own gone come =
-    absurd (some_told change.comes (same change.what change.what) (goings same change.what changes) (comings same change.what changes) own.0
+none_reported same [] own gone come = refl
+none_reported same (change ∷ changes) own gone come =
+    absurd (some_reported change.comes (same change.what change.what) (goings same change.what changes) (comings same change.what changes) own.0
     (sym (sum_by-cons (λ c. one_if (not c.comes && same change.what c.what)) change changes) ∙ gone change.what)
     (sym (sum_by-cons (λ c. one_if (c.comes && same change.what c.what)) change changes) ∙ come change.what))
 
@@ -54,13 +54,13 @@ equal false true e f = sym f
 equal false false e f = refl
 
 -- nothing of the kind is printed exactly where both say the same of it
-kind : {X : Type 0} (same : X → X → Bool) (was becomes : X → Bool) (changes : List (Change X)) → TellWhatChanges same was becomes changes → AllByRecursion (IsOwn same) changes
+kind : {X : Type 0} (same : X → X → Bool) (was becomes : X → Bool) (changes : List (Change X)) → ReportWhatChanges same was becomes changes → AllByRecursion (IsOwn same) changes
     → changes ≡ [] ↔ ((x : X) → was x ≡ becomes x)
-kind same was becomes changes told own = (
-  (λ none x. equal (was x) (becomes x) (none_if (was x && not (becomes x)) (sym (told.gone x) ∙ ap (goings same x) none))
-      (none_if (becomes x && not (was x)) (sym (told.come x) ∙ ap (comings same x) none))),
-  (λ all. none_told same changes own (λ x. told.gone x ∙ ap one_if (unchanged (was x) (becomes x) (all x)))
-      (λ x. told.come x ∙ ap one_if (unchanged (becomes x) (was x) (sym (all x))))),
+kind same was becomes changes reported own = (
+  (λ none x. equal (was x) (becomes x) (none_if (was x && not (becomes x)) (sym (reported.gone x) ∙ ap (goings same x) none))
+      (none_if (becomes x && not (was x)) (sym (reported.come x) ∙ ap (comings same x) none))),
+  (λ all. none_reported same changes own (λ x. reported.gone x ∙ ap one_if (unchanged (was x) (becomes x) (all x)))
+      (λ x. reported.come x ∙ ap one_if (unchanged (becomes x) (was x) (sym (all x))))),
 )
 
 -- ---- what is found is the same as itself
@@ -123,9 +123,9 @@ none_joined : (ps gs ms ss : List ℕ) → ps ≡ [] → gs ≡ [] → ms ≡ []
 none_joined ps gs ms ss p g m s = rw (p, g, m, s) refl
 
 -- each change has a line
-untold : {X : Type 0} (line : X → List ℕ) (changes : List (Change X)) → changes_text line changes ≡ [] → changes ≡ []
-untold line [] e = refl
-untold line (change ∷ changes) e = absurd (by change.comes (joined_none (sign change.comes ++ line change.what) (changes_text line changes) e).0)
+unreported : {X : Type 0} (line : X → List ℕ) (changes : List (Change X)) → changes_text line changes ≡ [] → changes ≡ []
+unreported line [] e = refl
+unreported line (change ∷ changes) e = absurd (by change.comes (joined_none (sign change.comes ++ line change.what) (changes_text line changes) e).0)
   where
     by : (b : Bool) → sign b ++ line change.what ≡ [] → ⊥
     by true e = cc
@@ -139,26 +139,26 @@ without : (a b c : Bool) → (a && b) ≡ (a && c) → a ≡ true → b ≡ c
 without true b c e f = e
 without false b c e f = absurd (false≢true f)
 
-pub nothing_is_told_of_the_same : NothingIsToldOfTheSame
-nothing_is_told_of_the_same before after are =
+pub nothing_is_reported_of_the_same : NothingIsReportedOfTheSame
+nothing_is_reported_of_the_same before after are =
     let bases : List ℕ = bases_named before.partitions after.partitions in
     let partitions : List (Change (ℕ × Heading)) = partition_changes before.partitions after.partitions in
     let groups : List (Change Heading) = group_changes before.partitions after.partitions in
     let members : List (Change (SubnetPort × ℕ)) = member_changes bases (zip before.ports after.ports) in
     let changed : List (Change Share) = share_changes (zip before.ports after.ports) in
-    let of_partitions = kind same_partition (has_partition before.partitions) (has_partition after.partitions) partitions (partitions_are_told before.partitions after.partitions) (own_always same_partition own_partition partitions) in
-    let of_groups = kind same_group (has_group before.partitions) (has_group after.partitions) groups (groups_are_told before.partitions after.partitions) (own_groups before.partitions after.partitions bases) in
-    let of_members = kind same_member (λ x. is_of bases x && has_member before.ports x) (λ x. is_of bases x && has_member after.ports x) members (members_are_told before.ports after.ports before.partitions after.partitions are) (own_always same_member own_member members) in
-    let of_shares = kind same_share (has_share before.ports) (has_share after.ports) changed (shares_are_told before.ports after.ports are) (own_always same_share own_share changed) in (
+    let of_partitions = kind same_partition (has_partition before.partitions) (has_partition after.partitions) partitions (partitions_are_reported before.partitions after.partitions) (own_always same_partition own_partition partitions) in
+    let of_groups = kind same_group (has_group before.partitions) (has_group after.partitions) groups (groups_are_reported before.partitions after.partitions) (own_groups before.partitions after.partitions bases) in
+    let of_members = kind same_member (λ x. is_of bases x && has_member before.ports x) (λ x. is_of bases x && has_member after.ports x) members (members_are_reported before.ports after.ports before.partitions after.partitions are) (own_always same_member own_member members) in
+    let of_shares = kind same_share (has_share before.ports) (has_share after.ports) changed (shares_are_reported before.ports after.ports are) (own_always same_share own_share changed) in (
       (λ empty.
           let one = joined_none (changes_text partition_line partitions ++ changes_text group_line groups ++ changes_text change_of_member_line members) (changes_text share_line changed) empty in
           let two = joined_none (changes_text partition_line partitions ++ changes_text group_line groups) (changes_text change_of_member_line members) one.0 in
           let three = joined_none (changes_text partition_line partitions) (changes_text group_line groups) two.0 in
           record {
-            partitions = of_partitions.0 (untold partition_line partitions three.0);
-            groups = of_groups.0 (untold group_line groups three.1);
-            members = λ x. without (is_of bases x) (has_member before.ports x) (has_member after.ports x) (of_members.0 (untold change_of_member_line members two.1) x);
-            shares = of_shares.0 (untold share_line changed one.1);
+            partitions = of_partitions.0 (unreported partition_line partitions three.0);
+            groups = of_groups.0 (unreported group_line groups three.1);
+            members = λ x. without (is_of bases x) (has_member before.ports x) (has_member after.ports x) (of_members.0 (unreported change_of_member_line members two.1) x);
+            shares = of_shares.0 (unreported share_line changed one.1);
           }),
       (λ same.
           none_joined (changes_text partition_line partitions) (changes_text group_line groups) (changes_text change_of_member_line members) (changes_text share_line changed)
@@ -198,10 +198,10 @@ implies test even xs ys same h =
     let one = passing test xs h in
     passed test even ys one.0 one.1.0 (sym (same one.0) ∙ one.1.1)
 
-pub near_stays_where_no_share_is_told : NearStaysWhereNoShareIsTold
-near_stays_where_no_share_is_told before after are none p q =
+pub near_stays_where_no_share_is_reported : NearStaysWhereNoShareIsReported
+near_stays_where_no_share_is_reported before after are none p q =
     let changed : List (Change Share) = share_changes (zip before after) in
-    let of_shares = kind same_share (has_share before) (has_share after) changed (shares_are_told before after are) (own_always same_share own_share changed) in
+    let of_shares = kind same_share (has_share before) (has_share after) changed (shares_are_reported before after are) (own_always same_share own_share changed) in
     let same : (x : Share) → has_share before x ≡ has_share after x = of_shares.0 none in
     near_is_to_share before p q
     ∙ ap (λ b. (q == p) || b) (both_ways (list_any (is_of_both p q) (shares before)) (list_any (is_of_both p q) (shares after))

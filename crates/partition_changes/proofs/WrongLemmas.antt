@@ -1,4 +1,4 @@
--- What goes is told twice by a wrong rule.
+-- What goes is reported twice by a wrong rule.
 use Rattle.std.proofs.Common.{◌≡◌, ℕ, ◌+◌, Bool, true, false, not, ◌&&◌, List, [], ◌∷◌, Some, filter, refl, ap, ◌∙◌, arith}
 use Rattle.std.specs.List.{IsDistinct, range_with_len}
 use Rattle.std.proofs.lemmas.List.Sums.{sum_by-cons}
@@ -8,11 +8,11 @@ use Rattle.pkey_rules.specs.KeyTable.{shares_base}
 use Rattle.port_shares.specs.Shares.{Share, shared_bases}
 use Rattle.subnet_model.specs.declared.subnet_port.SubnetPort.{SubnetPort}
 use Rattle.partition_changes.specs.Changes.{Change, same_group, same_member, same_partition, same_share}
-use Rattle.partition_changes.specs.Laws.{AreSamePorts, TellWhatChanges, goings, has_share, one_if}
+use Rattle.partition_changes.specs.Laws.{AreSamePorts, ReportWhatChanges, goings, has_share, one_if}
 use Rattle.partition_changes.specs.WrongRules.{TwiceIsNotOnce, twice}
-use Rattle.partition_changes.proofs.KindLemmas.{groups_are_told, partitions_are_told}
-use Rattle.partition_changes.proofs.MemberLemmas.{members_are_told}
-use Rattle.partition_changes.proofs.ShareToldLemmas.{shares_are_told}
+use Rattle.partition_changes.proofs.KindLemmas.{groups_are_reported, partitions_are_reported}
+use Rattle.partition_changes.proofs.MemberLemmas.{members_are_reported}
+use Rattle.partition_changes.proofs.ShareReportedLemmas.{shares_are_reported}
 
 -- ---- twice as many
 doubled : {X : Type 0} (same : X → X → Bool) (x : X) (changes : List (Change X)) → goings same x (twice changes) ≡ goings same x changes + goings same x changes
@@ -25,8 +25,8 @@ doubled same x (change ∷ changes) =
     let both = sum_by-cons (λ c. one_if (not c.comes && same x c.what)) change (change ∷ twice changes) in
     omega (arith, rest, first, again, both)
 
-pub too_many : {X : Type 0} (same : X → X → Bool) (was becomes : X → Bool) (changes : List (Change X)) → TellWhatChanges same was becomes changes
-    → (x : X) → (was x && not (becomes x)) ≡ true → TellWhatChanges same was becomes (twice changes) → ⊥
+pub too_many : {X : Type 0} (same : X → X → Bool) (was becomes : X → Bool) (changes : List (Change X)) → ReportWhatChanges same was becomes changes
+    → (x : X) → (was x && not (becomes x)) ≡ true → ReportWhatChanges same was becomes (twice changes) → ⊥
 too_many same was becomes changes right x goes wrong =
     let once : goings same x changes ≡ 1 = right.gone x ∙ ap one_if goes in
     let one : goings same x (twice changes) ≡ 1 = wrong.gone x ∙ ap one_if goes in
@@ -67,12 +67,12 @@ not_after = rw none_shared refl
 
 pub twice_is_not_once : TwiceIsNotOnce
 twice_is_not_once = record {
-  partitions = λ law. too_many same_partition _ _ _ (partitions_are_told (a_partition ∷ []) []) (0, a_partition) refl (law (a_partition ∷ []) []);
-  groups = λ law. too_many same_group _ _ _ (groups_are_told (a_partition ∷ []) []) a_partition refl (law (a_partition ∷ []) []);
+  partitions = λ law. too_many same_partition _ _ _ (partitions_are_reported (a_partition ∷ []) []) (0, a_partition) refl (law (a_partition ∷ []) []);
+  groups = λ law. too_many same_group _ _ _ (groups_are_reported (a_partition ∷ []) []) a_partition refl (law (a_partition ∷ []) []);
   members = λ law.
-      too_many same_member _ _ _ (members_are_told (two_ports (0x8001 ∷ [])) (two_ports []) (a_partition ∷ []) [] same_two) (port_with 1 [], 0x8001) refl
+      too_many same_member _ _ _ (members_are_reported (two_ports (0x8001 ∷ [])) (two_ports []) (a_partition ∷ []) [] same_two) (port_with 1 [], 0x8001) refl
       (law (two_ports (0x8001 ∷ [])) (two_ports []) (a_partition ∷ []) [] same_two);
   shares = λ law.
-      too_many same_share _ _ _ (shares_are_told (two_ports (0x8001 ∷ [])) (two_ports []) same_two) a_share (rw (shared_before, not_after) refl)
+      too_many same_share _ _ _ (shares_are_reported (two_ports (0x8001 ∷ [])) (two_ports []) same_two) a_share (rw (shared_before, not_after) refl)
       (law (two_ports (0x8001 ∷ [])) (two_ports []) same_two);
 }

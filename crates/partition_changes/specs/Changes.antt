@@ -5,7 +5,7 @@ use Rattle.std.specs.Option.{option_and_then, option_map_or}
 use Rattle.std.specs.Str.{bytes_eq}
 use Rattle.std.specs.Int.{w16, w32, to_be_bytes}
 use Rattle.line_parts.specs.Lines.{heading_line, member_line}
-use Rattle.line_parts.specs.Parts.{hex_text}
+use Rattle.text_parts.specs.Parts.{hex_text}
 use Rattle.partition_file.specs.declared.broadcast_group.BroadcastGroup.{BroadcastGroup}
 use Rattle.partition_file.specs.declared.heading.Heading.{Heading}
 use Rattle.partition_file.specs.Partitions.{mgid_of}

@@ -27,7 +27,7 @@ abbrev pub one_if : Bool → ℕ
 one_if so = if so then 1 else 0
 
 -- changes say exactly what of two files one has and the other has not, each of it once
-pub record TellWhatChanges {X : Type 0} (same : X → X → Bool) (before after : X → Bool) (changes : List (Change X)) : Type 0 where
+pub record ReportWhatChanges {X : Type 0} (same : X → X → Bool) (before after : X → Bool) (changes : List (Change X)) : Type 0 where
   pub gone : (x : X) → goings same x changes ≡ one_if (before x && not (after x))
   pub come : (x : X) → comings same x changes ≡ one_if (after x && not (before x))
 
@@ -35,18 +35,18 @@ pub record TellWhatChanges {X : Type 0} (same : X → X → Bool) (before after 
 abbrev pub has_partition : List Heading → ℕ × Heading → Bool
 has_partition headings x = says same_partition x (partition_of headings x.1.base)
 
-abbrev pub PartitionsAreTold : Type 0
-PartitionsAreTold =
-    (before after : List Heading) → TellWhatChanges same_partition (has_partition before) (has_partition after)
+abbrev pub PartitionsAreReported : Type 0
+PartitionsAreReported =
+    (before after : List Heading) → ReportWhatChanges same_partition (has_partition before) (has_partition after)
     (partition_changes before after)
 
 -- ---- groups, by base and all that their lines say
 abbrev pub has_group : List Heading → Heading → Bool
 has_group headings x = says same_group x (grouped headings x.base)
 
-abbrev pub GroupsAreTold : Type 0
-GroupsAreTold =
-    (before after : List Heading) → TellWhatChanges same_group (has_group before) (has_group after) (group_changes before after)
+abbrev pub GroupsAreReported : Type 0
+GroupsAreReported =
+    (before after : List Heading) → ReportWhatChanges same_group (has_group before) (has_group after) (group_changes before after)
 
 -- ---- members, by port and key
 abbrev pub same_guid : SubnetPort → SubnetPort → Bool
@@ -64,10 +64,10 @@ has_member ports x = list_any (λ port. says same_member x (member_of (base_of x
 abbrev pub is_of : List ℕ → SubnetPort × ℕ → Bool
 is_of bases x = list_any (λ base. base == base_of x.1) bases
 
-abbrev pub MembersAreTold : Type 0
-MembersAreTold =
+abbrev pub MembersAreReported : Type 0
+MembersAreReported =
     (before after : List SubnetPort) (headings others : List Heading) → AreSamePorts before after
-    → TellWhatChanges same_member (λ x. is_of (bases_named headings others) x && has_member before x)
+    → ReportWhatChanges same_member (λ x. is_of (bases_named headings others) x && has_member before x)
     (λ x. is_of (bases_named headings others) x && has_member after x)
     (member_changes (bases_named headings others) (zip before after))
 
@@ -75,10 +75,10 @@ MembersAreTold =
 abbrev pub has_share : List SubnetPort → Share → Bool
 has_share ports x = list_any (same_share x) (shares ports)
 
-abbrev pub SharesAreTold : Type 0
-SharesAreTold =
+abbrev pub SharesAreReported : Type 0
+SharesAreReported =
     (before after : List SubnetPort) → AreSamePorts before after
-    → TellWhatChanges same_share (has_share before) (has_share after) (share_changes (zip before after))
+    → ReportWhatChanges same_share (has_share before) (has_share after) (share_changes (zip before after))
 
 -- ---- where nothing is printed
 -- both say the same of each partition, of each group, of each member of one of the partitions and of each share
@@ -90,14 +90,14 @@ pub record SayTheSame (before after : ConfigurationState) : Type 0 where
   pub shares : (x : Share) → has_share before.ports x ≡ has_share after.ports x
 
 -- the text of changes is empty exactly where they do
-abbrev pub NothingIsToldOfTheSame : Type 0
-NothingIsToldOfTheSame =
+abbrev pub NothingIsReportedOfTheSame : Type 0
+NothingIsReportedOfTheSame =
     (before after : ConfigurationState) → AreSamePorts before.ports after.ports
     → text_of_changes before after ≡ [] ↔ SayTheSame before after
 
 -- where no share is printed, whoever was near a port is near it still, and nobody else is
-abbrev pub NearStaysWhereNoShareIsTold : Type 0
-NearStaysWhereNoShareIsTold =
+abbrev pub NearStaysWhereNoShareIsReported : Type 0
+NearStaysWhereNoShareIsReported =
     (before after : List SubnetPort) → AreSamePorts before after → share_changes (zip before after) ≡ []
     → (p q : ℕ) → is_near before p q ≡ is_near after p q
 

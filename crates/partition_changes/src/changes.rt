@@ -12,7 +12,7 @@ use std::alloc::{AllocError, Global};
 use subnet_model::Configuration;
 
 /// What goes and what comes where the second configuration takes the place of the first, over one topology: partitions,
-/// groups, members and shares, in order. Memory alone can be refused.
+/// groups, members and shares, in order. It can only run out of memory.
 pub fn changes_text(
     alloc: Global,
     before: &Configuration,

@@ -6,9 +6,10 @@ ghost use Rattle.std.specs.Option.{option_copied};
 ghost use Rattle.partition_changes.specs.Changes.{group_line, grouped, partition_line, partition_of, same_fields, same_group, same_groups, same_partition, stays};
 ghost use Rattle.partition_changes.specs.Found.{group_text, partition_text, placed, signed};
 
-use line_parts::{push_decimal, push_heading_line, push_hex};
+use line_parts::push_heading_line;
 use partition_file::{BroadcastGroup, Heading};
 use std::alloc::AllocError;
+use text_parts::{push_decimal, push_hex};
 
 /// What changes of partitions.
 pub(crate) fn push_partitions(

@@ -1,37 +1,37 @@
 //! What changes say, over the definitions alone. The functions do nothing: their contracts are the laws.
 
-ghost use Rattle.partition_changes.specs.Laws.{GroupsAreTold, LinesAreSigned, MembersAreTold, NearStaysWhereNoShareIsTold, NothingIsToldOfTheSame, PartitionsAreTold, SameIsWhatIsCompared, SharesAreTold};
+ghost use Rattle.partition_changes.specs.Laws.{GroupsAreReported, LinesAreSigned, MembersAreReported, NearStaysWhereNoShareIsReported, NothingIsReportedOfTheSame, PartitionsAreReported, SameIsWhatIsCompared, SharesAreReported};
 
 /// A partition with its number and name goes once where it was there before and is not after, and else not at all; it comes
 /// the other way round.
-pub fn partitions_are_told()
-    ensures { PartitionsAreTold }
+pub fn partitions_are_reported()
+    ensures { PartitionsAreReported }
 {}
 
 /// So does a group.
-pub fn groups_are_told()
-    ensures { GroupsAreTold }
+pub fn groups_are_reported()
+    ensures { GroupsAreReported }
 {}
 
 /// So does the key of a port in one of the partitions, where the ports are the same before and after.
-pub fn members_are_told()
-    ensures { MembersAreTold }
+pub fn members_are_reported()
+    ensures { MembersAreReported }
 {}
 
 /// So does a share of two ports under a base, where the ports are the same before and after.
-pub fn shares_are_told()
-    ensures { SharesAreTold }
+pub fn shares_are_reported()
+    ensures { SharesAreReported }
 {}
 
 /// The text of changes is empty exactly where both files say the same of each partition, group, member and share, and the
 /// ports are the same before and after.
-pub fn nothing_is_told_of_the_same()
-    ensures { NothingIsToldOfTheSame }
+pub fn nothing_is_reported_of_the_same()
+    ensures { NothingIsReportedOfTheSame }
 {}
 
 /// Where no share is printed, each port has those near it that it had before, and no others.
-pub fn near_stays_where_no_share_is_told()
-    ensures { NearStaysWhereNoShareIsTold }
+pub fn near_stays_where_no_share_is_reported()
+    ensures { NearStaysWhereNoShareIsReported }
 {}
 
 /// Two partitions, groups, members or shares count as the same exactly where these are equal: number, base and name; base

@@ -15,6 +15,6 @@ mod wrong_rules;
 
 pub use crate::changes::changes_text;
 pub use crate::laws::{
-    groups_are_told, members_are_told, near_stays_where_no_share_is_told,
-    nothing_is_told_of_the_same, partitions_are_told, shares_are_told,
+    groups_are_reported, members_are_reported, near_stays_where_no_share_is_reported,
+    nothing_is_reported_of_the_same, partitions_are_reported, shares_are_reported,
 };

@@ -91,12 +91,12 @@ fn push_signed_share(
     port: &SubnetPort,
     other: &SubnetPort,
     base: u16,
-    is_told: bool,
+    is_reported: bool,
 ) -> Result<(), AllocError>
     ensures { OnOk result (text.new.items ≡ text.old.items
-        ++ signed mark.now share_line (if is_told then Some (share_between port.now other.now base) else None)) }
+        ++ signed mark.now share_line (if is_reported then Some (share_between port.now other.now base) else None)) }
 {
-    if is_told {
+    if is_reported {
         text.extend_from_slice(mark)?;
         push_share_line(text, port, other, base)
     } else {

@@ -40,7 +40,7 @@ use Rattle.partition_file.specs.ScanState.{ScanState, is_in_list}
 use Rattle.partition_file.specs.Sound.{IsSoundSoFar, are_within, is_sound_base, is_within}
 use Rattle.partition_file.specs.Tokens.{is_empty, membership_in, membership_value, number_value, taken_if, token_of, value_of}
 
--- ---- where no fault is told, none is there
+-- ---- where no fault is reported, none is there
 passed_over : {X : Type 0} (b : Bool) (x : X) (o : Option X) → cond b (Some x) o ≡ None → (b ≡ false) × (o ≡ None)
 passed_over true x o h = absurd cc
 passed_over false x o h = (refl, h)

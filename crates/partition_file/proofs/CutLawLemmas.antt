@@ -3,8 +3,8 @@ use Rattle.std.proofs.Common.{◌≡◌, ℕ, Bool, true, false, cond, List, [],
 use Rattle.std.specs.List.{slice_split, onto_first}
 use Rattle.std.proofs.lemmas.List.{append-nil}
 use Rattle.std.proofs.lemmas.List.Splits.{slice_split-cons_no}
-use Rattle.result_words.specs.AtLine.{AtLine, on_line}
-use Rattle.result_words.proofs.StepLemmas.{bind_done, bind_ok, same_ok, unless_ok}
+use Rattle.step_results.specs.AtLine.{AtLine, on_line}
+use Rattle.step_results.proofs.StepLemmas.{bind_done, bind_ok, same_ok, unless_ok}
 use Rattle.partition_file.specs.declared.definition.Definition.{Definition}
 use Rattle.partition_file.specs.declared.definition_part.Part.{Part}
 use Rattle.partition_file.specs.declared.definition_part.Part.TheVariants as part
@@ -27,24 +27,24 @@ use Rattle.partition_file.proofs.CutStepLemmas.{IsBegun, begun, ends, faultless,
 use Rattle.partition_file.proofs.ReadLemmas.{since_more}
 
 -- the definitions that pieces give to a state, of which the first goes on with its definition
-abbrev told : Part → Definition → List (List ℕ) → List Definition
-told at d [] = []
-told at d (piece ∷ []) = []
-told at d (piece ∷ following ∷ rest) = finished at d piece ∷ map definition_in (ended (following ∷ rest))
+abbrev reported : Part → Definition → List (List ℕ) → List Definition
+reported at d [] = []
+reported at d (piece ∷ []) = []
+reported at d (piece ∷ following ∷ rest) = finished at d piece ∷ map definition_in (ended (following ∷ rest))
 
-told_blank : (pieces : List (List ℕ)) → told part.Name blank pieces ≡ map definition_in (ended pieces)
-told_blank [] = refl
-told_blank (piece ∷ []) = refl
-told_blank (piece ∷ following ∷ rest) = refl
+reported_blank : (pieces : List (List ℕ)) → reported part.Name blank pieces ≡ map definition_in (ended pieces)
+reported_blank [] = refl
+reported_blank (piece ∷ []) = refl
+reported_blank (piece ∷ following ∷ rest) = refl
 
-told_on : (at other : Part) (d e : Definition) (piece first : List ℕ) (later : List (List ℕ)) → finished at d piece ≡ finished other e first
-    → told at d (piece ∷ later) ≡ told other e (first ∷ later)
-told_on at other d e piece first [] h = refl
-told_on at other d e piece first (following ∷ rest) h = ap (λ (x : Definition). x ∷ map definition_in (ended (following ∷ rest))) h
+reported_on : (at other : Part) (d e : Definition) (piece first : List ℕ) (later : List (List ℕ)) → finished at d piece ≡ finished other e first
+    → reported at d (piece ∷ later) ≡ reported other e (first ∷ later)
+reported_on at other d e piece first [] h = refl
+reported_on at other d e piece first (following ∷ rest) h = ap (λ (x : Definition). x ∷ map definition_in (ended (following ∷ rest))) h
 
 -- what the text from an open piece on gives to a state
 abbrev IsCut : ScanState → List ℕ → ScanState → Type 0
-IsCut s text t = t.done ≡ s.done ++ told s.at s.current (slice_split at_semicolon text)
+IsCut s text t = t.done ≡ s.done ++ reported s.at s.current (slice_split at_semicolon text)
 
 -- ---- one byte
 line_ok : {A : Type 0} (n : ℕ) (r : Result A PartitionCause) (x : A) → on_line n r ≡ Ok x → r ≡ Ok x
@@ -71,10 +71,10 @@ goes_on s t delimiter raw rest free fresh goes other none h =
     let on : finished s.at s.current (raw ++ byte_of delimiter ∷ parts.first)
     ≡ finished (part_after s.at delimiter token) (with_piece s.current token delimiter (folded raw)) parts.first =
     stays s.at s.current s.done delimiter raw parts.first free fresh goes (faultless s delimiter token (none_there s delimiter token none)) in
-    let given = told_on s.at (part_after s.at delimiter token) s.current (with_piece s.current token delimiter (folded raw)) (raw ++ byte_of delimiter ∷ parts.first) parts.first parts.later on in
-    h ∙ ap (λ (pieces : List (List ℕ)). s.done ++ told (part_after s.at delimiter token) (with_piece s.current token delimiter (folded raw)) pieces) parts.all
+    let given = reported_on s.at (part_after s.at delimiter token) s.current (with_piece s.current token delimiter (folded raw)) (raw ++ byte_of delimiter ∷ parts.first) parts.first parts.later on in
+    h ∙ ap (λ (pieces : List (List ℕ)). s.done ++ reported (part_after s.at delimiter token) (with_piece s.current token delimiter (folded raw)) pieces) parts.all
     ∙ ap (λ (rest : List Definition). s.done ++ rest) (sym given)
-    ∙ ap (λ (pieces : List (List ℕ)). s.done ++ told s.at s.current pieces) (sym all)
+    ∙ ap (λ (pieces : List (List ℕ)). s.done ++ reported s.at s.current pieces) (sym all)
 
 -- `;` ends it
 stops : (s t : ScanState) (raw rest : List ℕ) → IsOpen raw → fault_of s Semicolon (token_of s.at (folded raw)) ≡ None
@@ -87,10 +87,10 @@ stops s t raw rest free none h =
     let all : slice_split at_semicolon (raw ++ 59 ∷ rest) ≡ raw ∷ parts.first ∷ parts.later =
     split_here at_semicolon raw rest 59 (no_semicolon raw free) refl ∙ ap (λ (pieces : List (List ℕ)). raw ∷ pieces) parts.all in
     let ended_so : finished s.at s.current raw ≡ d = ends s.at s.current s.done raw free (faultless s Semicolon token (none_there s Semicolon token none)) in
-    h ∙ append_assoc s.done (d ∷ []) (told part.Name blank (slice_split at_semicolon rest))
-    ∙ ap (λ (given : List Definition). s.done ++ d ∷ given) (told_blank (slice_split at_semicolon rest) ∙ ap (λ (pieces : List (List ℕ)). map definition_in (ended pieces)) parts.all)
+    h ∙ append_assoc s.done (d ∷ []) (reported part.Name blank (slice_split at_semicolon rest))
+    ∙ ap (λ (given : List Definition). s.done ++ d ∷ given) (reported_blank (slice_split at_semicolon rest) ∙ ap (λ (pieces : List (List ℕ)). map definition_in (ended pieces)) parts.all)
     ∙ ap (λ (e : Definition). s.done ++ e ∷ map definition_in (ended (parts.first ∷ parts.later))) (sym ended_so)
-    ∙ ap (λ (pieces : List (List ℕ)). s.done ++ told s.at s.current pieces) (sym all)
+    ∙ ap (λ (pieces : List (List ℕ)). s.done ++ reported s.at s.current pieces) (sym all)
 
 -- a delimiter, which has no fault
 next_on : (s : ScanState) (delimiter : Delimiter) (token : Token) (piece : List ℕ) → is_semicolon delimiter ≡ false
@@ -129,7 +129,7 @@ cut_after [] so_far s t free fresh h =
     let raw = since is_delimiter so_far in
     ap (λ (u : ScanState). u.done) (sym (same_ok {E = AtLine PartitionCause} s t h))
     ∙ sym (append-nil s.done)
-    ∙ ap (λ (pieces : List (List ℕ)). s.done ++ told s.at s.current pieces) (sym (ap (slice_split at_semicolon) (append-nil raw) ∙ split_nowhere at_semicolon raw (no_semicolon raw free)))
+    ∙ ap (λ (pieces : List (List ℕ)). s.done ++ reported s.at s.current pieces) (sym (ap (slice_split at_semicolon) (append-nil raw) ∙ split_nowhere at_semicolon raw (no_semicolon raw free)))
 cut_after (byte ∷ rest) so_far s t free fresh h =
     let step = bind_ok (on_line (line_after so_far) (after_byte s (piece_after so_far) byte)) (λ u. after (so_far ++ byte ∷ []) u rest) t h in
     by (delimiter_of byte) refl step.0 (line_ok (line_after so_far) (after_byte s (piece_after so_far) byte) step.0 step.1)
@@ -161,7 +161,7 @@ unfolding whole
 whole_is_cut shown definitions h =
     let read = bind_ok (after [] start shown) (λ s. on_line (line_after shown) (at_end s (piece_after shown))) definitions h in
     let done = by (is_inside (read.0).at (piece_after shown)) read.0 (line_ok (line_after shown) (at_end read.0 (piece_after shown)) definitions read.2) in
-    done ∙ cut_after shown [] start read.0 tt refl read.1 ∙ told_blank (slice_split at_semicolon shown)
+    done ∙ cut_after shown [] start read.0 tt refl read.1 ∙ reported_blank (slice_split at_semicolon shown)
   where
     by : (b : Bool) (s : ScanState) → cond b (Err Unfinished) (Ok s.done) ≡ Ok definitions → definitions ≡ s.done
     by true s there = absurd cc

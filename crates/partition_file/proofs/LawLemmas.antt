@@ -4,16 +4,16 @@ use Rattle.std.proofs.lemmas.List.{append-nil}
 use Rattle.partition_file.specs.declared.definition.Definition.{Definition}
 use Rattle.partition_file.specs.declared.fault.PartitionCause.{PartitionCause}
 use Rattle.partition_file.specs.declared.fault.PartitionCause.TheVariants.{Unfinished}
-use Rattle.result_words.specs.AtLine.{AtLine, on_line}
-use Rattle.result_words.specs.Steps.{◌>>=◌}
+use Rattle.step_results.specs.AtLine.{AtLine, on_line}
+use Rattle.step_results.specs.Steps.{◌>>=◌}
 use Rattle.partition_file.specs.Pieces.{blanked, is_commented, line_after, piece_after, without_comments}
 use Rattle.partition_file.specs.Definitions.{after, after_byte, at_end, is_inside, whole}
 use Rattle.partition_file.specs.ScanState.{ScanState, start}
 use Rattle.partition_file.specs.Partitions.{partitions_in, partitions_of}
 use Rattle.partition_file.specs.FirstFault.{HasFaultAtEnd, HasFaultInside, IsClean, is_fault_at}
 use Rattle.partition_file.specs.Laws.{CleanThroughout, EndRefuses, InsideRefuses, OnlySoRefused}
-use Rattle.result_words.proofs.StepLemmas.{bind_alike, bind_done_err, bind_refused, bind_twice, same_err}
-use Rattle.partition_file.proofs.TurnLemmas.{IsToldFor, clean_here, refused_here, told_here}
+use Rattle.step_results.proofs.StepLemmas.{bind_alike, bind_done_err, bind_refused, bind_twice, same_err}
+use Rattle.partition_file.proofs.TurnLemmas.{IsReportedFor, clean_here, refused_here, reported_here}
 
 -- ---- comments
 pub comments_by_beginning : (text : List ℕ) (n : ℕ) (inside : Bool) → take n (without_comments inside text) ≡ without_comments inside (take n text)
@@ -82,7 +82,7 @@ pub record IsFound (so_far : List ℕ) (s : ScanState) (text : List ℕ) (e : At
   pub state : ScanState
   pub cut : text ≡ before ++ byte ∷ rest
   pub clean : after so_far s before ≡ Ok state
-  pub told : IsToldFor (is_fault_at state (so_far ++ before) byte) e.cause
+  pub reported : IsReportedFor (is_fault_at state (so_far ++ before) byte) e.cause
   pub line : e.line ≡ line_after (so_far ++ before)
 
 found_first : (so_far rest : List ℕ) (s : ScanState) (byte : ℕ) (f : PartitionCause) (e : AtLine PartitionCause)
@@ -96,7 +96,7 @@ found_first so_far rest s byte f e h same = record {
   state = s;
   cut = refl;
   clean = refl;
-  told = subst (λ (d : AtLine PartitionCause). IsToldFor (is_fault_at s (so_far ++ []) byte) d.cause) same (rw (append-nil so_far) (told_here s so_far byte f h));
+  reported = subst (λ (d : AtLine PartitionCause). IsReportedFor (is_fault_at s (so_far ++ []) byte) d.cause) same (rw (append-nil so_far) (reported_here s so_far byte f h));
   line = sym (ap (λ (d : AtLine PartitionCause). d.line) same) ∙ ap line_after (sym (append-nil so_far));
 }
 
@@ -112,7 +112,7 @@ found_later so_far rest s t byte e h found =
       state = found.state;
       cut = ap (λ (xs : List ℕ). byte ∷ xs) found.cut;
       clean = ap (λ (given : Result ScanState PartitionCause). on_line (line_after so_far) given >>= λ u. after (so_far ++ byte ∷ []) u found.before) h ∙ found.clean;
-      told = subst (λ (xs : List ℕ). IsToldFor (is_fault_at found.state xs found.byte) e.cause) front found.told;
+      reported = subst (λ (xs : List ℕ). IsReportedFor (is_fault_at found.state xs found.byte) e.cause) front found.reported;
       line = found.line ∙ ap line_after front;
     }
 
@@ -130,7 +130,7 @@ found (byte ∷ rest) so_far s e h = by (after_byte s (piece_after so_far) byte)
 stopped_inside : (shown : List ℕ) (e : AtLine PartitionCause) → after [] start shown ≡ Err e → HasFaultInside shown e
 stopped_inside shown e h =
     let there : IsFound [] start shown e = found shown [] start e h in
-    record { before = there.before; byte = there.byte; rest = there.rest; state = there.state; cut = there.cut; clean = there.clean; there = there.told.there; first = there.told.first; line = there.line }
+    record { before = there.before; byte = there.byte; rest = there.rest; state = there.state; cut = there.cut; clean = there.clean; there = there.reported.there; first = there.reported.first; line = there.line }
 
 end_so : (shown : List ℕ) (e : AtLine PartitionCause) (s : ScanState) → IsClean shown s → on_line (line_after shown) (at_end s (piece_after shown)) ≡ Err e → HasFaultAtEnd shown e
 end_so shown e s clean h = by (is_inside s.at (piece_after shown)) refl h

@@ -6,15 +6,15 @@ use Rattle.std.specs.Prelude.{Option}
 use Rattle.std.proofs.lemmas.List.{take_more, take_all, drop_all, reverse-append, get_or-drop}
 use Rattle.std.proofs.lemmas.List.Sums.{take_while-cons, count_by_more_yes, count_by_more_no}
 use Rattle.partition_file.specs.declared.definition.Definition.{Definition}
-use Rattle.result_words.proofs.StepLemmas.{bind_after, bind_twice, fails_on}
+use Rattle.step_results.proofs.StepLemmas.{bind_after, bind_twice, fails_on}
 use Rattle.partition_file.specs.declared.fault.PartitionCause.{PartitionCause}
-use Rattle.result_words.specs.AtLine.{AtLine, on_line}
-use Rattle.result_words.specs.Steps.{◌>>=◌}
+use Rattle.step_results.specs.AtLine.{AtLine, on_line}
+use Rattle.step_results.specs.Steps.{◌>>=◌}
 use Rattle.text_words.specs.Lines.{is_line_end}
 use Rattle.partition_file.specs.Pieces.{folded, is_delimiter, line_after, piece_after, since}
 use Rattle.partition_file.specs.Definitions.{after, after_byte, at_end, whole}
 use Rattle.partition_file.specs.ScanState.{ScanState, start}
-use Rattle.result_words.specs.Gives.{Fails}
+use Rattle.step_results.specs.Gives.{Fails}
 
 -- ---- the piece that is open, after one more byte
 reverse_more : (text : List ℕ) (byte : ℕ) → reverse (text ++ byte ∷ []) ≡ byte ∷ reverse text
@@ -112,12 +112,12 @@ goes_on text i from number s t byte e within so_far judged = record {
   raw = raw_next text i from byte e within so_far.below so_far.raw;
 }
 
-pub stops : (told : Option (AtLine PartitionCause)) (text : List ℕ) (i from number : ℕ) (s : ScanState) (byte : ℕ) → byte ≡ get_or text i 0
+pub stops : (reported : Option (AtLine PartitionCause)) (text : List ℕ) (i from number : ℕ) (s : ScanState) (byte : ℕ) → byte ≡ get_or text i 0
     → i < length text → IsReadTo text i from number s
-    → Fails told (on_line number (after_byte s (folded (take (i - from) (drop from text))) byte)) → Fails told (whole text)
-stops told text i from number s byte e within so_far h =
-    subst (λ (given : Result (List Definition) (AtLine PartitionCause)). Fails told given) (sym (goes_so text i from number s byte e within so_far))
-    (fails_on told (on_line number (after_byte s (folded (take (i - from) (drop from text))) byte)) (λ t. after (take (i + 1) text) t (drop (i + 1) text) >>= λ u. on_line (line_after text) (at_end u (piece_after text))) h)
+    → Fails reported (on_line number (after_byte s (folded (take (i - from) (drop from text))) byte)) → Fails reported (whole text)
+stops reported text i from number s byte e within so_far h =
+    subst (λ (given : Result (List Definition) (AtLine PartitionCause)). Fails reported given) (sym (goes_so text i from number s byte e within so_far))
+    (fails_on reported (on_line number (after_byte s (folded (take (i - from) (drop from text))) byte)) (λ t. after (take (i + 1) text) t (drop (i + 1) text) >>= λ u. on_line (line_after text) (at_end u (piece_after text))) h)
 
 -- all bytes are read
 pub ends : (text : List ℕ) (i from number : ℕ) (s : ScanState) → length text ≤ i → i ≤ length text → IsReadTo text i from number s

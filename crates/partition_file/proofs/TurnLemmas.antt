@@ -1,4 +1,4 @@
--- Which fault is told for one byte: the first in turn of those that hold there.
+-- Which fault is reported for one byte: the first in turn of those that hold there.
 use Rattle.std.proofs.Common.{◌≡◌, ℕ, zero, suc, ◌+◌, ◌≤◌, Bool, true, false, cond, ◌==◌, List, [], ◌∷◌, Option, Some, None, Ok, Err, refl, sym, ap, subst, ◌∙◌, arith}
 use Rattle.std.specs.List.{find}
 use Rattle.std.proofs.lemmas.Bool.{eqb-true}
@@ -7,30 +7,30 @@ use Rattle.partition_file.specs.declared.fault.PartitionCause.{PartitionCause}
 use Rattle.partition_file.specs.declared.fault.PartitionCause.TheVariants.{BadCharacter, BadNumber, ReservedKey, UnknownFlag, BothMembership}
 use Rattle.partition_file.specs.declared.fault.PartitionCause.TheVariants.{MgidItem, TooManyPartitions, Unfinished, BadFlagValue}
 use Rattle.partition_file.specs.declared.piece.Delimiter.{Delimiter}
-use Rattle.result_words.specs.Steps.{unless}
+use Rattle.step_results.specs.Steps.{unless}
 use Rattle.partition_file.specs.Pieces.{delimiter_of, is_allowed, piece_after}
 use Rattle.partition_file.specs.Cases.{fault_of, has_fault, in_turn}
 use Rattle.partition_file.specs.declared.token.Token.{Token}
 use Rattle.partition_file.specs.Definitions.{after_byte, judged_as, judged_at, next}
 use Rattle.partition_file.specs.ScanState.{ScanState}
 use Rattle.partition_file.specs.Tokens.{token_of}
-use Rattle.result_words.proofs.StepLemmas.{unless_err, unless_ok}
+use Rattle.step_results.proofs.StepLemmas.{unless_err, unless_ok}
 use Rattle.partition_file.specs.FirstFault.{faults_of, is_fault_at, turn}
 use Rattle.partition_file.proofs.CaseLemmas.{none_there}
 
 -- ---- the first fault in turn
-abbrev told_at : ℕ → PartitionCause
-told_at zero = BothMembership
-told_at (suc zero) = MgidItem
-told_at (suc (suc zero)) = BadCharacter
-told_at (suc (suc (suc zero))) = BadNumber
-told_at (suc (suc (suc (suc zero)))) = ReservedKey
-told_at (suc (suc (suc (suc (suc zero))))) = UnknownFlag
-told_at (suc (suc (suc (suc (suc (suc zero)))))) = TooManyPartitions
-told_at (suc (suc (suc (suc (suc (suc (suc zero))))))) = Unfinished
-told_at (suc (suc (suc (suc (suc (suc (suc (suc n)))))))) = BadFlagValue
+abbrev reported_at : ℕ → PartitionCause
+reported_at zero = BothMembership
+reported_at (suc zero) = MgidItem
+reported_at (suc (suc zero)) = BadCharacter
+reported_at (suc (suc (suc zero))) = BadNumber
+reported_at (suc (suc (suc (suc zero)))) = ReservedKey
+reported_at (suc (suc (suc (suc (suc zero))))) = UnknownFlag
+reported_at (suc (suc (suc (suc (suc (suc zero)))))) = TooManyPartitions
+reported_at (suc (suc (suc (suc (suc (suc (suc zero))))))) = Unfinished
+reported_at (suc (suc (suc (suc (suc (suc (suc (suc n)))))))) = BadFlagValue
 
-by_turn : (fault : PartitionCause) → told_at (turn fault) ≡ fault
+by_turn : (fault : PartitionCause) → reported_at (turn fault) ≡ fault
 by_turn BothMembership = refl
 by_turn MgidItem = refl
 by_turn BadCharacter = refl
@@ -42,7 +42,7 @@ by_turn Unfinished = refl
 by_turn BadFlagValue = refl
 
 same_turn : (f g : PartitionCause) → turn f ≡ turn g → f ≡ g
-same_turn f g h = sym (by_turn f) ∙ ap told_at h ∙ by_turn g
+same_turn f g h = sym (by_turn f) ∙ ap reported_at h ∙ by_turn g
 
 abbrev InOrder : ℕ → List PartitionCause → Type 0
 InOrder n [] = Unit {0}
@@ -86,26 +86,26 @@ found_so holds None f h none k first = absurd (let gone = none refl in cc)
 found_so holds (Some g) f h none k first =
     ap (λ (x : PartitionCause). Some x) (both_ways g f (first_found holds in_turn 0 g f all_in_order h k (omega arith)) (first g (found_there holds in_turn g h)))
 
-told_so : (s : ScanState) (delimiter : Delimiter) (token : Token) (f : PartitionCause) → has_fault s delimiter token f ≡ true
+said_so : (s : ScanState) (delimiter : Delimiter) (token : Token) (f : PartitionCause) → has_fault s delimiter token f ≡ true
     → ((g : PartitionCause) → has_fault s delimiter token g ≡ true → turn f ≤ turn g) → fault_of s delimiter token ≡ Some f
 unfolding fault_of
-told_so s delimiter token f h first =
+said_so s delimiter token f h first =
     found_so (has_fault s delimiter token) (find (has_fault s delimiter token) in_turn) f refl (λ none. none_there s delimiter token none f) h first
 
-told_there : (s : ScanState) (delimiter : Delimiter) (token : Token) (f : PartitionCause) → fault_of s delimiter token ≡ Some f → has_fault s delimiter token f ≡ true
+reported_there : (s : ScanState) (delimiter : Delimiter) (token : Token) (f : PartitionCause) → fault_of s delimiter token ≡ Some f → has_fault s delimiter token f ≡ true
 unfolding fault_of
-told_there s delimiter token f h = found_there (has_fault s delimiter token) in_turn f h
+reported_there s delimiter token f h = found_there (has_fault s delimiter token) in_turn f h
 
-told_first : (s : ScanState) (delimiter : Delimiter) (token : Token) (f g : PartitionCause) → fault_of s delimiter token ≡ Some f
+reported_first : (s : ScanState) (delimiter : Delimiter) (token : Token) (f g : PartitionCause) → fault_of s delimiter token ≡ Some f
     → has_fault s delimiter token g ≡ true → turn f ≤ turn g
 unfolding fault_of
-told_first s delimiter token f g h k = first_found (has_fault s delimiter token) in_turn 0 f g all_in_order h k (omega arith)
+reported_first s delimiter token f g h k = first_found (has_fault s delimiter token) in_turn 0 f g all_in_order h k (omega arith)
 
 -- ---- one byte
 refused_at : (s : ScanState) (o : Option Delimiter) (allowed : Bool) (piece : List ℕ) (f : PartitionCause) → faults_of s o allowed piece f ≡ true
     → ((g : PartitionCause) → faults_of s o allowed piece g ≡ true → turn f ≤ turn g) → judged_at s o allowed piece ≡ Err f
 refused_at s (Some delimiter) allowed piece f h first =
-    ap (λ (o : Option PartitionCause). unless o (next s delimiter (token_of s.at piece) piece)) (told_so s delimiter (token_of s.at piece) f h first)
+    ap (λ (o : Option PartitionCause). unless o (next s delimiter (token_of s.at piece) piece)) (said_so s delimiter (token_of s.at piece) f h first)
 refused_at s None true piece BadCharacter h first = absurd cc
 refused_at s None false piece BadCharacter h first = refl
 refused_at s None allowed piece BadNumber h first = absurd cc
@@ -124,15 +124,15 @@ unfolding after_byte is_fault_at
 refused_here s before byte f h first = refused_at s (delimiter_of byte) (is_allowed byte) (piece_after before) f h first
 
 -- a byte that was refused has the fault, and none before it in turn
-pub record IsToldFor (holds : PartitionCause → Bool) (f : PartitionCause) : Type 0 where
+pub record IsReportedFor (holds : PartitionCause → Bool) (f : PartitionCause) : Type 0 where
   pub there : holds f ≡ true
   pub first : (g : PartitionCause) → holds g ≡ true → turn f ≤ turn g
 
-told_by : (s : ScanState) (delimiter : Delimiter) (token : Token) (piece : List ℕ) (f : PartitionCause) → judged_as s delimiter token piece ≡ Err f
-    → IsToldFor (has_fault s delimiter token) f
-told_by s delimiter token piece f h =
-    let told : fault_of s delimiter token ≡ Some f = unless_err (fault_of s delimiter token) (next s delimiter token piece) f h in
-    record { there = told_there s delimiter token f told; first = λ other k. told_first s delimiter token f other told k }
+reported_by : (s : ScanState) (delimiter : Delimiter) (token : Token) (piece : List ℕ) (f : PartitionCause) → judged_as s delimiter token piece ≡ Err f
+    → IsReportedFor (has_fault s delimiter token) f
+reported_by s delimiter token piece f h =
+    let reported : fault_of s delimiter token ≡ Some f = unless_err (fault_of s delimiter token) (next s delimiter token piece) f h in
+    record { there = reported_there s delimiter token f reported; first = λ other k. reported_first s delimiter token f other reported k }
 
 only_character : (s : ScanState) (piece : List ℕ) (g : PartitionCause) → faults_of s None false piece g ≡ true → turn BadCharacter ≤ turn g
 only_character s piece BadCharacter h = omega arith
@@ -145,19 +145,19 @@ only_character s piece TooManyPartitions h = absurd cc
 only_character s piece Unfinished h = absurd cc
 only_character s piece BadFlagValue h = absurd cc
 
-told_at_byte : (s : ScanState) (o : Option Delimiter) (allowed : Bool) (piece : List ℕ) (f : PartitionCause) → judged_at s o allowed piece ≡ Err f
-    → IsToldFor (faults_of s o allowed piece) f
-told_at_byte s (Some delimiter) allowed piece f h = told_by s delimiter (token_of s.at piece) piece f h
-told_at_byte s None true piece f h = absurd cc
-told_at_byte s None false piece f h =
+reported_at_byte : (s : ScanState) (o : Option Delimiter) (allowed : Bool) (piece : List ℕ) (f : PartitionCause) → judged_at s o allowed piece ≡ Err f
+    → IsReportedFor (faults_of s o allowed piece) f
+reported_at_byte s (Some delimiter) allowed piece f h = reported_by s delimiter (token_of s.at piece) piece f h
+reported_at_byte s None true piece f h = absurd cc
+reported_at_byte s None false piece f h =
     let same : BadCharacter ≡ f = grind arith in
-    subst (λ (g : PartitionCause). IsToldFor (faults_of s None false piece) g) same (record { there = refl; first = λ g k. only_character s piece g k })
+    subst (λ (g : PartitionCause). IsReportedFor (faults_of s None false piece) g) same (record { there = refl; first = λ g k. only_character s piece g k })
 
-pub told_here : (s : ScanState) (before : List ℕ) (byte : ℕ) (f : PartitionCause) → after_byte s (piece_after before) byte ≡ Err f → IsToldFor (is_fault_at s before byte) f
+pub reported_here : (s : ScanState) (before : List ℕ) (byte : ℕ) (f : PartitionCause) → after_byte s (piece_after before) byte ≡ Err f → IsReportedFor (is_fault_at s before byte) f
 unfolding after_byte is_fault_at
-told_here s before byte f h =
-    let told = told_at_byte s (delimiter_of byte) (is_allowed byte) (piece_after before) f h in
-    record { there = told.there; first = told.first }
+reported_here s before byte f h =
+    let reported = reported_at_byte s (delimiter_of byte) (is_allowed byte) (piece_after before) f h in
+    record { there = reported.there; first = reported.first }
 
 no_character : (s : ScanState) (piece : List ℕ) (g : PartitionCause) → faults_of s None true piece g ≡ false
 no_character s piece BadCharacter = refl

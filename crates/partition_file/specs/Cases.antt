@@ -109,7 +109,7 @@ has_fault s delimiter token TooManyPartitions = is_one_too_many s.at delimiter (
 has_fault s delimiter token Unfinished = is_unfinished s.at delimiter
 has_fault s delimiter token BadFlagValue = is_bad_flag_value token delimiter s.current.flags
 
--- of several, the first in this order is told
+-- of several, the first in this order is reported
 abbrev pub in_turn : List PartitionCause
 in_turn =
     BothMembership ∷ MgidItem ∷ BadCharacter ∷ BadNumber ∷ ReservedKey ∷ UnknownFlag ∷ TooManyPartitions ∷ Unfinished ∷ BadFlagValue ∷ []

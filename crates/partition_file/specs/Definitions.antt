@@ -8,8 +8,8 @@ use Rattle.partition_file.specs.declared.definition_part.Part.{Part}
 use Rattle.partition_file.specs.declared.definition_part.Part.TheVariants as part
 use Rattle.partition_file.specs.declared.item.Ports.{Ports}
 use Rattle.partition_file.specs.declared.definition.Definition.{Definition}
-use Rattle.result_words.specs.AtLine.{AtLine, on_line}
-use Rattle.result_words.specs.Steps.{◌>>=◌, unless}
+use Rattle.step_results.specs.AtLine.{AtLine, on_line}
+use Rattle.step_results.specs.Steps.{◌>>=◌, unless}
 use Rattle.partition_file.specs.Pieces.{without_comments, is_allowed, delimiter_of, is_equals, is_semicolon, piece_after, line_after}
 use Rattle.partition_file.specs.Flags.{with_flag, with_setting, is_full_by_default}
 use Rattle.partition_file.specs.declared.token.Token.{Token}
@@ -57,7 +57,7 @@ next s delimiter token piece = moved s delimiter token (with_piece s.current tok
 abbrev pub judged_as : ScanState → Delimiter → Token → List ℕ → Result ScanState PartitionCause
 judged_as s delimiter token piece = unless (fault_of s delimiter token) (next s delimiter token piece)
 
--- what the piece says is told by the part that it is
+-- what the piece says is reported by the part that it is
 abbrev pub judged : ScanState → Delimiter → List ℕ → Result ScanState PartitionCause
 judged s delimiter piece = judged_as s delimiter (token_of s.at piece) piece
 

@@ -1,8 +1,5 @@
--- The faults of a partition file: their codes, and what the error of its reader tells.
-use Rattle.std.specs.Prelude.{ℕ, List, codes, Option, Some, None}
-use Rattle.result_words.specs.AtLine.{AtLine}
-use Rattle.partition_file.specs.declared.fault.PartFault.{PartFault}
-use Rattle.partition_file.specs.declared.fault.PartFault.TheVariants.{NoMemory, At}
+-- The codes of the faults of a partition file.
+use Rattle.std.specs.Prelude.{ℕ, List, codes}
 use Rattle.partition_file.specs.declared.fault.PartitionCause.{PartitionCause}
 use Rattle.partition_file.specs.declared.fault.PartitionCause.TheVariants.{BadCharacter, BadNumber, ReservedKey, UnknownFlag, BothMembership}
 use Rattle.partition_file.specs.declared.fault.PartitionCause.TheVariants.{MgidItem, TooManyPartitions, Unfinished, BadFlagValue}
@@ -17,8 +14,3 @@ code_of MgidItem = codes "PF6"
 code_of TooManyPartitions = codes "PF7"
 code_of Unfinished = codes "PF8"
 code_of BadFlagValue = codes "PF9"
-
--- what is wrong with the text, if the error tells it; none where memory was refused
-abbrev pub fault_in : PartFault → Option (AtLine PartitionCause)
-fault_in NoMemory = None
-fault_in (At number cause) = Some (record { line = number; cause = cause })

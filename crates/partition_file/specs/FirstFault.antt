@@ -1,11 +1,11 @@
 -- Which fault a partition text is refused for: that of its shortest beginning at whose last place a fault is. The end is
--- a place of the whole text alone; of several faults at one place the first in turn is told.
+-- a place of the whole text alone; of several faults at one place the first in turn is reported.
 use Rattle.std.specs.Prelude.{ℕ, ◌≡◌, ◌≤◌, Bool, true, false, not, List, [], ◌∷◌, ◌++◌, Option, Some, None, Ok}
 use Rattle.partition_file.specs.declared.fault.PartitionCause.{PartitionCause}
 use Rattle.partition_file.specs.declared.fault.PartitionCause.TheVariants.{BadCharacter, BadNumber, ReservedKey, UnknownFlag, BothMembership}
 use Rattle.partition_file.specs.declared.fault.PartitionCause.TheVariants.{MgidItem, TooManyPartitions, Unfinished, BadFlagValue}
 use Rattle.partition_file.specs.declared.piece.Delimiter.{Delimiter}
-use Rattle.result_words.specs.AtLine.{AtLine}
+use Rattle.step_results.specs.AtLine.{AtLine}
 use Rattle.partition_file.specs.Pieces.{delimiter_of, is_allowed, line_after, piece_after}
 use Rattle.partition_file.specs.Cases.{has_fault}
 use Rattle.partition_file.specs.Definitions.{after, is_inside}

@@ -2,7 +2,7 @@
 use Rattle.std.specs.Prelude.{ℕ, ◌≡◌, ◌⊎◌, false, All, List, ◌∷◌, ◌++◌, filter_map, take, Ok, Err}
 use Rattle.pkey_rules.specs.KeyTable.{find_base}
 use Rattle.pkey_rules.specs.declared.end_port.EndPort.{EndPort}
-use Rattle.result_words.specs.AtLine.{AtLine}
+use Rattle.step_results.specs.AtLine.{AtLine}
 use Rattle.partition_file.specs.declared.definition.Definition.{Definition}
 use Rattle.partition_file.specs.declared.fault.PartitionCause.{PartitionCause}
 use Rattle.partition_file.specs.declared.partition.Partition.{Partition}
@@ -16,7 +16,7 @@ use Rattle.partition_file.specs.Partitions.{partitions_in, partitions_of}
 use Rattle.partition_file.specs.Sound.{AreSound, IsSound}
 
 -- ---- which fault a text is refused for
--- the fault of a byte after a clean beginning is told, whatever follows the byte
+-- the fault of a byte after a clean beginning is reported, whatever follows the byte
 abbrev pub InsideRefuses : Type 0
 InsideRefuses = (text : List ℕ) (e : AtLine PartitionCause) → HasFaultInside (without_comments false text) e → partitions_of text ≡ Err e
 
@@ -51,7 +51,7 @@ GeneratedBasesAreFree = (definitions : List Definition) → AreSound definitions
     → AllGetFree (filter_map (λ definition. definition.base) definitions) definitions
 
 -- among all its keys a port has of each partition's base the key that it has in that partition, and none of it where it is
--- no member: so its keys tell of which partitions it is a member, and how
-abbrev pub KeysTellMembership : Type 0
-KeysTellMembership = (partitions : List Partition) (port : EndPort) → IsSound partitions
+-- no member: so its keys report of which partitions it is a member, and how
+abbrev pub KeysReportMembership : Type 0
+KeysReportMembership = (partitions : List Partition) (port : EndPort) → IsSound partitions
     → All (λ partition. find_base partition.base (keys_in partitions port) ≡ key_in port partition) partitions

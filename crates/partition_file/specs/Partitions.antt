@@ -9,9 +9,9 @@ use Rattle.partition_file.specs.declared.flag.Flags.{Flags}
 use Rattle.partition_file.specs.declared.definition.Definition.{Definition}
 use Rattle.partition_file.specs.declared.broadcast_group.BroadcastGroup.{BroadcastGroup}
 use Rattle.partition_file.specs.declared.partition.Partition.{Partition}
-use Rattle.result_words.specs.AtLine.{AtLine}
+use Rattle.step_results.specs.AtLine.{AtLine}
 use Rattle.partition_file.specs.declared.fault.PartitionCause.{PartitionCause}
-use Rattle.result_words.specs.Steps.{◌>>=◌}
+use Rattle.step_results.specs.Steps.{◌>>=◌}
 use Rattle.partition_file.specs.Counting.{has_base, with_base}
 use Rattle.partition_file.specs.Definitions.{definitions_of}
 

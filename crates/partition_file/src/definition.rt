@@ -141,7 +141,7 @@ impl DefinitionList {
         self.bases.len() + self.unnamed + further(&self.bases, base)
     }
 
-    /// Adds a definition at the end. Memory alone can be refused, and then the list stays as it was.
+    /// Adds a definition at the end. It can only run out of memory, and then the list stays as it was.
     pub(crate) fn push(&mut self, definition: Definition) -> Result<(), AllocError>
         requires valid { is_sound_base definition.base ≡ true }
         requires flags { are_within definition.flags ≡ true }

@@ -3,7 +3,7 @@
 ghost use Rattle.std.specs.Prelude.{◌≡◌};
 ghost use Rattle.partition_file.specs.Fault.{code_of};
 
-use std::alloc::{AllocError, AllocFailed};
+use step_results::TextFault;
 use thiserror::Error;
 
 /// What is wrong at a place of the text.
@@ -59,39 +59,4 @@ impl PartitionCause {
 }
 
 /// Why a partition file was not read.
-#[derive(Clone, Copy, Debug, PartialEq, Eq, Error)]
-pub enum PartFault {
-    /// Memory was refused.
-    #[error("out of memory")]
-    NoMemory,
-    /// The first fault of the text.
-    #[error("line {line}: {cause}")]
-    At {
-        /// The line of the fault's place, counted from 1.
-        line: usize,
-        /// What is wrong there.
-        cause: PartitionCause,
-    },
-}
-
-impl From<AllocError> for PartFault {
-    ghost use Rattle.std.specs.Prelude.{◌≡◌};
-    ghost use Rattle.partition_file.specs.declared.fault.PartFault.TheVariants.{NoMemory};
-
-    ghost from_gives = { λ _ e. e ≡ NoMemory };
-
-    fn from(_error: AllocError) -> PartFault {
-        PartFault::NoMemory
-    }
-}
-
-impl<T: Drop> From<AllocFailed<T>> for PartFault {
-    ghost use Rattle.std.specs.Prelude.{◌≡◌};
-    ghost use Rattle.partition_file.specs.declared.fault.PartFault.TheVariants.{NoMemory};
-
-    ghost from_gives = { λ _ e. e ≡ NoMemory };
-
-    fn from(_error: AllocFailed<T>) -> PartFault {
-        PartFault::NoMemory
-    }
-}
+pub type PartFault = TextFault<PartitionCause>;

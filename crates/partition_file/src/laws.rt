@@ -2,7 +2,7 @@
 //! theorems.
 
 ghost use Rattle.partition_file.specs.Laws.{GeneratedBasesAreFree};
-ghost use Rattle.partition_file.specs.Laws.{KeysTellMembership, TextsAreCut};
+ghost use Rattle.partition_file.specs.Laws.{KeysReportMembership, TextsAreCut};
 ghost use Rattle.partition_file.specs.Laws.{CleanThroughout, CommentsByBeginning, EndRefuses, InsideRefuses, OnlySoRefused};
 
 /// Which fault a partition text is refused for, as a law over the definitions that [`read`] meets.
@@ -15,7 +15,7 @@ ghost use Rattle.partition_file.specs.Laws.{CleanThroughout, CommentsByBeginning
 ///
 /// [`read`]: crate::read
 pub fn texts_are_refused_for_their_first_fault()
-    // The fault of a byte after a clean beginning is told, whatever follows.
+    // The fault of a byte after a clean beginning is reported, whatever follows.
     ensures inside { InsideRefuses }
     // So is the fault of the end.
     ensures end { EndRefuses }
@@ -51,6 +51,6 @@ pub fn generated_bases_are_free()
 /// theorem.
 ///
 /// [`members`]: crate::members
-pub fn keys_tell_membership()
-    ensures { KeysTellMembership }
+pub fn keys_report_membership()
+    ensures { KeysReportMembership }
 {}

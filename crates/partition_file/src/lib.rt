@@ -34,7 +34,7 @@ pub use crate::fault::{PartFault, PartitionCause};
 pub use crate::heading::Heading;
 pub use crate::item::{Item, ItemList, Ports};
 pub use crate::laws::{
-    generated_bases_are_free, keys_tell_membership, partitions_are_cut_from_the_text,
+    generated_bases_are_free, keys_report_membership, partitions_are_cut_from_the_text,
     texts_are_refused_for_their_first_fault,
 };
 pub use crate::member_keys::Members;

@@ -7,7 +7,7 @@ ghost use Rattle.partition_file.specs.Numbers.{are_digits, has_leading_zero, is_
 
 use text_words::number_in;
 
-/// Whether a word spells a number, of whatever size: decimal digits, of which several do not begin
+/// Whether a word encodes a number, of whatever size: decimal digits, of which several do not begin
 /// with 0, or `0x` and hexadecimal digits of either case.
 pub(crate) fn is_number(word: &[u8]) -> bool
     ensures { result ≡ is_number word.now }
@@ -48,7 +48,7 @@ fn has_leading_zero(digits: &[u8]) -> bool
     digits.len() > 1 && digits.starts_with(b"0")
 }
 
-/// The number that a word spells, if it is at most `top`.
+/// The number that a word encodes, if it is at most `top`.
 pub(crate) fn number_up_to(top: u64, word: &[u8]) -> Option<u64>
     ensures value { result ≡ number_up_to top word.now }
     ensures within { IfSome result (λ number. number ≤ top) }

@@ -2,9 +2,8 @@
 
 ghost use Rattle.std.specs.Prelude.{◌≡◌, IfOk};
 ghost use Rattle.partition_file.specs.Definitions.{definitions_of};
-ghost use Rattle.partition_file.specs.Fault.{fault_in};
 ghost use Rattle.partition_file.specs.Partitions.{partitions_of};
-ghost use Rattle.result_words.specs.Gives.{Gives};
+ghost use Rattle.step_results.specs.TextGives.{TextGives};
 
 use crate::definition::DefinitionList;
 use crate::fault::PartFault;
@@ -15,7 +14,7 @@ use crate::scan::Scan;
 use std::alloc::Global;
 
 fn definitions_of(alloc: Global, text: &[u8]) -> Result<DefinitionList, PartFault>
-    ensures { Gives fault_in (λ definitions. definitions) result (definitions_of text.now) }
+    ensures { TextGives (λ definitions. definitions) result (definitions_of text.now) }
 {
     let shown = without_comments(alloc, text)?;
     let shown = shown.as_slice();
@@ -41,7 +40,7 @@ fn definitions_of(alloc: Global, text: &[u8]) -> Result<DefinitionList, PartFaul
 /// and, for merging, in the number of definitions times that of partitions.
 #[tactic(auto, unfolding(crate::specs::Partitions::partitions_of))]
 pub fn read(alloc: Global, text: &[u8]) -> Result<Partitions, PartFault>
-    ensures { Gives fault_in (λ partitions. partitions) result (partitions_of text.now) }
+    ensures { TextGives (λ partitions. partitions) result (partitions_of text.now) }
 {
     let definitions = definitions_of(alloc, text)?;
     let partitions = partitions_in(alloc, definitions.as_slice())?;

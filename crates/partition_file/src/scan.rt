@@ -1,15 +1,14 @@
 //! The text so far, as it is gone through byte by byte.
 
 ghost use Rattle.std.specs.Prelude.{◌≡◌, ◌≤◌, ◌<◌, true, None, IfOk, OnOk, OnErr};
-ghost use Rattle.partition_file.specs.Fault.{fault_in};
-ghost use Rattle.result_words.specs.AtLine.{on_line};
+ghost use Rattle.step_results.specs.AtLine.{on_line};
 ghost use Rattle.partition_file.specs.Pieces.{folded};
 ghost use Rattle.partition_file.specs.Cases.{fault_of, is_one_too_many, base_here};
 ghost use Rattle.partition_file.specs.Counting.{bases_given};
 ghost use Rattle.partition_file.specs.Definitions.{after_byte, at_end, next, with_item, with_piece};
 ghost use Rattle.partition_file.specs.ScanState.{start};
 ghost use Rattle.partition_file.specs.Tokens.{token_of};
-ghost use Rattle.result_words.specs.Gives.{Gives};
+ghost use Rattle.step_results.specs.TextGives.{TextGives};
 
 use crate::definition::{Definition, DefinitionList, PartitionName};
 use crate::definition_part::Part;
@@ -175,7 +174,7 @@ impl Scan {
         raw: &[u8],
         byte: u8,
     ) -> Result<(), PartFault>
-        ensures { Gives fault_in (λ _. self.new) result (on_line line (after_byte self.old (folded raw.now) byte)) }
+        ensures { TextGives (λ _. self.new) result (on_line line (after_byte self.old (folded raw.now) byte)) }
     {
         let Some(delimiter) = delimiter_of(byte) else {
             if is_allowed(byte) {
@@ -202,7 +201,7 @@ impl Scan {
         line: usize,
         raw: &[u8],
     ) -> Result<DefinitionList, PartFault>
-        ensures { Gives fault_in (λ definitions. definitions) result (on_line line (at_end self (folded raw.now))) }
+        ensures { TextGives (λ definitions. definitions) result (on_line line (at_end self (folded raw.now))) }
     {
         let piece = folded(alloc, raw)?;
         if self.part.is_inside(&piece) {

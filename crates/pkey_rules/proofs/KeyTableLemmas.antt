@@ -4,8 +4,8 @@ use Rattle.std.specs.List.{IsDistinct, list_any}
 use Rattle.std.proofs.lemmas.Map.Keys.{IsDistinct-push}
 use Rattle.std.proofs.lemmas.Cmp.{nat_eq_equiv, on_equiv}
 use Rattle.std.proofs.lemmas.Bool.{and_parts, and_from, or_cases, or_left, or_right, eq-eqb, eqb-true, cases_Bool}
-use Rattle.result_words.proofs.ListLemmas.{list_any_weaker}
-use Rattle.result_words.proofs.TestLemmas.{same_either_way}
+use Rattle.step_results.proofs.ListLemmas.{list_any_weaker}
+use Rattle.step_results.proofs.TestLemmas.{same_either_way}
 use Rattle.pkey_rules.specs.PKey.{base_of, matches}
 use Rattle.pkey_rules.specs.KeyTable.{accepts, holds, has_base, same_base, shares, shares_base, SomeSharedBase}
 

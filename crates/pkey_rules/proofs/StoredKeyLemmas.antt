@@ -1,4 +1,4 @@
--- What a stored key table accepts and holds is told by the first word of the base.
+-- What a stored key table accepts and holds is reported by the first word of the base.
 use Rattle.std.proofs.Common.{◌≡◌, ◌≢◌, ℕ, zero, suc, ◌==◌, ◌&&◌, ◌||◌, ◌∙◌, ap, refl, sym, Bool, true, false, not, if◌then◌else◌, List, [], ◌∷◌, ◌++◌}
 use Rattle.std.proofs.Common.{replicate, find, Option, Some, arith}
 use Rattle.std.specs.List.{AllByRecursion, filter, list_any}
@@ -79,18 +79,18 @@ matches_of key held is = eqb-true (base_of held) (base_of key) (and_parts (base_
 same_of : (key : ℕ) → OfBase (base_of key) (λ held. held == key)
 same_of key held is = ap base_of (eqb-true held key is)
 
-pub accepted : (key base : ℕ) (words : List ℕ) (found : Option ℕ) (told : Bool) → base ≡ base_of key → base ≢ 0
-    → found ≡ find (λ word. base_of word == base) words → told ≡ option_map_or (λ held. matches held key) found false
-    → told ≡ accepts key (stored_keys words)
-accepted key base words found told is some there so =
+pub accepted : (key base : ℕ) (words : List ℕ) (found : Option ℕ) (reported : Bool) → base ≡ base_of key → base ≢ 0
+    → found ≡ find (λ word. base_of word == base) words → reported ≡ option_map_or (λ held. matches held key) found false
+    → reported ≡ accepts key (stored_keys words)
+accepted key base words found reported is some there so =
     so
     ∙ ap (λ (one : Option ℕ). option_map_or (λ held. matches held key) one false) there
     ∙ sym (any_by_base base (λ held. matches held key) words (λ held h. matches_of key held h ∙ sym is) some)
 
-pub held : (key base : ℕ) (words : List ℕ) (found : Option ℕ) (told : Bool) → base ≡ base_of key → base ≢ 0
-    → found ≡ find (λ word. base_of word == base) words → told ≡ option_map_or (λ held. held == key) found false
-    → told ≡ holds key (stored_keys words)
-held key base words found told is some there so =
+pub held : (key base : ℕ) (words : List ℕ) (found : Option ℕ) (reported : Bool) → base ≡ base_of key → base ≢ 0
+    → found ≡ find (λ word. base_of word == base) words → reported ≡ option_map_or (λ held. held == key) found false
+    → reported ≡ holds key (stored_keys words)
+held key base words found reported is some there so =
     so
     ∙ ap (λ (one : Option ℕ). option_map_or (λ held. held == key) one false) there
     ∙ sym (any_by_base base (λ held. held == key) words (λ held h. same_of key held h ∙ sym is) some)

@@ -12,7 +12,7 @@ const BASE_BITS: u16 = 0x7fff;
 /// The top bit of a P_Key: its holder is a full member.
 const FULL_MEMBER: u16 = 0x8000;
 
-/// How many partitions the low 15 bits of a P_Key can tell apart, 0 counted, which is none.
+/// How many partitions the low 15 bits of a P_Key can distinguish, 0 counted, which is none.
 pub const BASES: u16 = 0x8000;
 
 /// The base of the default partition, in which every port starts.
@@ -61,7 +61,7 @@ impl Model for PKey {
 pub struct InvalidBase;
 
 impl PKey {
-    /// The key that these 16 bits spell; an error where the base is 0.
+    /// The key that these 16 bits encode; an error where the base is 0.
     pub fn new(bits: u16) -> Result<PKey, InvalidBase>
         ensures valid { IsOk result ↔ (base_of bits ≢ 0) }
         ensures value { IfOk result (λ key. key ≡ bits) }
@@ -74,7 +74,7 @@ impl PKey {
 
     /// The key that a full or a limited member holds in the partition of this base; an error where
     /// the base is 0 or has more than 15 bits.
-    #[tactic(auto, using(crate::proofs::PKeyLemmas::key_has_base, crate::proofs::PKeyLemmas::key_tells_membership))]
+    #[tactic(auto, using(crate::proofs::PKeyLemmas::key_has_base, crate::proofs::PKeyLemmas::key_reports_membership))]
     pub fn of_base(base: u16, full: bool) -> Result<PKey, InvalidBase>
         ensures valid { IsOk result ↔ (is_base base ≡ true) }
         ensures value { IfOk result (λ key. key ≡ key_of base full) }

@@ -13,7 +13,7 @@ use Rattle.fabric_parts.specs.declared.node_type.NodeType.TheVariants.{ChannelAd
 use Rattle.pkey_rules.specs.declared.key_table.TheConstants.{PARTITIONS}
 use Rattle.agent_rules.specs.PortSetting.{port_info_after, port_setting}
 use Rattle.agent_rules.specs.Request.{attribute_asked, data_of, modifier_of}
-use Rattle.result_words.proofs.StepLemmas.{bind_done, let_through}
+use Rattle.step_results.proofs.StepLemmas.{bind_done, let_through}
 use Rattle.agent_rules.proofs.GivenLemmas.{whole_is, words_are}
 use Rattle.agent_rules.proofs.GoodLemmas.{new_info_good, new_keys_good, settings_keep_good, words_keep}
 use Rattle.agent_rules.proofs.GuardLemmas.{passed, taken_ok}

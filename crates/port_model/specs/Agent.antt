@@ -7,7 +7,7 @@ use Rattle.fabric_parts.specs.declared.node_type.NodeType.TheVariants.{ChannelAd
 use Rattle.attr_tables.specs.declared.smp_attribute.SmpAttribute.{SmpAttribute}
 use Rattle.attr_tables.specs.declared.smp_attribute.SmpAttribute.TheVariants.{NodeDescription, NodeInfo, SwitchInfo, PortInfo, PKeyTable}
 use Rattle.attr_tables.specs.declared.smp_attribute.SmpAttribute.TheVariants.{LinearForwardingTable, MulticastForwardingTable}
-use Rattle.result_words.specs.Steps.{◌>>=◌}
+use Rattle.step_results.specs.Steps.{◌>>=◌}
 use Rattle.agent_rules.specs.Agent.{after, reply_of, shown_at, whole, word_block, set_word_block}
 use Rattle.attr_tables.specs.NodeInfo.{node_info_bytes}
 use Rattle.attr_tables.specs.PortInfo.{port_info_bytes}

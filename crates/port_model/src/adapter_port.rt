@@ -89,7 +89,7 @@ impl AdapterPort {
         ensures held { self.new ≡ agent_after self.old smp.old }
         ensures kept { KeepsRest smp.old smp.new }
         ensures refused { result ≡ true → field smp.new 33 15 ≢ 0 → self.new ≡ self.old }
-        ensures spelled { result ≡ true → IfOk (answer get set self.old smp.old) IsAttribute }
+        ensures encoded { result ≡ true → IfOk (answer get set self.old smp.old) IsAttribute }
     {
         if !is_request(smp) {
             return false;

@@ -15,31 +15,12 @@ use Rattle.port_shares.proofs.ShareLemmas.{any_kept, in_range, is_shared_base}
 use Rattle.port_shares.specs.Found.{share_of}
 use Rattle.port_shares.specs.Laws.{NearIsToShare, is_of_both}
 use Rattle.port_shares.specs.Shares.{pair_shares, shared_bases, shares}
-use Rattle.result_words.proofs.ListLemmas.{any_none, any_flat}
+use Rattle.step_results.proofs.ListLemmas.{any_flat, any_none, any_or, any_turned}
 
 -- ---- some of a list
 pub same_any : {X : Type 0} (f g : X → Bool) → ((x : X) → f x ≡ g x) → (xs : List X) → list_any f xs ≡ list_any g xs
 same_any f g same [] = refl
 same_any f g same (x ∷ xs) = rw (same x, same_any f g same xs) refl
-
-four : (a b c d : Bool) → ((a || b) || (c || d)) ≡ ((a || c) || (b || d))
-four true b true d = refl
-four true b false d = refl
-four false true true d = refl
-four false true false d = refl
-four false false true d = refl
-four false false false d = refl
-
-any_or : {X : Type 0} (f g : X → Bool) (xs : List X) → list_any (λ x. f x || g x) xs ≡ (list_any f xs || list_any g xs)
-any_or f g [] = refl
-any_or f g (x ∷ xs) = rw (any_or f g xs) (four (f x) (g x) (list_any f xs) (list_any g xs))
-
--- some two are so, whichever is asked first
-any_turned : {X Y : Type 0} (r : X → Y → Bool) (xs : List X) (ys : List Y)
-    → list_any (λ x. list_any (λ y. r x y) ys) xs ≡ list_any (λ y. list_any (λ x. r x y) xs) ys
-any_turned r [] ys = sym (any_none ys)
-any_turned r (x ∷ xs) ys =
-    rw (any_turned r xs ys) (sym (any_or (λ y. r x y) (λ y. list_any (λ x. r x y) xs) ys))
 
 -- ---- two ports and their shares
 keys_turned : (ps qs : List ℕ) → keys_share ps qs ≡ keys_share qs ps

@@ -9,8 +9,8 @@ use Rattle.std.proofs.lemmas.Grind.{flat_map-append}
 use Rattle.std.proofs.lemmas.List.Elements.{filter-append}
 use Rattle.std.proofs.lemmas.List.Folds.{flat_map-map}
 use Rattle.std.proofs.lemmas.List.Kept.{IsStrictlyIncreasing-filter}
-use Rattle.result_words.proofs.ListLemmas.{list_any_weaker}
-use Rattle.result_words.proofs.RisingLemmas.{rises, same_rising}
+use Rattle.step_results.proofs.ListLemmas.{list_any_weaker}
+use Rattle.step_results.proofs.RisingLemmas.{rises, same_rising}
 use Rattle.pkey_rules.specs.KeyTable.{shares_base}
 use Rattle.pkey_rules.specs.PKey.{base_of, is_full, matches}
 use Rattle.subnet_model.specs.declared.subnet_port.SubnetPort.{SubnetPort}
@@ -129,36 +129,36 @@ kept_by false f p same [] = refl
 kept_by true f p same (x ∷ xs) = rw (same x, kept_by true f p same xs) refl
 kept_by false f p same (x ∷ xs) = rw (same x, kept_by false f p same xs) refl
 
-abbrev is_told : Option ℕ → Share → Bool
-is_told asked share = is_asked asked share.first share.second
+abbrev is_reported : Option ℕ → Share → Bool
+is_reported asked share = is_asked asked share.first share.second
 
 lines_if : (b : Bool) (all : List Share) → (if b then flat_map share_line all else []) ≡ flat_map share_line (if b then all else [])
 lines_if true all = refl
 lines_if false all = refl
 
-asked_alike : (asked : Option ℕ) (p q : SubnetPort) → asked_text asked p q ≡ flat_map share_line (filter (is_told asked) (pair_shares p q))
+asked_alike : (asked : Option ℕ) (p q : SubnetPort) → asked_text asked p q ≡ flat_map share_line (filter (is_reported asked) (pair_shares p q))
 asked_alike asked p q =
     lines_if (is_asked asked p q) (pair_shares p q)
-    ∙ ap (flat_map share_line) (sym (kept_by (is_asked asked p q) (share_of p q) (is_told asked) (λ base. refl) (shared_bases p.keys q.keys)))
+    ∙ ap (flat_map share_line) (sym (kept_by (is_asked asked p q) (share_of p q) (is_reported asked) (λ base. refl) (shared_bases p.keys q.keys)))
 
 others_alike : (asked : Option ℕ) (p : SubnetPort) (others : List SubnetPort)
-    → flat_map (asked_text asked p) others ≡ flat_map share_line (filter (is_told asked) (flat_map (pair_shares p) others))
+    → flat_map (asked_text asked p) others ≡ flat_map share_line (filter (is_reported asked) (flat_map (pair_shares p) others))
 others_alike asked p [] = refl
 others_alike asked p (q ∷ others) =
     let rest = flat_map (pair_shares p) others in
     ap (λ text. text ++ flat_map (asked_text asked p) others) (asked_alike asked p q)
-    ∙ ap (λ text. flat_map share_line (filter (is_told asked) (pair_shares p q)) ++ text) (others_alike asked p others)
-    ∙ sym (flat_map-append share_line (filter (is_told asked) (pair_shares p q)) (filter (is_told asked) rest))
-    ∙ ap (flat_map share_line) (sym (filter-append (is_told asked) (pair_shares p q) rest))
+    ∙ ap (λ text. flat_map share_line (filter (is_reported asked) (pair_shares p q)) ++ text) (others_alike asked p others)
+    ∙ sym (flat_map-append share_line (filter (is_reported asked) (pair_shares p q)) (filter (is_reported asked) rest))
+    ∙ ap (flat_map share_line) (sym (filter-append (is_reported asked) (pair_shares p q) rest))
 
 pub all_alike : (asked : Option ℕ) (ports : List SubnetPort) → found_text asked ports ≡ shares_text asked ports
 all_alike asked [] = refl
 all_alike asked (p ∷ ports) =
     let here = flat_map (pair_shares p) ports in
     ap (λ text. text ++ found_text asked ports) (others_alike asked p ports)
-    ∙ ap (λ text. flat_map share_line (filter (is_told asked) here) ++ text) (all_alike asked ports)
-    ∙ sym (flat_map-append share_line (filter (is_told asked) here) (filter (is_told asked) (shares ports)))
-    ∙ ap (flat_map share_line) (sym (filter-append (is_told asked) here (shares ports)))
+    ∙ ap (λ text. flat_map share_line (filter (is_reported asked) here) ++ text) (all_alike asked ports)
+    ∙ sym (flat_map-append share_line (filter (is_reported asked) here) (filter (is_reported asked) (shares ports)))
+    ∙ ap (flat_map share_line) (sym (filter-append (is_reported asked) here (shares ports)))
 
 -- ---- the loop over the ports
 pub text_more : (asked : Option ℕ) (old new whole : List ℕ) (rest others : List SubnetPort) (p : SubnetPort) → rest ≡ p ∷ others

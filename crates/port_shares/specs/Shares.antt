@@ -2,7 +2,8 @@
 use Rattle.std.specs.Prelude.{ℕ, Bool, true, ◌==◌, ◌||◌, List, [], ◌∷◌, ◌++◌, Option, Some, None, codes, filter, map}
 use Rattle.std.specs.List.{flat_map, range_with_len}
 use Rattle.std.specs.Int.{w16, to_be_bytes}
-use Rattle.line_parts.specs.Parts.{hex_text, port_text}
+use Rattle.line_parts.specs.Ports.{port_text}
+use Rattle.text_parts.specs.Parts.{hex_text}
 use Rattle.pkey_rules.specs.KeyTable.{shares_base}
 use Rattle.subnet_model.specs.declared.subnet_port.SubnetPort.{SubnetPort}
 

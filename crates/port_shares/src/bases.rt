@@ -9,7 +9,7 @@ ghost use Rattle.port_shares.specs.Found.{AreBases};
 use pkey_rules::PKey;
 use std::alloc::{AllocError, Global};
 
-/// The bases of the keys of a port, each once, rising. Memory alone can be refused.
+/// The bases of the keys of a port, each once, rising. It can only run out of memory.
 pub(crate) fn bases_of(alloc: Global, keys: &[PKey]) -> Result<Vec<u16>, AllocError>
     ensures { IfOk result (λ bases. AreBases keys.now bases.items) }
 {
@@ -17,7 +17,7 @@ pub(crate) fn bases_of(alloc: Global, keys: &[PKey]) -> Result<Vec<u16>, AllocEr
     Ok(rising(bases))
 }
 
-/// The bases of the keys of either list, each once, rising. Memory alone can be refused.
+/// The bases of the keys of either list, each once, rising. It can only run out of memory.
 pub fn bases_of_both(alloc: Global, keys: &[PKey], others: &[PKey]) -> Result<Vec<u16>, AllocError>
     ensures { IfOk result (λ bases. AreBases (keys.now ++ others.now) bases.items) }
 {

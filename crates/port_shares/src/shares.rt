@@ -8,13 +8,14 @@ ghost use Rattle.port_shares.specs.Found.{AreBases, asked_text, base_text, has_m
 ghost use Rattle.port_shares.specs.Shares.{is_asked, share_line, shares_text};
 
 use crate::bases::bases_of;
-use line_parts::{push_hex, push_port};
+use line_parts::push_port;
 use pkey_rules::PKey;
 use std::alloc::{AllocError, Global};
 use subnet_model::SubnetPort;
+use text_parts::push_hex;
 
 /// A line for each two of these ports, in their order, and each partition in which their keys match, by rising base; where
-/// a GUID is asked for, only those that name its port. Memory alone can be refused.
+/// a GUID is asked for, only those that name its port. It can only run out of memory.
 pub fn shares_text(
     alloc: Global,
     ports: &[SubnetPort],

@@ -1,4 +1,4 @@
-//! What the end ports of the two-switch fabric are told.
+//! What the end ports of the two-switch fabric are set to.
 
 use crate::fixtures::found;
 use attr_tables::SmpAttribute;
@@ -34,13 +34,17 @@ fn ends_stand<W: SmpWire>(rt: &impl Abort, wire: &mut W) -> Result<(), Fail> {
     Ok(())
 }
 
-fn ends_are_told<W: SmpWire>(rt: &impl Abort, wire: &mut W, routes: &Routes) -> Result<(), Fail> {
+fn ends_are_reported<W: SmpWire>(
+    rt: &impl Abort,
+    wire: &mut W,
+    routes: &Routes,
+) -> Result<(), Fail> {
     push_ports(wire, routes).or(Err("a push"))?;
     ends_stand(rt, wire)
 }
 
 #[test]
-fn end_ports_are_told_their_lid_and_the_managers(rt: HostRuntime) -> Result<(), Fail> {
+fn end_ports_are_reported_their_lid_and_the_managers(rt: HostRuntime) -> Result<(), Fail> {
     let (mut fabric, routes) = found(rt.alloc())?;
-    ends_are_told(&rt, &mut fabric, &routes)
+    ends_are_reported(&rt, &mut fabric, &routes)
 }

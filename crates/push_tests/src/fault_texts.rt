@@ -15,8 +15,8 @@ const TEXTS: [(PushFault, &str); 3] = [
 #[test]
 fn faults_of_a_push_say_what_stopped_it(rt: HostRuntime) -> Result<(), Fail> {
     for (fault, text) in TEXTS.iter() {
-        let told = format!(in rt.alloc(); "{}", *fault)?;
-        assert_eq!(rt; told.as_str(), *text);
+        let reported = format!(in rt.alloc(); "{}", *fault)?;
+        assert_eq!(rt; reported.as_str(), *text);
     }
     Ok(())
 }

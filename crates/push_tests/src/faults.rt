@@ -15,7 +15,7 @@ use updn_routes::Routes;
 /// The pushes over the two-switch fabric: how many exchanges each takes, and how many of them are Sets. Ports: Get and Set of two ports 0 and of SwitchInfo twice; of the ten ports that a
 /// cable ends in a Get, and a Set each to Armed and to Active. Key tables: of two ports 0, and of both ends of four
 /// cables, a Set of the first block and a Get of each of the three empty ones. Linear tables: eight blocks each of two
-/// switches. A slice of multicast tables: a block at each of three positions of two switches.
+/// switches. An MLID range of multicast tables: a block at each of three positions of two switches.
 const PUSHES: [(Push, u64, u64); 4] = [
     (Push::Multicast, 6, 6),
     (Push::Ports, 38, 24),
@@ -130,15 +130,15 @@ fn stops(
     push: &Push,
     is_numbered: bool,
     count: u64,
-    spoil: (u8, usize, u8),
-    fault: PushFault,
+    spoiled: ((u8, usize, u8), PushFault),
 ) -> Result<(), Fail> {
+    let (spoil, fault) = spoiled;
     for left in 0..count {
-        let told = pushed(alloc, push, is_numbered, left, spoil)?;
-        assert_eq!(rt; told, Err(fault));
+        let reported = pushed(alloc, push, is_numbered, left, spoil)?;
+        assert_eq!(rt; reported, Err(fault));
     }
-    let told = pushed(alloc, push, is_numbered, count, spoil)?;
-    assert_eq!(rt; told, Ok(()));
+    let reported = pushed(alloc, push, is_numbered, count, spoil)?;
+    assert_eq!(rt; reported, Ok(()));
     Ok(())
 }
 
@@ -147,7 +147,7 @@ fn a_push_stops_at_the_first_exchange_at_fault(rt: HostRuntime) -> Result<(), Fa
     for (push, exchanges, sets) in PUSHES.iter() {
         for (spoil, fault) in SPOILS {
             let count = if spoil.0 == SET { *sets } else { *exchanges };
-            stops(&rt, rt.alloc(), push, true, count, spoil, fault)?;
+            stops(&rt, rt.alloc(), push, true, count, (spoil, fault))?;
         }
     }
     Ok(())
@@ -156,16 +156,7 @@ fn a_push_stops_at_the_first_exchange_at_fault(rt: HostRuntime) -> Result<(), Fa
 /// The numbers of the requests of each push begin at 1.
 #[test]
 fn all_pushes_stop_where_one_of_them_does(rt: HostRuntime) -> Result<(), Fail> {
-    let (spoil, fault) = SPOILS[0];
-    stops(
-        &rt,
-        rt.alloc(),
-        &Push::All,
-        false,
-        38 + 40 + 16,
-        spoil,
-        fault,
-    )
+    stops(&rt, rt.alloc(), &Push::All, false, 38 + 40 + 16, SPOILS[0])
 }
 
 /// Which of the Sets of ports ask for no state: those of port 0 of each switch.
@@ -174,8 +165,8 @@ const NO_STATE_ASKED: [u64; 2] = [0, 3];
 #[test]
 fn a_state_that_was_not_asked_is_not_compared(rt: HostRuntime) -> Result<(), Fail> {
     for left in 0..24 {
-        let told = pushed(rt.alloc(), &Push::Ports, true, left, (SET, STATE, 1))?;
-        assert_eq!(rt; told.is_ok(), NO_STATE_ASKED.contains(&left));
+        let reported = pushed(rt.alloc(), &Push::Ports, true, left, (SET, STATE, 1))?;
+        assert_eq!(rt; reported.is_ok(), NO_STATE_ASKED.contains(&left));
     }
     Ok(())
 }

@@ -19,7 +19,7 @@ pub enum Push {
     Ports,
     Keys,
     Linear,
-    /// Of the slice of partition 1, with the receivers of one group.
+    /// Of the MLID range of partition 1, with the receivers of one group.
     Multicast,
     All,
 }

@@ -10,7 +10,7 @@ use table_push::push_changed;
 use test_fabrics::fat_tree_of;
 use updn_routes::Routes;
 
-/// Pushes what changes in the slice of partition 1, by one SMP for each block that is told to differ.
+/// Pushes what changes in the MLID range of partition 1, by one SMP for each block that is reported to differ.
 fn change(
     rt: &impl Abort,
     wire: &mut CountingWire<Fabric>,
@@ -38,7 +38,7 @@ const CHANGES: [(&[GroupReceiver], &[GroupReceiver], u32); 4] = [
     (&TWO, &[], 2),
 ];
 
-fn counts_are_told(
+fn counts_are_reported(
     rt: &impl Abort,
     wire: &mut CountingWire<Fabric>,
     routes: &Routes,
@@ -53,7 +53,7 @@ fn counts_are_told(
 fn blocks_of_the_switches_that_change_are_set(rt: HostRuntime) -> Result<(), Fail> {
     let (wire, routes) = found(rt.alloc())?;
     let mut counting = CountingWire { wire, count: 0 };
-    counts_are_told(&rt, &mut counting, &routes)
+    counts_are_reported(&rt, &mut counting, &routes)
 }
 
 /// The adapters of a fat tree of eight leaves but the subnet manager's, whose LIDs stand behind those of the 16 switches:

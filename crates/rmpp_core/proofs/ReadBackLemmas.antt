@@ -9,7 +9,7 @@ use Rattle.mad_layout.specs.declared.sa_mad.SaMad.{SaMad}
 use Rattle.mad_layout.specs.Bits.{bit_of}
 use Rattle.mad_layout.specs.Layout.{Holds}
 use Rattle.mad_layout.proofs.AlignedLemmas.{bytes_stand}
-use Rattle.mad_layout.proofs.LayoutLemmas.{length-put_all, spelled_below, zeros_below, below_taken, below_dropped}
+use Rattle.mad_layout.proofs.LayoutLemmas.{length-put_all, encoded_below, zeros_below, below_taken, below_dropped}
 use Rattle.mad_layout.proofs.NumberLemmas.{below_append, number_below}
 use Rattle.rmpp_core.specs.Laws.{IsTransfer}
 use Rattle.mad_layout.specs.RmppHeader.{rmpp_in}
@@ -17,7 +17,7 @@ use Rattle.mad_layout.specs.SaMad.{data_in}
 use Rattle.rmpp_core.specs.Reply.{reply_fields, reply_bytes}
 use Rattle.rmpp_core.specs.Segments.{Transfer, segment_count, segment_of, payload_size, payload_length, padded_segment, segment_rmpp, segment_sa, segment_fields, segment_mad}
 use Rattle.rmpp_core.proofs.CutLemmas.{segment_is, segment_length}
-use Rattle.rmpp_core.proofs.ReplyLemmas.{reply_fits, reply_spelled}
+use Rattle.rmpp_core.proofs.ReplyLemmas.{reply_fits, reply_encoded}
 
 pub rmpp_held : (mad : List ℕ) (header : Header) (rmpp : RmppHeader) (fields : SaMad) → Holds mad (reply_fields header rmpp fields) → rmpp_in mad ≡ rmpp
 rmpp_held mad header rmpp fields h =
@@ -40,7 +40,7 @@ data_held mad header rmpp fields long below size narrow h =
 
 pub reply_below : (header : Header) (rmpp : RmppHeader) (fields : SaMad) → AllBelowBase 256 (reply_bytes header rmpp fields)
 unfolding reply_bytes
-reply_below header rmpp fields = spelled_below (reply_fields header rmpp fields) 256
+reply_below header rmpp fields = encoded_below (reply_fields header rmpp fields) 256
 
 pub reply_long : (header : Header) (rmpp : RmppHeader) (fields : SaMad) → length (reply_bytes header rmpp fields) ≡ 256
 unfolding reply_bytes
@@ -89,14 +89,14 @@ segment_held transfer number is first last =
     let narrow = padded_below bytes number first last is.bytes in
     let short = segment_length bytes number first last in
     let few : number < 2 ^ 32 = omega (arith, is.size, last) in
-    let told : payload_length bytes number < 2 ^ 32 =
+    let reported : payload_length bytes number < 2 ^ 32 =
     chosen_narrow (number == 1) (number == segment_count bytes) (payload_size bytes) (length (segment_of bytes number) + 20) 0
     is.size (omega (arith, short)) (omega arith) in
     let flags = flags_narrow (number == 1) (number == segment_count bytes) in
     let fits = reply_fits header rmpp sa is.header
-    (omega arith, (omega arith, (omega arith, (flags, (omega arith, (few, (told, tt)))))))
+    (omega arith, (omega arith, (omega arith, (flags, (omega arith, (few, (reported, tt)))))))
     (omega arith, (is.attribute_offset, (is.component_mask, (rw (ap (λ (n : ℕ). 2 ^ (8 * n)) long) at (number_below (padded_segment bytes number) narrow), tt)))) in
-    (reply_spelled header rmpp sa fits).fields
+    (reply_encoded header rmpp sa fits).fields
 
 pub record ReadsBack (transfer : Transfer) (number : ℕ) : Type 0 where
   pub rmpp : rmpp_in (segment_mad transfer number) ≡ segment_rmpp transfer.bytes number

@@ -4,11 +4,11 @@ use Rattle.mad_layout.specs.declared.mad_header.Header.{Header}
 use Rattle.mad_layout.specs.declared.rmpp_header.RmppHeader.{RmppHeader}
 use Rattle.mad_layout.specs.declared.sa_mad.SaMad.{SaMad}
 use Rattle.mad_layout.specs.Bits.{put_field}
-use Rattle.mad_layout.specs.Layout.{Field, Fits, put_all, Spells}
+use Rattle.mad_layout.specs.Layout.{Field, Fits, put_all, Encodes}
 use Rattle.mad_layout.specs.MadHeader.{mad_header}
 use Rattle.mad_layout.specs.RmppHeader.{rmpp_header}
 use Rattle.mad_layout.specs.SaMad.{sa_mad}
-use Rattle.mad_layout.proofs.LayoutLemmas.{spells_put_all}
+use Rattle.mad_layout.proofs.LayoutLemmas.{encodes_put_all}
 use Rattle.rmpp_core.specs.Reply.{reply_fields, reply_bytes}
 
 put_both : (bytes : List ℕ) (ps qs : List Field) → put_all bytes (ps ++ qs) ≡ put_all (put_all bytes ps) qs
@@ -33,7 +33,7 @@ reply_is header rmpp fields first second third a b c =
     ∙ sym (put_both (put_all (replicate 256 0) (mad_header header)) (rmpp_header rmpp) (sa_mad fields))
     ∙ sym (put_both (replicate 256 0) (mad_header header) (rmpp_header rmpp ++ sa_mad fields))
 
-pub reply_spelled : (header : Header) (rmpp : RmppHeader) (fields : SaMad) → Fits (reply_fields header rmpp fields)
-    → Spells (reply_bytes header rmpp fields) (reply_fields header rmpp fields)
+pub reply_encoded : (header : Header) (rmpp : RmppHeader) (fields : SaMad) → Fits (reply_fields header rmpp fields)
+    → Encodes (reply_bytes header rmpp fields) (reply_fields header rmpp fields)
 unfolding reply_bytes
-reply_spelled header rmpp fields fits = spells_put_all (reply_fields header rmpp fields) 256 refl fits
+reply_encoded header rmpp fields fits = encodes_put_all (reply_fields header rmpp fields) 256 refl fits

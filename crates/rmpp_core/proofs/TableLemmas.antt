@@ -84,7 +84,7 @@ record Held (done : List (List ℕ)) (r : ReassemblyState) : Type 0 where
   open_still : r.is_whole ≡ false
   count : r.segments ≡ length done
   bytes : r.bytes ≡ flat_map data_in done
-  told : 0 < length done → r.first_length ≡ payload_length_in (get_or done 0 [])
+  reported : 0 < length done → r.first_length ≡ payload_length_in (get_or done 0 [])
   each : (place : ℕ) → place < length done → IsInner place (get_or done place [])
   none_last : (place : ℕ) → place < length done → is_last (rmpp_in (get_or done place [])) ≡ false
 
@@ -110,7 +110,7 @@ first_kept : (done : List (List ℕ)) (r : ReassemblyState) (mad : List ℕ) →
 first_kept [] r mad held = let none : (r.segments == 0) ≡ true = eq-eqb r.segments 0 held.count in rw none refl
 first_kept (d ∷ ds) r mad held =
     let some : (r.segments == 0) ≡ false = ap (λ (n : ℕ). n == 0) held.count ∙ grind (arith, nat_tests) in
-    rw some (held.told (omega arith))
+    rw some (held.reported (omega arith))
 
 -- the places of a list and of one more
 at_places : (P : ℕ → List ℕ → Type 0) (done : List (List ℕ)) (mad : List ℕ) → ((place : ℕ) → place < length done → P place (get_or done place []))
@@ -140,7 +140,7 @@ held_on done r mad held size taken =
       count = omega (arith, held.count, count);
       bytes = ap (λ (xs : List ℕ). r.bytes ++ xs) (take_all 200 (data_in mad) (omega (arith, long)) ∙ sym (append-nil (data_in mad)))
           ∙ ap (λ (xs : List ℕ). xs ++ (data_in mad ++ [])) held.bytes ∙ sym one;
-      told = λ some. first_kept done r mad held;
+      reported = λ some. first_kept done r mad held;
       each = at_places IsInner done mad held.each (inner_is done r mad held taken.expected);
       none_last = at_places (λ place m. is_last (rmpp_in m) ≡ false) done mad held.none_last taken.last;
     }
@@ -224,7 +224,7 @@ is_a_table mads bytes sizes h =
       open_still = refl;
       count = refl;
       bytes = refl;
-      told = λ some. absurd (omega (arith, some));
+      reported = λ some. absurd (omega (arith, some));
       each = λ place h. absurd (omega (arith, h));
       none_last = λ place h. absurd (omega (arith, h));
     }) h

@@ -72,7 +72,7 @@ carried_is r rmpp count e full last = by (is_expected r rmpp) (is_last rmpp) (ha
     by true true false e full last = let no : false ≡ true = (last refl).0 in absurd cc
     by false b c e full last = absurd cc
 
--- ---- the last segment tells its own length, also where it is the first
+-- ---- the last segment reports its own length, also where it is the first
 own_length : (bytes : List ℕ) (k : ℕ) → k + 1 ≡ segment_count bytes → payload_length bytes (k + 1) ≡ length (segment_of bytes (k + 1)) + 20
 own_length bytes zero last =
     let size = segment_length bytes 1 (omega arith) (omega (arith, last)) in
@@ -82,9 +82,9 @@ own_length bytes (suc k) last =
     let same : (suc k + 1 == segment_count bytes) ≡ true = eq-eqb (suc k + 1) (segment_count bytes) last in
     rw (later, same) refl
 
-first_told : (t : Transfer) (k : ℕ) → first_length_of (so_far t k) (segment_rmpp t.bytes (k + 1)) ≡ payload_size t.bytes
-first_told t zero = refl
-first_told t (suc k) = let start : (suc k == 0) ≡ false = grind (arith, nat_tests) in rw start refl
+first_reported : (t : Transfer) (k : ℕ) → first_length_of (so_far t k) (segment_rmpp t.bytes (k + 1)) ≡ payload_size t.bytes
+first_reported t zero = refl
+first_reported t (suc k) = let start : (suc k == 0) ≡ false = grind (arith, nat_tests) in rw start refl
 
 right : (t : Transfer) (k : ℕ) → k + 1 ≡ segment_count t.bytes → has_right_length (so_far t k) (segment_rmpp t.bytes (k + 1)) ≡ true
 right t k last =
@@ -92,11 +92,11 @@ right t k last =
     let own = own_length bytes k last in
     let size = segment_length bytes (k + 1) (omega arith) (omega (arith, last)) in
     let before = length-take (200 * k) bytes in
-    let told = first_told t k in
+    let reported = first_reported t k in
     let place : k + 1 - 1 ≡ k = omega arith in
     and_from _ _ (le-leb 20 (payload_length bytes (k + 1)) (omega (arith, own)))
     (and_from _ _ (le-leb (payload_length bytes (k + 1)) 220 (omega (arith, own, size)))
-    (eq-eqb _ _ (told ∙ omega (arith, own, size, before, last, place))))
+    (eq-eqb _ _ (reported ∙ omega (arith, own, size, before, last, place))))
 
 -- ---- each segment takes it one on
 step : (t : Transfer) (k : ℕ) → IsTransfer t → k < segment_count t.bytes → with_segment (so_far t k) (segment_mad t (k + 1)) ≡ Ok (so_far t (k + 1))
@@ -121,7 +121,7 @@ step t k is h =
     ap (λ (xs : List ℕ). take (200 * k) bytes ++ xs) (segment_is bytes n (omega arith) (omega (arith, h)) ∙ ap (λ (i : ℕ). take 200 (drop (200 * i) bytes)) place)
     ∙ sym (take-add (200 * k) 200 bytes) ∙ ap (λ (i : ℕ). take i bytes) more in
     let start : (n == 0) ≡ false = grind (arith, nat_tests) in
-    let first : first_length_of (so_far t k) rmpp ≡ (if n == 0 then 0 else payload_size bytes) = rw start (first_told t k) in
+    let first : first_length_of (so_far t k) rmpp ≡ (if n == 0 then 0 else payload_size bytes) = rw start (first_reported t k) in
     let grows : grown (so_far t k) rmpp (padded_segment bytes n) (Ok (length part)) ≡ Ok (so_far t n) =
     ap (λ (r : ReassemblyState). Ok r) (λ p. record {
       segments = n;

@@ -7,7 +7,7 @@ use Rattle.mad_layout.specs.Layout.{Field}
 use Rattle.mad_layout.specs.RmppKind.{rmpp_kind_code}
 use Rattle.rmpp_core.specs.declared.abort.AbortCause.{AbortCause}
 use Rattle.rmpp_core.specs.declared.abort.AbortCause.TheVariants.{WindowTooSmall, SegmentTooBig}
-use Rattle.rmpp_core.specs.declared.reply.ReplyHeader.{ReplyHeader}
+use Rattle.rmpp_core.specs.declared.mads.ReplyHeader.{ReplyHeader}
 use Rattle.rmpp_core.specs.declared.sender.Acknowledged.{Acknowledged}
 use Rattle.rmpp_core.specs.Reply.{reply_fields, reply_bytes}
 

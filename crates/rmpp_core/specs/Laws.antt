@@ -50,7 +50,7 @@ SegmentsGoOutInOrder =
     (count : ℕ) (acks : List (ℕ × ℕ)) → 1 ≤ count
     → (last : ℕ) × (last ≤ count) × (1 ∷ sent_on_acks count 1 acks ≡ range_with_len 1 last)
 
--- ---- what senders have: numbers that fit their fields, bytes that are bytes, and a length that can be told
+-- ---- what senders have: numbers that fit their fields, bytes that are bytes, and a length that can be reported
 pub record IsTransfer (transfer : Transfer) : Type 0 where
   pub header : Fits (mad_header transfer.header.header)
   pub attribute_offset : transfer.header.attribute_offset < 2 ^ 16
@@ -97,7 +97,7 @@ LastAcksComplete =
     → CompletesAtLast (length bytes) number acked
 
 -- ---- what came to a receiver that has a table, each MAD of 256 bytes: segments in turn, First on the first and Last
--- on the last; the bytes are the data of all, of the last as many as it tells; and the first tells the length of all,
+-- on the last; the bytes are the data of all, of the last as many as it reports; and the first reports the length of all,
 -- with 20 for each segment
 abbrev pub payload_length_in : List ℕ → ℕ
 payload_length_in mad = payload_length_of (rmpp_in mad)

@@ -27,7 +27,7 @@ is_first rmpp = has_flag 2 rmpp
 abbrev pub is_last : RmppHeader → Bool
 is_last rmpp = has_flag 4 rmpp
 
--- ---- what has come: how many segments, the length that the first one told, the bytes, and whether the last one came
+-- ---- what has come: how many segments, the length that the first one reported, the bytes, and whether the last one came
 pub record ReassemblyState : Type 0 where
   pub segments : ℕ
   pub first_length : ℕ
@@ -45,11 +45,11 @@ is_expected so_far rmpp =
     && ((rmpp.segment_number == so_far.segments + 1)
     && (if so_far.segments == 0 then is_first rmpp else not (is_first rmpp))))
 
--- the length that the first segment told, which may be this one
+-- the length that the first segment reported, which may be this one
 abbrev pub first_length_of : ReassemblyState → RmppHeader → ℕ
 first_length_of so_far rmpp = if so_far.segments == 0 then payload_length_of rmpp else so_far.first_length
 
--- beside its data each segment counts for 20 bytes: the last tells its own length, the first that of all
+-- beside its data each segment counts for 20 bytes: the last reports its own length, the first that of all
 abbrev pub has_right_length : ReassemblyState → RmppHeader → Bool
 has_right_length so_far rmpp =
     nat_le 20 (payload_length_of rmpp)
@@ -93,7 +93,7 @@ abbrev pub whole_bytes : Result ReassemblyState ReceiveFault → Option (List �
 whole_bytes (Ok so_far) = whole_of so_far
 whole_bytes (Err fault) = None
 
--- a call does what is defined, or memory is refused where the definition refuses nothing
+-- a call does what is defined, or an allocation fails where the definition refuses nothing
 abbrev pub Grows : Result ReassemblyState ReceiveFault → Result (Unit {0}) ReceiveFault → ReassemblyState → Type 0
 Grows (Err fault) result new = result ≡ Err fault
 Grows (Ok next) (Ok done) new = new ≡ next

@@ -7,7 +7,7 @@ use Rattle.mad_layout.specs.declared.sa_mad.SaMad.{SaMad}
 use Rattle.mad_layout.specs.Bits.{bit_of}
 use Rattle.mad_layout.specs.Layout.{Field}
 use Rattle.mad_layout.specs.RmppKind.{rmpp_kind_code}
-use Rattle.rmpp_core.specs.declared.reply.ReplyHeader.{ReplyHeader}
+use Rattle.rmpp_core.specs.declared.mads.ReplyHeader.{ReplyHeader}
 use Rattle.rmpp_core.specs.Reply.{reply_fields, reply_bytes}
 
 -- what a sender has: the header of its answers, the bytes of the table, and the window, the last segment that the
@@ -34,7 +34,7 @@ unfoldable pub segment_of : List ℕ → ℕ → List ℕ
 segment_of bytes number = get_or (segments_of bytes) (number - 1) []
 
 -- ---- the MAD of a segment
--- beside its data each segment counts for 20 bytes, those from SM_Key to ComponentMask: the first tells the length of
+-- beside its data each segment counts for 20 bytes, those from SM_Key to ComponentMask: the first reports the length of
 -- the whole table, the last its own
 abbrev pub payload_size : List ℕ → ℕ
 payload_size bytes = length bytes + 20 * segment_count bytes

@@ -12,9 +12,9 @@
 
 mod abort;
 mod laws;
+mod mads;
 mod reassembly;
 mod receiver;
-mod reply;
 mod sender;
 
 pub use crate::abort::AbortCause;
@@ -22,6 +22,6 @@ pub use crate::laws::{
     last_acks_complete, segments_are_received, segments_are_the_bytes, segments_go_out_in_order,
     segments_have_their_numbers, what_is_received_is_a_table,
 };
+pub use crate::mads::{BASE_VERSION, ReplyHeader, SA_CLASS, SA_CLASS_VERSION, sa_mad};
 pub use crate::receiver::{ReceiveFault, Receiver};
-pub use crate::reply::{ReplyHeader, reply_mad};
-pub use crate::sender::{Acknowledged, Sender};
+pub use crate::sender::{Acknowledged, RMPP_VERSION, SEGMENT_PAYLOAD, Sender};

@@ -75,7 +75,7 @@ impl Reassembly {
         }
     }
 
-    /// How many bytes of its data a segment has, if it is the next one and tells the right length.
+    /// How many bytes of its data a segment has, if it is the next one and reports the right length.
     fn carried(&self, rmpp: &RmppHeader) -> Result<usize, ReceiveFault>
         ensures value { result ≡ carried self.now rmpp.now }
         ensures fits { IfOk result (λ count. count ≤ SEGMENT_BYTES) }
@@ -104,7 +104,7 @@ impl Reassembly {
             && is_first == (self.segments == 0)
     }
 
-    /// Whether the last segment tells the length of its data, and the first one that of all segments.
+    /// Whether the last segment reports the length of its data, and the first one that of all segments.
     fn has_right_length(&self, rmpp: &RmppHeader) -> bool
         ensures { result ≡ has_right_length self.now rmpp.now }
     {
@@ -118,7 +118,7 @@ impl Reassembly {
         u64::from(self.first_length_of(rmpp)) == all
     }
 
-    /// The length that the first segment told, which may be this one.
+    /// The length that the first segment reported, which may be this one.
     fn first_length_of(&self, rmpp: &RmppHeader) -> u32
         ensures { result ≡ first_length_of self.now rmpp.now }
     {

@@ -13,13 +13,13 @@ use thiserror::Error;
 /// Why a receiver takes no more segments.
 #[derive(Clone, Copy, Debug, PartialEq, Eq, Error)]
 pub enum ReceiveFault {
-    /// Memory was refused.
+    /// Out of memory.
     #[error("out of memory")]
     NoMemory,
     /// What came is no segment, or not the one that was next.
     #[error("not the segment that was next")]
     UnexpectedSegment,
-    /// The lengths that the first and the last segment tell contradict what came.
+    /// The lengths that the first and the last segment report contradict what came.
     #[error("a length that contradicts the segments")]
     WrongLength,
 }

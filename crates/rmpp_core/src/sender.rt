@@ -1,12 +1,12 @@
 //! The side that has the bytes.
 
 ghost use Rattle.std.specs.Prelude.{◌≡◌, ◌≤◌, ◌<◌, ◌+◌, ◌*◌, ◌^◌, length, max, IfOk, OnOk, OnErr};
-ghost use Rattle.mad_layout.specs.Layout.{Spells};
+ghost use Rattle.mad_layout.specs.Layout.{Encodes};
 ghost use Rattle.rmpp_core.specs.Segments.{opened, payload_size, segment_count, segment_fields, segment_mad, flags_of, payload_length, padded_segment, segment_of};
 ghost use Rattle.rmpp_core.specs.Acks.{after_ack, abort_fields, abort_mad};
 
 use crate::abort::AbortCause;
-use crate::reply::{ReplyHeader, reply_mad};
+use crate::mads::{ReplyHeader, sa_mad};
 use bitflags::Flags;
 use mad_layout::{Mad, RmppFlags, RmppHeader, RmppKind, SaMad};
 use std::alloc::{AllocError, Global};
@@ -18,6 +18,9 @@ pub const SEGMENT_BYTES: usize = 200;
 /// What a segment counts for in a PayloadLength beside its data: what stands between the RMPP header and
 /// the data, from SM_Key to ComponentMask.
 pub const FIELD_BYTES: u32 = 20;
+
+/// What a full segment counts for in a PayloadLength.
+pub const SEGMENT_PAYLOAD: u32 = SEGMENT_BYTES as u32 + FIELD_BYTES;
 
 /// The one version of RMPP.
 pub const RMPP_VERSION: u8 = 1;
@@ -56,8 +59,8 @@ impl Model for Sender {
 }
 
 impl Sender {
-    /// A table of these bytes, of which segment 1 is sent at once: the window is 1. Memory alone can be
-    /// refused.
+    /// A table of these bytes, of which segment 1 is sent at once: the window is 1. It can only run out of
+    /// memory.
     pub fn open(alloc: Global, header: ReplyHeader, bytes: &[u8]) -> Result<Sender, AllocError>
         requires { payload_size bytes.now < 2 ^ 32 }
         ensures { IfOk result (λ sender. sender ≡ opened header bytes.now) }
@@ -89,7 +92,7 @@ impl Sender {
     pub fn segment(&self, number: u32) -> Mad
         requires first { 1 ≤ number }
         requires last { number ≤ segment_count self.now.bytes }
-        ensures spells { Spells result (segment_fields self.now number) }
+        ensures encodes { Encodes result (segment_fields self.now number) }
         ensures bytes { result ≡ segment_mad self.now number }
     {
         let rmpp = RmppHeader {
@@ -107,7 +110,7 @@ impl Sender {
             component_mask: self.header.component_mask,
             data: self.padded_segment(number),
         };
-        reply_mad(&self.header.header, &rmpp, &fields)
+        sa_mad(&self.header.header, &rmpp, &fields)
     }
 
     /// Takes an ACK of this segment, with this window (NewWindowLast). An `Err` changes nothing; the transfer
@@ -135,7 +138,7 @@ impl Sender {
 
     /// The MAD by which the transfer aborts.
     pub fn abort(&self, cause: AbortCause) -> Mad
-        ensures spells { Spells result (abort_fields self.now.header cause) }
+        ensures encodes { Encodes result (abort_fields self.now.header cause) }
         ensures bytes { result ≡ abort_mad self.now.header cause }
     {
         let rmpp = RmppHeader {
@@ -153,7 +156,7 @@ impl Sender {
             component_mask: self.header.component_mask,
             data: [0; SEGMENT_BYTES],
         };
-        reply_mad(&self.header.header, &rmpp, &fields)
+        sa_mad(&self.header.header, &rmpp, &fields)
     }
 
     fn flags_of(&self, number: u32) -> u8

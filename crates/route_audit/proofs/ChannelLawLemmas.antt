@@ -12,7 +12,7 @@ use Rattle.topo_file.specs.Connectivity.{switches}
 use Rattle.topo_file.specs.Node.{is_switch_at, ports_at}
 use Rattle.topo_file.specs.declared.node.Node.{Node}
 use Rattle.route_audit.specs.Channels.{channels, channels_of, is_channel}
-use Rattle.route_audit.specs.Laws.{ChannelsAreTold, IsChannel}
+use Rattle.route_audit.specs.Laws.{ChannelsAreReported, IsChannel}
 use Rattle.route_audit.specs.Net.{NetState}
 use Rattle.route_audit.proofs.EndlessLemmas.{is_listed}
 
@@ -118,5 +118,5 @@ is_listed_there net at is =
     are_places (channels_of net) at at.node (switches net.plan.nodes) (is_listed net.plan.nodes at.node is.switch)
     (are_ports (is_channel net) at.node 1 (ports_at net.plan.nodes at.node) at.port low (omega (arith, high)) passes)
 
-pub channels_are_told : ChannelsAreTold
-channels_are_told net at = (listed_is net at, is_listed_there net at)
+pub channels_are_reported : ChannelsAreReported
+channels_are_reported net at = (listed_is net at, is_listed_there net at)

@@ -7,12 +7,12 @@ use Rattle.std.proofs.lemmas.Bool.{cases_Bool, cases_lt}
 use Rattle.std.proofs.lemmas.List.{append_assoc, map_push}
 use Rattle.std.proofs.lemmas.Option.{slice_get_past}
 use Rattle.std.proofs.lemmas.Bool.Decides.{nat_tests}
-use Rattle.result_words.proofs.RangeLemmas.{flat_more, range_more}
-use Rattle.result_words.proofs.TestLemmas.{same_either_way}
+use Rattle.step_results.proofs.RangeLemmas.{flat_more, range_more}
+use Rattle.step_results.proofs.TestLemmas.{same_either_way}
 use Rattle.fabric_parts.specs.Cable.{far_end, port}
 use Rattle.fabric_parts.specs.declared.cable.PortRef.{PortRef}
 use Rattle.route_audit.specs.declared.entry.Entry.{Entry}
-use Rattle.route_audit.specs.declared.entry.Entry.TheVariants.{Out, Missing, Untold}
+use Rattle.route_audit.specs.declared.entry.Entry.TheVariants.{Out, Missing, Unreported}
 use Rattle.route_audit.specs.Channels.{channels, depends, is_channel, is_out, leads_to, leaves_by, nexts}
 use Rattle.route_audit.specs.Exits.{channel_behind, entries_at, exit_at, exits, next_port, next_ports, places_of}
 use Rattle.topo_file.specs.declared.node.Node.{Node}
@@ -40,12 +40,12 @@ one_port number next (Out here, Missing) rest later is = elim (cases_Bool (here 
   | inl same ↦ rw (same, is) refl
   | inr other ↦ rw (other, is) refl
 ]
-one_port number next (Out here, Untold) rest later is = elim (cases_Bool (here == number)) [
+one_port number next (Out here, Unreported) rest later is = elim (cases_Bool (here == number)) [
   | inl same ↦ rw (same, is) refl
   | inr other ↦ rw (other, is) refl
 ]
 one_port number next (Missing, second) rest later is = is
-one_port number next (Untold, second) rest later is = is
+one_port number next (Unreported, second) rest later is = is
 
 next_ports_by : (number next : ℕ) (pairs : List (Entry × Entry)) → list_any (λ other. other == next) (next_ports number pairs) ≡ list_any (λ p. is_out number p.0 && is_out next p.1) pairs
 next_ports_by number next [] = refl
@@ -66,9 +66,9 @@ past_range f low zero i none past = refl
 past_range f low (suc many) zero none past = absurd (omega (arith, past))
 past_range f low (suc many) (suc i) none past = past_range f (low + 1) many i none (omega (arith, past))
 
-entry_past : (net : NetState) (lid place : ℕ) → length net.plan.nodes ≤ place → entry net lid place ≡ Untold
+entry_past : (net : NetState) (lid place : ℕ) → length net.plan.nodes ≤ place → entry net lid place ≡ Unreported
 entry_past net lid place past =
-    ap (λ (o : Option Node). option_map_or (entry_in lid) (option_and_then (λ node. table_of node.guid net.dump.tables) o) Untold) (slice_get_past net.plan.nodes place past)
+    ap (λ (o : Option Node). option_map_or (entry_in lid) (option_and_then (λ node. table_of node.guid net.dump.tables) o) Unreported) (slice_get_past net.plan.nodes place past)
 
 entries_within : (net : NetState) (lids : List ℕ) (place : ℕ) → place < length net.plan.nodes → exit_at (exits net lids) place ≡ entries_at net lids place
 entries_within net lids place within = at_range (entries_at net lids) 0 (length net.plan.nodes) place place [] (omega arith) within

@@ -13,11 +13,11 @@ use Rattle.topo_file.specs.Connectivity.{switches}
 use Rattle.topo_file.specs.Node.{is_switch, is_switch_at}
 use Rattle.topo_file.specs.declared.node.Node.{Node}
 use Rattle.route_audit.specs.declared.entry.Entry.{Entry}
-use Rattle.route_audit.specs.declared.entry.Entry.TheVariants.{Out, Missing, Untold}
+use Rattle.route_audit.specs.declared.entry.Entry.TheVariants.{Out, Missing, Unreported}
 use Rattle.route_audit.specs.declared.following.Turn.{Turn}
 use Rattle.route_audit.specs.declared.following.Turn.TheVariants as turns
 use Rattle.route_audit.specs.Following.{back, end_from, end_within, if_goes, switch_total, then_end, turn, turn_by, turn_to}
-use Rattle.route_audit.specs.Laws.{EndsBy, GoRound, IsWay, LoopsNeverEnd, ToldLoopsGoRound, WaysAreFollowed}
+use Rattle.route_audit.specs.Laws.{EndsBy, GoRound, IsWay, LoopsNeverEnd, ReportedLoopsGoRound, WaysAreFollowed}
 use Rattle.route_audit.specs.Net.{NetState, entry}
 use Rattle.route_audit.proofs.FollowingLemmas.{ends_here}
 use Rattle.route_audit.proofs.RoundLemmas.{AreGrowing, are_below, settled}
@@ -31,7 +31,7 @@ goes_to_switch net number next (Some there) goes = elim (cases_Bool (is_switch_a
 ]
 
 goes_on_at : (net : NetState) (place next : ℕ) (e : Entry) → turn_by net place e ≡ turns.Goes next → is_switch_at net.plan.nodes next ≡ true
-goes_on_at net place next Untold goes = cc
+goes_on_at net place next Unreported goes = cc
 goes_on_at net place next Missing goes = cc
 goes_on_at net place next (Out number) goes = elim (cases_Bool (number == 0)) [
   | inl here ↦ let step : turns.Arrives (port place 0) ≡ turns.Goes next = rw here at goes in absurd (cc)
@@ -173,8 +173,8 @@ some_by : (o : Option Turn) → is_some o ≡ true → (turned : Turn) × (o ≡
 some_by (Some turned) is = (turned, refl)
 some_by None is = absurd (false≢true is)
 
-way_told : (net : NetState) (lid place : ℕ) (turned : Turn) → is_switch_at net.plan.nodes place ≡ true → EndsBy net lid place turned → end_from net lid place ≡ Some turned
-way_told net lid place turned is way =
+way_reported : (net : NetState) (lid place : ℕ) (turned : Turn) → is_switch_at net.plan.nodes place ≡ true → EndsBy net lid place turned → end_from net lid place ≡ Some turned
+way_reported net lid place turned is way =
     let ended = way_ends net lid place way.0 turned way.1 in
     let found = some_by (end_from net lid place) (ends_in_time net lid (suc (length way.0)) place is (ap is_some ended)) in
     found.1 ∙ ap (λ (t : Turn). Some t) (ends_agree net lid (switch_total net) (suc (length way.0)) place found.0 turned found.1 ended)
@@ -201,7 +201,7 @@ way_there net lid (suc count) place turned ended = by (turn net lid place) refl 
 
 pub ways_are_followed : WaysAreFollowed
 ways_are_followed = record {
-  told = way_told;
+  reported = way_reported;
   there = λ net lid place turned ended. way_there net lid (switch_total net) place turned ended;
 }
 
@@ -231,8 +231,8 @@ back_goes_round net lid home (suc count) place before rest goes is = elim (cases
       rw (← mapped.2) (goes, back_goes_round net lid home count step.0 place mapped.0 step.1 step.2)
 ]
 
-pub told_loops_go_round : ToldLoopsGoRound
-told_loops_go_round net lid home ring told =
-    let mapped = loop_mapped (λ rest. home ∷ rest) (if_goes (λ next. back net lid home (switch_total net) next) (turn net lid home)) ring told in
+pub reported_loops_go_round : ReportedLoopsGoRound
+reported_loops_go_round net lid home ring reported =
+    let mapped = loop_mapped (λ rest. home ∷ rest) (if_goes (λ next. back net lid home (switch_total net) next) (turn net lid home)) ring reported in
     let step = goes_by (λ next. back net lid home (switch_total net) next) (turn net lid home) mapped.0 mapped.1 in
     (mapped.0, sym mapped.2, back_goes_round net lid home (switch_total net) step.0 home mapped.0 step.1 step.2)

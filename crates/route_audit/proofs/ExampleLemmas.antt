@@ -3,10 +3,10 @@ use Rattle.std.proofs.Common.{refl}
 use Rattle.std.specs.Fmt.{digits}
 use Rattle.route_audit.specs.Audit.{count_line, counts_by, lost_part, other_part, reached_part}
 use Rattle.route_audit.specs.Verdict.{reasons, safe_words, verdict_line}
-use Rattle.route_audit.specs.Examples.{AttachedAreTold, CountsAreTold, EntriesAreTold, KindsAreTold, LacksAreTold, PortsAreFound, TroublesAreTold, VerdictsAreTold}
+use Rattle.route_audit.specs.Examples.{AttachedAreReported, CountsAreReported, EntriesAreReported, KindsAreReported, LacksAreReported, PortsAreFound, TroublesAreReported, VerdictsAreReported}
 
-pub entries_are_told : EntriesAreTold
-entries_are_told = record {
+pub entries_are_reported : EntriesAreReported
+entries_are_reported = record {
   there = refl;
   closed = refl;
   without_row = refl;
@@ -29,24 +29,24 @@ ports_are_found = record {
   of_none = refl;
 }
 
-pub troubles_are_told : TroublesAreTold
+pub troubles_are_reported : TroublesAreReported
 unfolding digits
-troubles_are_told = record { hole = refl; loop = refl; wrong = refl; nowhere = refl; none = refl; stray = refl; closed_stray = refl; hole_to_a_router = refl; loop_to_a_router = refl; last_hop_to_a_router = refl }
+troubles_are_reported = record { hole = refl; loop = refl; wrong = refl; nowhere = refl; none = refl; stray = refl; closed_stray = refl; hole_to_a_router = refl; loop_to_a_router = refl; last_hop_to_a_router = refl }
 
-pub lacks_are_told : LacksAreTold
+pub lacks_are_reported : LacksAreReported
 unfolding digits
-lacks_are_told = record { table = refl; has_table = refl; switch = refl; has_switch = refl; end_port = refl; lid = refl; has_lid = refl }
+lacks_are_reported = record { table = refl; has_table = refl; switch = refl; has_switch = refl; end_port = refl; lid = refl; has_lid = refl }
 
-pub kinds_are_told : KindsAreTold
-kinds_are_told = record { switch = refl; further = refl; adapter = refl; router = refl; lacking = refl; not_lacking = refl; router_lacking = refl }
+pub kinds_are_reported : KindsAreReported
+kinds_are_reported = record { switch = refl; further = refl; adapter = refl; router = refl; lacking = refl; not_lacking = refl; router_lacking = refl }
 
-pub attached_are_told : AttachedAreTold
-attached_are_told = record { first = refl; second = refl }
+pub attached_are_reported : AttachedAreReported
+attached_are_reported = record { first = refl; second = refl }
 
-pub verdicts_are_told : VerdictsAreTold
+pub verdicts_are_reported : VerdictsAreReported
 unfolding reasons safe_words verdict_line
-verdicts_are_told = record { safe = refl; lids = refl; reached = refl; free = refl; same = refl; none = refl }
+verdicts_are_reported = record { safe = refl; lids = refl; reached = refl; free = refl; same = refl; none = refl }
 
-pub counts_are_told : CountsAreTold
+pub counts_are_reported : CountsAreReported
 unfolding count_line counts_by digits lost_part other_part reached_part
-counts_are_told = record { of_a_hole = refl; of_a_loop = refl }
+counts_are_reported = record { of_a_hole = refl; of_a_loop = refl }

@@ -1,4 +1,4 @@
-pub mod CircleLemmas
+pub mod CycleLemmas
 pub mod NetLemmas
 pub mod FollowingLemmas
 pub mod LidLemmas
@@ -8,10 +8,10 @@ pub mod AttachedLemmas
 pub mod RoundLemmas
 pub mod EndlessLemmas
 pub mod TroubleLemmas
-pub mod CircleLawLemmas
+pub mod CycleLawLemmas
 pub mod WrongLemmas
 pub mod SafeLemmas
-pub mod ToldLemmas
+pub mod ReportedLemmas
 pub mod ExampleLemmas
 pub mod ChannelLawLemmas
 pub mod CountLemmas

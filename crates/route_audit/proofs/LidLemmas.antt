@@ -6,8 +6,8 @@ use Rattle.std.proofs.lemmas.Bool.{cases_Bool, eq-eqb, false≢true, or_right}
 use Rattle.std.proofs.lemmas.Bool.Decides.{nat_tests}
 use Rattle.std.proofs.lemmas.List.{drop_all}
 use Rattle.std.proofs.lemmas.Option.{slice_get-get_or}
-use Rattle.result_words.proofs.ElementLemmas.{get_other, get_written}
-use Rattle.result_words.proofs.RangeLemmas.{flat_more}
+use Rattle.step_results.proofs.ElementLemmas.{get_other, get_written}
+use Rattle.step_results.proofs.RangeLemmas.{flat_more}
 use Rattle.dump_file.specs.declared.row.Row.{Row}
 use Rattle.dump_file.specs.declared.table.Table.{Table}
 use Rattle.dump_file.specs.Table.{rows_of}

@@ -1,4 +1,4 @@
--- What is told to be safe is.
+-- What is reported to be safe is.
 use Rattle.std.proofs.Common.{◌≡◌, ◌∙◌, inl, inr, ap, ap₂, refl, subst, sym, ℕ, zero, suc, ◌+◌, ◌<◌, ◌≤◌, nat_lt, Bool, true, false, not, ◌==◌, if◌then◌else◌, List, [], ◌∷◌, ◌++◌, filter, map, flat_map, slice_get, arith}
 use Rattle.std.proofs.Common.{Option, Some, None, is_none}
 use Rattle.std.specs.List.{list_all, list_any, range_with_len}
@@ -8,7 +8,7 @@ use Rattle.std.proofs.lemmas.Bool.Decides.{nat_tests}
 use Rattle.std.proofs.lemmas.List.Folds.{list_any-append}
 use Rattle.std.proofs.lemmas.Option.{none-some, same_Some}
 use Rattle.dump_file.specs.declared.destination.Destination.{Destination}
-use Rattle.dump_file.specs.declared.destination.Destination.TheVariants.{ChannelAdapter, Switch, Router, FurtherLid, Nobody, NotTold}
+use Rattle.dump_file.specs.declared.destination.Destination.TheVariants.{ChannelAdapter, Switch, Router, FurtherLid, Nobody, NotReported}
 use Rattle.dump_file.specs.declared.row.Row.{Row}
 use Rattle.dump_file.specs.declared.table.Table.{Table}
 use Rattle.dump_file.specs.Row.{end_of}
@@ -16,7 +16,7 @@ use Rattle.dump_file.specs.Table.{place_of, rows_of}
 use Rattle.fabric_parts.specs.Cable.{ends_at, is_cabled, is_same_port, port}
 use Rattle.fabric_parts.specs.declared.cable.Cable.{Cable}
 use Rattle.fabric_parts.specs.declared.cable.PortRef.{PortRef}
-use Rattle.result_words.proofs.ListLemmas.{all_there, any_map, list_any_weaker}
+use Rattle.step_results.proofs.ListLemmas.{all_there, any_map, list_any_weaker}
 use Rattle.topo_file.specs.Connectivity.{switches}
 use Rattle.topo_file.specs.Node.{is_switch_at, ports_at}
 use Rattle.topo_file.specs.declared.node.Node.{Node}
@@ -33,7 +33,7 @@ use Rattle.route_audit.specs.Lids.{aim_of, aims, all_lids, end_by, has_lid, have
 use Rattle.route_audit.specs.Net.{NetState, row_at, row_of, table_of}
 use Rattle.route_audit.specs.Pairs.{all_reached, between_adapters, is_between_adapters, is_fate, pair_at, pair_to, pairs_at, pairs_by}
 use Rattle.route_audit.specs.Verdict.{has_table, have_tables, is_known, name_the_same}
-use Rattle.route_audit.proofs.CircleLawLemmas.{no_circle_is_missed}
+use Rattle.route_audit.proofs.CycleLawLemmas.{no_cycle_is_missed}
 use Rattle.route_audit.proofs.EndlessLemmas.{in_kept, in_range, is_listed, way_there}
 
 abbrev is_reached : Pair → Bool
@@ -254,7 +254,7 @@ of_kind net lid end (Switch guid) is kind = (end, is, kind)
 of_kind net lid end (Router guid) is kind = tt
 of_kind net lid end (FurtherLid guid) is kind = tt
 of_kind net lid end Nobody is kind = tt
-of_kind net lid end NotTold is kind = tt
+of_kind net lid end NotReported is kind = tt
 
 of_no_kind : (net : NetState) (lid : ℕ) (destination : Destination) → is_of_fabric destination ≡ false → IsOfKind net lid destination
 of_no_kind net lid (ChannelAdapter guid) is = absurd (false≢true (sym is))
@@ -262,7 +262,7 @@ of_no_kind net lid (Switch guid) is = absurd (false≢true (sym is))
 of_no_kind net lid (Router guid) is = tt
 of_no_kind net lid (FurtherLid guid) is = tt
 of_no_kind net lid Nobody is = tt
-of_no_kind net lid NotTold is = tt
+of_no_kind net lid NotReported is = tt
 
 not_lacking : (p : Aim → Bool) (f : ℕ → Aim) (xs : List ℕ) (x : ℕ) → list_any (λ n. n == x) xs ≡ true → not (list_any p (map f xs)) ≡ true → p (f x) ≡ false
 not_lacking p f [] x there none = absurd (false≢true there)
@@ -308,7 +308,7 @@ names_same net same =
       ends = ends_are net known.1;
     }
 
--- ---- what is told to be safe is
+-- ---- what is reported to be safe is
 reaches : (net : NetState) → all_reached (between_adapters (pairs_by net (aims net))) ≡ true → (place lid : ℕ) (end : PortRef) → CarriesAnAdapter net place → lid < 65536
     → end_port_of net lid ≡ Some end → is_switch_at net.plan.nodes end.node ≡ false → EndsBy net lid place (turns.Arrives end)
 reaches net all place lid end carrying below has_port adapter =
@@ -323,15 +323,15 @@ no_ring : (o : Option (List PortRef)) → is_none o ≡ true → o ≡ None
 no_ring None is = refl
 no_ring (Some ring) is = absurd (false≢true is)
 
-pub told_is_safe : (net : NetState) → says_safe net ≡ true → AreSafe net
+pub reported_is_safe : (net : NetState) → says_safe net ≡ true → AreSafe net
 unfolding audit_of
-told_is_safe net safe =
+reported_is_safe net safe =
     let lids = and_parts (list_all (have_lids net (aims net)) net.plan.cables) _ safe in
     let all = and_parts (all_reached (between_adapters (pairs_by net (aims net)))) _ lids.1 in
     let free = and_parts (is_none (credit_loop net (aims net))) _ all.1 in
     record {
       named = λ end is. names net end lids.0 is;
       reached = reaches net all.0;
-      free = no_circle_is_missed net (other_lids net) (no_ring (credit_loop net (aims net)) free.0);
+      free = no_cycle_is_missed net (other_lids net) (no_ring (credit_loop net (aims net)) free.0);
       same = names_same net free.1;
     }

@@ -8,7 +8,7 @@ use Rattle.std.proofs.lemmas.Cmp.{nat_eq_equiv}
 use Rattle.std.proofs.lemmas.Map.Made.{length-le_from_is_member}
 use Rattle.fabric_parts.specs.Cable.{is_same_port}
 use Rattle.fabric_parts.specs.declared.cable.PortRef.{PortRef}
-use Rattle.result_words.proofs.DistinctLemmas.{all_differ, distinct}
+use Rattle.step_results.proofs.DistinctLemmas.{all_differ, distinct}
 use Rattle.topo_file.specs.Connectivity.{switches}
 use Rattle.topo_file.specs.Node.{is_switch_at}
 use Rattle.route_audit.specs.declared.following.Turn.{Turn}
@@ -214,8 +214,8 @@ module _ (net : NetState) (lid : ℕ) where
             subst (λ (n : ℕ). walk found.at start ≤ n) (sym there) (found.least (k - suc rest) (omega (arith, past, most)))
       ]
 
-  -- ---- so the loop is told from there
-  record IsTold (home : ℕ) (found : Option (List ℕ)) : Type 0 where
+  -- ---- so the loop is reported from there
+  record IsReported (home : ℕ) (found : Option (List ℕ)) : Type 0 where
     ring : List ℕ
     is : found ≡ Some ring
     least : is_least home ring ≡ true
@@ -223,17 +223,17 @@ module _ (net : NetState) (lid : ℕ) where
   not_less : (a b : ℕ) → a ≤ b → nat_le a b ≡ true
   not_less a b le = grind (arith, nat_tests, le)
 
-  back_told : (home count rest place : ℕ) → rest < count → walk rest place ≡ home → ((k : ℕ) → k ≤ rest → home ≤ walk k place) → GoesOn place
-      → IsTold home (back net lid home count place)
-  back_told home zero rest place few is least on = absurd (omega (arith, few))
-  back_told home (suc count) rest place few is least on = elim (cases_Bool (place == home)) [
+  back_reported : (home count rest place : ℕ) → rest < count → walk rest place ≡ home → ((k : ℕ) → k ≤ rest → home ≤ walk k place) → GoesOn place
+      → IsReported home (back net lid home count place)
+  back_reported home zero rest place few is least on = absurd (omega (arith, few))
+  back_reported home (suc count) rest place few is least on = elim (cases_Bool (place == home)) [
     | inl here ↦ record { ring = []; is = rw here refl; least = refl }
-    | inr other ↦ by rest few is least other (back_told home count)
+    | inr other ↦ by rest few is least other (back_reported home count)
   ]
     where
       by : (rest : ℕ) → rest < suc count → walk rest place ≡ home → ((k : ℕ) → k ≤ rest → home ≤ walk k place) → (place == home) ≡ false
           → ((rest place : ℕ) → rest < count → walk rest place ≡ home → ((k : ℕ) → k ≤ rest → home ≤ walk k place) → GoesOn place
-          → IsTold home (back net lid home count place)) → IsTold home (back net lid home (suc count) place)
+          → IsReported home (back net lid home count place)) → IsReported home (back net lid home (suc count) place)
       by zero few is least other more = absurd (let same : (place == home) ≡ true = grind (arith, nat_tests, is) in false≢true (sym other ∙ same))
       by (suc rest) few is least other more =
           let one = steps place on in
@@ -247,23 +247,23 @@ module _ (net : NetState) (lid : ℕ) where
             least = and_from (nat_le home place) _ (not_less home place (least 0 (omega arith))) later.least;
           }
 
-  loop_told : (home : ℕ) → GoesRound home → IsTold home (loop_from net lid home)
-  loop_told home round =
+  loop_reported : (home : ℕ) → GoesRound home → IsReported home (loop_from net lid home)
+  loop_reported home round =
       let one = steps home round.on in
-      let told = back_told home (switch_total net) round.rest (step home) round.few round.back_home round.least one.on in
+      let reported = back_reported home (switch_total net) round.rest (step home) round.few round.back_home round.least one.on in
       let on_from : ℕ → Option (List ℕ) = λ next. back net lid home (switch_total net) next in
       let goes = ap (λ (turned : Turn). option_map (λ (rest : List ℕ). home ∷ rest) (if_goes on_from turned)) one.goes in
       record {
-        ring = home ∷ told.ring;
-        is = goes ∙ ap (option_map (λ (rest : List ℕ). home ∷ rest)) told.is;
-        least = and_from (nat_le home home) _ (not_less home home (omega arith)) told.least;
+        ring = home ∷ reported.ring;
+        is = goes ∙ ap (option_map (λ (rest : List ℕ). home ∷ rest)) reported.is;
+        least = and_from (nat_le home home) _ (not_less home home (omega arith)) reported.least;
       }
 
-  some_line : (there : ℕ) (found : Option (List ℕ)) → IsTold there found → loop_line net there lid found ≡ [] → ⊥
-  some_line there found told none =
-      let line : List ℕ = codes "loop " ++ decimal lid ++ flat_map (name_word net) told.ring ++ 10 ∷ [] in
-      let shown : loop_line net there lid (Some told.ring) ≡ line = rw told.least refl in
-      let empty : line ≡ [] = sym shown ∙ (sym (ap (loop_line net there lid) told.is) ∙ none) in
+  some_line : (there : ℕ) (found : Option (List ℕ)) → IsReported there found → loop_line net there lid found ≡ [] → ⊥
+  some_line there found reported none =
+      let line : List ℕ = codes "loop " ++ decimal lid ++ flat_map (name_word net) reported.ring ++ 10 ∷ [] in
+      let shown : loop_line net there lid (Some reported.ring) ≡ line = rw reported.least refl in
+      let empty : line ≡ [] = sym shown ∙ (sym (ap (loop_line net there lid) reported.is) ∙ none) in
       cc
 
   -- ---- the line of what does not go on for ever stands where it ends
@@ -283,7 +283,7 @@ module _ (net : NetState) (lid : ℕ) where
   has_line : (place : ℕ) (turned : Turn) → Ends place turned → ((there : ℕ) → turn net lid there ≡ turned → trouble_line net there (aim_of net lid) ≡ [] → ⊥)
       → HasItsLine trouble_line net lid place
   has_line place turned ends some =
-      record { there = ends.there; of_switch = ends.of_switch; way = ends.way; comes = ends.comes; told = some ends.there ends.is }
+      record { there = ends.there; of_switch = ends.of_switch; way = ends.way; comes = ends.comes; reported = some ends.there ends.is }
 
   -- ---- what goes on has the line of the loop, whosever the LID is
   second_empty : (xs ys : List ℕ) → xs ++ ys ≡ [] → ys ≡ []
@@ -297,8 +297,8 @@ module _ (net : NetState) (lid : ℕ) where
   goes_line there next None None goes none =
       sym (ap (nobodys_line net there lid) goes) ∙ second_empty (stray_line net there lid) (nobodys_line net there lid (turn net lid there)) none
 
-  loop_line_told : (place : ℕ) → GoesOn place → HasItsLine trouble_line net lid place
-  loop_line_told place on =
+  loop_line_reported : (place : ℕ) → GoesOn place → HasItsLine trouble_line net lid place
+  loop_line_reported place on =
       let again = comes_again place on in
       let few = again.few in
       let home = round_from (walk again.before place) again.rest (walk_on again.before place on) (omega (arith, few)) again.again in
@@ -311,7 +311,7 @@ module _ (net : NetState) (lid : ℕ) where
         of_switch = home.1.on.of_switch;
         way = way.0;
         comes = subst (ComesBy net lid place way.0) there way.1;
-        told = λ none. some_line at (loop_from net lid at) (loop_told at home.1) (goes_line at (step at) (aim_of net lid).guid (aim_of net lid).end one.goes none);
+        reported = λ none. some_line at (loop_from net lid at) (loop_reported at home.1) (goes_line at (step at) (aim_of net lid).guid (aim_of net lid).end one.goes none);
       }
 
   -- ---- packets to a port that the topology lacks end at a switch without an entry
@@ -319,9 +319,9 @@ module _ (net : NetState) (lid : ℕ) where
   hole_shown there guid (Some end) hole none = let empty = sym (ap (line_by net there lid end) hole) ∙ none in cc
   hole_shown there guid None hole none = let empty = sym (ap (unplaced_line net there lid) hole) ∙ none in cc
 
-  hole_told : (place guid : ℕ) → is_switch_at net.plan.nodes place ≡ true → (aim_of net lid).guid ≡ Some guid → EndsBy net lid place turns.Hole
+  hole_reported : (place guid : ℕ) → is_switch_at net.plan.nodes place ≡ true → (aim_of net lid).guid ≡ Some guid → EndsBy net lid place turns.Hole
       → HasItsLine trouble_line net lid place
-  hole_told place guid switch named way =
+  hole_reported place guid switch named way =
       has_line place turns.Hole (ends_there place way.0 turns.Hole switch way.1)
       (λ there hole none. hole_shown there guid (aim_of net lid).end hole (sym (ap (λ (o : Option ℕ). trouble_to net there lid o (aim_of net lid).end) named) ∙ none))
 
@@ -330,19 +330,19 @@ module _ (net : NetState) (lid : ℕ) where
     line_is : (there : ℕ) → trouble_line net there (aim_of net lid) ≡ line_by net there lid end (turn net lid there)
     line_is there = ap (trouble_to net there lid (aim_of net lid).guid) named
 
-    told_by : (turned : Turn) → ((there : ℕ) → line_by net there lid end turned ≡ [] → ⊥) → (there : ℕ) → turn net lid there ≡ turned
+    reported_by : (turned : Turn) → ((there : ℕ) → line_by net there lid end turned ≡ [] → ⊥) → (there : ℕ) → turn net lid there ≡ turned
         → trouble_line net there (aim_of net lid) ≡ [] → ⊥
-    told_by turned some there is none = some there (sym (ap (line_by net there lid end) is) ∙ (sym (line_is there) ∙ none))
+    reported_by turned some there is none = some there (sym (ap (line_by net there lid end) is) ∙ (sym (line_is there) ∙ none))
 
-    wrong_told : (there : PortRef) → (is_same_port there end ≡ true → ⊥) → (at : ℕ) → line_by net at lid end (turns.Arrives there) ≡ [] → ⊥
-    wrong_told there other at none = elim (cases_Bool (is_same_port there end)) [
+    wrong_reported : (there : PortRef) → (is_same_port there end ≡ true → ⊥) → (at : ℕ) → line_by net at lid end (turns.Arrives there) ≡ [] → ⊥
+    wrong_reported there other at none = elim (cases_Bool (is_same_port there end)) [
       | inl same ↦ other same
       | inr apart ↦ let empty = rw apart at none in cc
     ]
 
     by_end : (place : ℕ) (found : Option Turn) → is_switch_at net.plan.nodes place ≡ true → end_from net lid place ≡ found
         → (fate_by end found ≡ fates.Reached → ⊥) → (fate_by end found ≡ fates.Unknown → ⊥) → HasItsLine trouble_line net lid place
-    by_end place None switch is reached unknown = loop_line_told place (record { of_switch = switch; never = loops_never_end net lid place switch is })
+    by_end place None switch is reached unknown = loop_line_reported place (record { of_switch = switch; never = loops_never_end net lid place switch is })
     by_end place (Some turned) switch is reached unknown = by turned (way_there net lid (switch_total net) place turned is) reached unknown
       where
         by : (turned : Turn) → EndsBy net lid place turned → (fate_by end (Some turned) ≡ fates.Reached → ⊥) → (fate_by end (Some turned) ≡ fates.Unknown → ⊥)
@@ -354,17 +354,17 @@ module _ (net : NetState) (lid : ℕ) where
             goes_on_still place (one ∷ rest) next is = goes_on_still one rest next is.1
         by (turns.Arrives there) way reached unknown =
             has_line place (turns.Arrives there) (ends_there place way.0 (turns.Arrives there) switch way.1)
-            (told_by (turns.Arrives there) (wrong_told there (λ same. reached (rw same refl))))
+            (reported_by (turns.Arrives there) (wrong_reported there (λ same. reached (rw same refl))))
         by turns.Hole way reached unknown =
-            has_line place turns.Hole (ends_there place way.0 turns.Hole switch way.1) (told_by turns.Hole (λ at none. cc))
+            has_line place turns.Hole (ends_there place way.0 turns.Hole switch way.1) (reported_by turns.Hole (λ at none. cc))
         by (turns.Nowhere number) way reached unknown =
             has_line place (turns.Nowhere number) (ends_there place way.0 (turns.Nowhere number) switch way.1)
-            (told_by (turns.Nowhere number) (λ at none. cc))
+            (reported_by (turns.Nowhere number) (λ at none. cc))
         by turns.Unknown way reached unknown = absurd (unknown refl)
 
 pub each_trouble_has_a_line : EachTroubleHasALine
 each_trouble_has_a_line = record {
   lost = λ net lid place end switch named reached unknown. by_end net lid end named place (end_from net lid place) switch refl reached unknown;
-  ended = λ net lid place guid switch named way. hole_told net lid place guid switch named way;
-  endless = λ net lid place switch never. loop_line_told net lid place (record { of_switch = switch; never = never });
+  ended = λ net lid place guid switch named way. hole_reported net lid place guid switch named way;
+  endless = λ net lid place switch never. loop_line_reported net lid place (record { of_switch = switch; never = never });
 }

@@ -1,4 +1,4 @@
--- What wrong rules tell of two switches.
+-- What wrong rules report of two switches.
 use Rattle.std.proofs.Common.{◌≡◌, ◌∙◌, ◌==◌, ◌≤◌, ◌+◌, inl, inr, ℕ, zero, suc, nat_lt, true, false, List, Some, None, ap, filter, lit<, lit≤, map, refl, sym, [], ◌∷◌}
 use Rattle.std.proofs.Common.{arith}
 use Rattle.std.specs.List.{list_all, range_with_len}
@@ -7,21 +7,21 @@ use Rattle.std.proofs.lemmas.Bool.Decides.{nat_tests}
 use Rattle.dump_file.specs.Table.{rows_of}
 use Rattle.dump_file.specs.declared.row.Row.{Row}
 use Rattle.fabric_parts.specs.Cable.{port}
-use Rattle.result_words.proofs.ListLemmas.{none_passes}
+use Rattle.step_results.proofs.ListLemmas.{none_passes}
 use Rattle.route_audit.specs.declared.following.Fate.TheVariants as fates
 use Rattle.route_audit.specs.declared.following.Turn.TheVariants as turns
 use Rattle.topo_file.specs.Node.{is_switch_at}
 use Rattle.route_audit.specs.Audit.{audit_of}
 use Rattle.route_audit.specs.Channels.{depends}
 use Rattle.route_audit.specs.Following.{end_within}
-use Rattle.route_audit.specs.Laws.{CarriesAnAdapter, ComesBy, IsWay, is_circle, other_lids, says_safe}
+use Rattle.route_audit.specs.Laws.{CarriesAnAdapter, ComesBy, IsWay, is_cycle, other_lids, says_safe}
 use Rattle.route_audit.specs.Lids.{aim_of, aims, all_lids, is_named}
 use Rattle.route_audit.specs.Net.{NetState}
-use Rattle.route_audit.specs.WrongRules.{FirstPortsAreChannels, HolesAreCounted, HolesHaveALine, LidsAreAsked, LoopsBeginWhereTold, LoopsHaveALine, NobodysLoopsHaveALine, OtherLidsDecide}
-use Rattle.route_audit.specs.WrongRules.{OtherLidsDoNotCount, OtherPortsDecide, OtherTablesDecide, OthersHolesHaveALine, TheLastWaitsForTheFirst, TransitDecidesNothing, TwoMakeACircle, WaysAreAsked}
+use Rattle.route_audit.specs.WrongRules.{FirstPortsAreChannels, HolesAreCounted, HolesHaveALine, LidsAreAsked, LoopsBeginWhereReported, LoopsHaveALine, NobodysLoopsHaveALine, OtherLidsDecide}
+use Rattle.route_audit.specs.WrongRules.{OtherLidsDoNotCount, OtherPortsDecide, OtherTablesDecide, OthersHolesHaveALine, TheLastWaitsForTheFirst, TransitDecidesNothing, TwoMakeACycle, WaysAreAsked}
 use Rattle.route_audit.specs.WrongRules.{WaysAreLonger, a_hole, a_hole_at_home, a_loop, a_nobodys_loop, a_routers_hole, a_routers_loop, a_third_table, adapters_row, another_adapter, another_row, by_adapters_lids}
 use Rattle.route_audit.specs.WrongRules.{from_each_switch, is_going, is_hole, no_lids, silent_of_nobody, silent_where, two_switches, two_with, with_other_ports, with_other_tables, with_rows, without_lids, without_ways}
-use Rattle.route_audit.proofs.SafeLemmas.{told_is_safe}
+use Rattle.route_audit.proofs.SafeLemmas.{reported_is_safe}
 
 pub ways_are_longer : WaysAreLonger
 ways_are_longer law = let none = law (two_switches 1 0) 1 0 refl refl 2 in cc
@@ -36,16 +36,16 @@ first_ports_are_channels law =
 pub other_lids_do_not_count : OtherLidsDoNotCount
 other_lids_do_not_count law = false≢true (law (two_switches 1 1) [] (port 0 1 ∷ port 1 1 ∷ []) refl).1
 
-pub two_make_a_circle : TwoMakeACircle
-two_make_a_circle law = false≢true (sym (law (two_switches 1 1) (1 ∷ []) refl (port 0 1 ∷ port 1 1 ∷ []) refl))
+pub two_make_a_cycle : TwoMakeACycle
+two_make_a_cycle law = false≢true (sym (law (two_switches 1 1) (1 ∷ []) refl (port 0 1 ∷ port 1 1 ∷ []) refl))
 
 pub the_last_waits_for_the_first : TheLastWaitsForTheFirst
 the_last_waits_for_the_first law = false≢true (law (two_switches 1 1) (1 ∷ []) (port 0 1 ∷ []) refl).1
 
-pub loops_begin_where_told : LoopsBeginWhereTold
-loops_begin_where_told law =
-    let told = law (two_switches 1 1) 1 0 (1 ∷ []) refl in
-    let same : 1 ∷ [] ≡ 0 ∷ told.0 = told.1 in
+pub loops_begin_where_reported : LoopsBeginWhereReported
+loops_begin_where_reported law =
+    let reported = law (two_switches 1 1) 1 0 (1 ∷ []) refl in
+    let same : 1 ∷ [] ≡ 0 ∷ reported.0 = reported.1 in
     let first : ◌≡◌ {A = ℕ} 1 0 = cc in
     false≢true (sym (ap (λ (n : ℕ). n == 1) first) ∙ refl)
 
@@ -77,8 +77,8 @@ few_aims net below = ap (map (aim_of net)) (few_named (rows_of net.dump.tables) 
 -- ---- what the verdict asks
 pub lids_are_asked : LidsAreAsked
 lids_are_asked law =
-    let told : without_lids no_lids ≡ true = rw (few_aims no_lids refl) refl in
-    let named = (law.safe no_lids told).named (port 2 1) (refl, refl) in
+    let reported : without_lids no_lids ≡ true = rw (few_aims no_lids refl) refl in
+    let named = (law.safe no_lids reported).named (port 2 1) (refl, refl) in
     let is : (aim_of no_lids named.0).end ≡ Some (port 2 1) = named.2 in
     cc
 
@@ -91,8 +91,8 @@ hole_ends (next ∷ way) is = let e : turns.Hole ≡ turns.Goes next = is.0 in c
 
 pub ways_are_asked : WaysAreAsked
 ways_are_asked law =
-    let told : without_ways a_hole_at_home ≡ true = rw (few_aims a_hole_at_home refl) refl in
-    let way = (law.safe a_hole_at_home told).reached 0 1 (port 2 1) (first_carries _ _) (lit< tt) refl refl in
+    let reported : without_ways a_hole_at_home ≡ true = rw (few_aims a_hole_at_home refl) refl in
+    let way = (law.safe a_hole_at_home reported).reached 0 1 (port 2 1) (first_carries _ _) (lit< tt) refl refl in
     hole_ends way.0 way.1
 
 hole_is_safe : says_safe a_hole ≡ true
@@ -103,25 +103,25 @@ hole_is_asked : from_each_switch a_hole ≡ false
 hole_is_asked = rw (few_aims a_hole refl) refl
 
 pub transit_decides_nothing : TransitDecidesNothing
-transit_decides_nothing law = false≢true (sym hole_is_asked ∙ law.told a_hole (port 2 1) (refl, refl) (told_is_safe a_hole hole_is_safe))
+transit_decides_nothing law = false≢true (sym hole_is_asked ∙ law.reported a_hole (port 2 1) (refl, refl) (reported_is_safe a_hole hole_is_safe))
 
 pub other_lids_decide : OtherLidsDecide
 other_lids_decide law =
-    let told : by_adapters_lids a_routers_loop ≡ true = rw (few_aims a_routers_loop refl) refl in
-    let free = (law.safe a_routers_loop told).free (port 0 2 ∷ port 1 1 ∷ []) refl in
-    let waits : is_circle (depends a_routers_loop (other_lids a_routers_loop)) (port 0 2 ∷ port 1 1 ∷ []) ≡ true = rw (few_aims a_routers_loop refl) refl in
+    let reported : by_adapters_lids a_routers_loop ≡ true = rw (few_aims a_routers_loop refl) refl in
+    let free = (law.safe a_routers_loop reported).free (port 0 2 ∷ port 1 1 ∷ []) refl in
+    let waits : is_cycle (depends a_routers_loop (other_lids a_routers_loop)) (port 0 2 ∷ port 1 1 ∷ []) ≡ true = rw (few_aims a_routers_loop refl) refl in
     false≢true (sym free ∙ waits)
 
 pub other_tables_decide : OtherTablesDecide
 other_tables_decide law =
-    let told : with_other_tables a_third_table ≡ true = rw (few_aims a_third_table refl) refl in
-    let known = (law.safe a_third_table told).same.switches 2 (with_rows 48 (adapters_row 1 ∷ [])) refl in
+    let reported : with_other_tables a_third_table ≡ true = rw (few_aims a_third_table refl) refl in
+    let known = (law.safe a_third_table reported).same.switches 2 (with_rows 48 (adapters_row 1 ∷ [])) refl in
     false≢true known
 
 pub other_ports_decide : OtherPortsDecide
 other_ports_decide law =
-    let told : with_other_ports another_adapter ≡ true = rw (few_aims another_adapter refl) refl in
-    let end = (law.safe another_adapter told).same.ends 0 2 another_row refl (lit< tt) refl in
+    let reported : with_other_ports another_adapter ≡ true = rw (few_aims another_adapter refl) refl in
+    let end = (law.safe another_adapter reported).same.ends 0 2 another_row refl (lit< tt) refl in
     let is : (aim_of another_adapter 2).end ≡ Some end.0 = end.1 in
     cc
 
@@ -135,7 +135,7 @@ loop_is_silent (suc (suc (suc n))) switch = absurd (false≢true switch)
 pub loops_have_a_line : LoopsHaveALine
 loops_have_a_line law =
     let line = law.lost a_loop 1 0 (port 2 1) refl refl (λ r. let e : fates.Loop ≡ fates.Reached = r in cc) (λ u. let e : fates.Loop ≡ fates.Unknown = u in cc) in
-    line.told (loop_is_silent line.there line.of_switch)
+    line.reported (loop_is_silent line.there line.of_switch)
 
 hole_is_silent : (there : ℕ) (way : List ℕ) → ComesBy a_hole 1 1 way there → silent_where is_hole a_hole there (aim_of a_hole 1) ≡ []
 hole_is_silent there [] comes = rw (sym comes) refl
@@ -144,12 +144,12 @@ hole_is_silent there (next ∷ way) comes = absurd (let e : turns.Hole ≡ turns
 pub holes_have_a_line : HolesHaveALine
 holes_have_a_line law =
     let line = law.lost a_hole 1 1 (port 2 1) refl refl (λ r. let e : fates.Hole ≡ fates.Reached = r in cc) (λ u. let e : fates.Hole ≡ fates.Unknown = u in cc) in
-    line.told (hole_is_silent line.there line.way line.comes)
+    line.reported (hole_is_silent line.there line.way line.comes)
 
 pub others_holes_have_a_line : OthersHolesHaveALine
 others_holes_have_a_line law =
     let line = law.ended a_routers_hole 2 0 999 refl refl ([], (refl, λ next same. let e : turns.Hole ≡ turns.Goes next = same in cc)) in
-    line.told refl
+    line.reported refl
 
 nobodys_never_end : (count : ℕ) → (end_within a_nobodys_loop 2 count 0 ≡ None) × (end_within a_nobodys_loop 2 count 1 ≡ None)
 nobodys_never_end zero = (refl, refl)
@@ -164,4 +164,4 @@ nobodys_is_silent (suc (suc (suc n))) switch = absurd (false≢true switch)
 pub nobodys_loops_have_a_line : NobodysLoopsHaveALine
 nobodys_loops_have_a_line law =
     let line = law.endless a_nobodys_loop 2 0 refl (λ count. (nobodys_never_end count).0) in
-    line.told (nobodys_is_silent line.there line.of_switch)
+    line.reported (nobodys_is_silent line.there line.of_switch)

@@ -8,9 +8,9 @@ use Rattle.fabric_parts.specs.declared.cable.PortRef.{PortRef}
 use Rattle.topo_file.specs.Connectivity.{switches}
 use Rattle.topo_file.specs.Node.{is_switch_at}
 use Rattle.route_audit.specs.declared.entry.Entry.{Entry}
-use Rattle.route_audit.specs.declared.entry.Entry.TheVariants.{Out, Missing, Untold}
+use Rattle.route_audit.specs.declared.entry.Entry.TheVariants.{Out, Missing, Unreported}
 use Rattle.route_audit.specs.Attached.{ports_of}
-use Rattle.route_audit.specs.Circle.{circle}
+use Rattle.route_audit.specs.Cycle.{cycle}
 use Rattle.route_audit.specs.Net.{NetState, entry}
 
 abbrev pub is_channel : NetState → PortRef → Bool
@@ -27,7 +27,7 @@ channels net = flat_map (channels_of net) (switches net.plan.nodes)
 abbrev pub is_out : ℕ → Entry → Bool
 is_out number (Out other) = other == number
 is_out number Missing = false
-is_out number Untold = false
+is_out number Unreported = false
 
 abbrev pub leaves_by : NetState → PortRef → ℕ → Bool
 leaves_by net at lid = is_out at.port (entry net lid at.node)
@@ -50,6 +50,6 @@ dependencies net lids = map (nexts net lids) (channels net)
 abbrev pub channel_at : NetState → ℕ → PortRef
 channel_at net place = get_or (channels net) place (port 0 0)
 
--- the circle through the least channel that is on one
+-- the cycle through the least channel that is on one
 abbrev pub deadlock : NetState → List ℕ → Option (List PortRef)
-deadlock net lids = option_map (map (channel_at net)) (circle (dependencies net lids))
+deadlock net lids = option_map (map (channel_at net)) (cycle (dependencies net lids))

@@ -6,13 +6,14 @@ use Rattle.dump_file.specs.declared.table.Table.{Table}
 use Rattle.fabric_parts.specs.Cable.{port}
 use Rattle.fabric_parts.specs.declared.node_type.NodeType.TheVariants.{ChannelAdapter}
 use Rattle.topo_file.specs.declared.node.Node.{Node}
-use Rattle.route_audit.specs.declared.entry.Entry.TheVariants.{Out, Missing, Untold}
+use Rattle.route_audit.specs.declared.entry.Entry.TheVariants.{Out, Missing, Unreported}
 use Rattle.route_audit.specs.declared.lids.Aim.{Aim}
 use Rattle.route_audit.specs.declared.verdict.Verdict.{Verdict}
 use Rattle.route_audit.specs.Attached.{carries_adapter}
 use Rattle.route_audit.specs.Audit.{count_line, counts_by, deadlock_words}
 use Rattle.route_audit.specs.Lids.{aim_of, is_lacking, number_in, port_of}
-use Rattle.route_audit.specs.Lines.{guid_text, leaves_out, no_lid_lines, no_port_line, no_switch_line, no_table_line, stray_line, trouble_line, troubles_by}
+use Rattle.text_parts.specs.Parts.{guid_text}
+use Rattle.route_audit.specs.Lines.{leaves_out, no_lid_lines, no_port_line, no_switch_line, no_table_line, stray_line, trouble_line, troubles_by}
 use Rattle.route_audit.specs.Net.{NetState, entry, entry_in}
 use Rattle.route_audit.specs.Pairs.{pairs_by}
 use Rattle.route_audit.specs.Verdict.{verdict_line}
@@ -22,14 +23,14 @@ use Rattle.route_audit.specs.WrongRules.{a_hole, a_routers_hole, a_routers_loop,
 abbrev topped : ℕ → Table
 topped top = record (a_table 16 1) { top = top }
 
-pub record EntriesAreTold : Type 0 where
+pub record EntriesAreReported : Type 0 where
   pub there : entry_in 1 (a_table 16 254) ≡ Out 254
   pub closed : entry_in 1 (a_table 16 255) ≡ Missing
   pub without_row : entry_in 2 (topped 64) ≡ Missing
-  pub left_out : entry_in 192 (topped 192) ≡ Untold
+  pub left_out : entry_in 192 (topped 192) ≡ Unreported
   pub above_a_multiple : entry_in 193 (topped 193) ≡ Missing
   pub below_the_top : entry_in 64 (topped 192) ≡ Missing
-  pub without_table : entry a_hole 1 2 ≡ Untold
+  pub without_table : entry a_hole 1 2 ≡ Unreported
   pub has_the_row : leaves_out 1 (topped 1) ≡ false
 
 -- ---- ports by their GUIDs
@@ -61,7 +62,7 @@ strays number = record (a_table 16 1) { rows = record { line = 4; lid = 21; port
 abbrev astray : ℕ → NetState
 astray number = record { plan = a_hole.plan; dump = record { tables = strays number ∷ [] } }
 
-pub record TroublesAreTold : Type 0 where
+pub record TroublesAreReported : Type 0 where
   pub hole : troubles_by (with_entries 1 255) (an_aim ∷ []) ≡ codes "hole B 1\n"
   pub loop : troubles_by (with_entries 2 1) (an_aim ∷ []) ≡ codes "loop 1 A B\n"
   pub wrong : troubles_by (with_entries 0 1) (an_aim ∷ []) ≡ codes "wrong A 1 A/0\n"
@@ -75,7 +76,7 @@ pub record TroublesAreTold : Type 0 where
   pub last_hop_to_a_router : trouble_line a_routers_hole 1 (aim_of a_routers_hole 2) ≡ []
 
 -- what the files lack of one another
-pub record LacksAreTold : Type 0 where
+pub record LacksAreReported : Type 0 where
   pub table : no_table_line (astray 2) 1 ≡ codes "no-table B\n"
   pub has_table : no_table_line (astray 2) 0 ≡ []
   pub switch : no_switch_line a_hole (a_table 256 1) ≡ codes "no-switch " ++ guid_text 256 ++ codes "\n"
@@ -88,7 +89,7 @@ pub record LacksAreTold : Type 0 where
 abbrev says_of_b : (ℕ → Destination) → NetState
 says_of_b kind = two_with (a_row 2 2 (kind 32) ∷ []) (a_row 2 0 (kind 32) ∷ [])
 
-pub record KindsAreTold : Type 0 where
+pub record KindsAreReported : Type 0 where
   pub switch : (aim_of (says_of_b SwitchKind) 2).end ≡ Some (port 1 0)
   pub further : (aim_of (says_of_b FurtherLid) 2).end ≡ Some (port 1 0)
   pub adapter : (aim_of (says_of_b AdapterKind) 2).end ≡ None
@@ -98,12 +99,12 @@ pub record KindsAreTold : Type 0 where
   pub router_lacking : is_lacking (says_of_b Router) (aim_of (says_of_b Router) 2) ≡ false
 
 -- ---- an adapter is attached to the first switch, and none to the second
-pub record AttachedAreTold : Type 0 where
+pub record AttachedAreReported : Type 0 where
   pub first : carries_adapter a_hole 0 ≡ true
   pub second : carries_adapter a_hole 1 ≡ false
 
 -- ---- counts
-pub record CountsAreTold : Type 0 where
+pub record CountsAreReported : Type 0 where
   pub of_a_hole : count_line (codes "audit: ") (pairs_by (with_entries 1 255) (an_aim ∷ [])) (deadlock_words false)
       ≡ codes "audit: 2 pairs, 1 reached, 1 holes, 0 nowhere, 0 wrong, 0 loops, 0 unknown, no deadlock\n"
   pub of_a_loop : counts_by (pairs_by (with_entries 2 1) (an_aim ∷ [])) false true
@@ -119,7 +120,7 @@ a_verdict lids reached free same = record { has_lids = lids; is_reached = reache
 abbrev the_rest : List ℕ
 the_rest = codes ", as if all packets used one virtual lane; multicast is not judged\n"
 
-pub record VerdictsAreTold : Type 0 where
+pub record VerdictsAreReported : Type 0 where
   pub safe : verdict_line (a_verdict true true true true) ≡ codes "verdict: safe" ++ the_rest
   pub lids : verdict_line (a_verdict false true true true) ≡ codes "verdict: not safe (no-lid)" ++ the_rest
   pub reached : verdict_line (a_verdict true false true true) ≡ codes "verdict: not safe (unreached)" ++ the_rest

@@ -5,7 +5,7 @@ use Rattle.std.specs.List.{enumerate_from, filter_map, list_any, range_with_len}
 use Rattle.fabric_parts.specs.Cable.{port}
 use Rattle.fabric_parts.specs.declared.cable.PortRef.{PortRef}
 use Rattle.route_audit.specs.declared.entry.Entry.{Entry}
-use Rattle.route_audit.specs.declared.entry.Entry.TheVariants.{Out, Missing, Untold}
+use Rattle.route_audit.specs.declared.entry.Entry.TheVariants.{Out, Missing, Unreported}
 use Rattle.route_audit.specs.Channels.{is_channel, is_out}
 use Rattle.route_audit.specs.Net.{NetState, entry}
 
@@ -26,7 +26,7 @@ exit_at exits place = get_or exits place []
 abbrev pub port_in : Entry → Option ℕ
 port_in (Out number) = Some number
 port_in Missing = None
-port_in Untold = None
+port_in Unreported = None
 
 abbrev pub next_port : ℕ → Entry × Entry → Option ℕ
 next_port number p = if is_out number p.0 then port_in p.1 else None

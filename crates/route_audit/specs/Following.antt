@@ -5,7 +5,7 @@ use Rattle.fabric_parts.specs.declared.cable.PortRef.{PortRef}
 use Rattle.topo_file.specs.Connectivity.{switches}
 use Rattle.topo_file.specs.Node.{is_switch_at}
 use Rattle.route_audit.specs.declared.entry.Entry.{Entry}
-use Rattle.route_audit.specs.declared.entry.Entry.TheVariants.{Out, Missing, Untold}
+use Rattle.route_audit.specs.declared.entry.Entry.TheVariants.{Out, Missing, Unreported}
 use Rattle.route_audit.specs.declared.following.Turn.{Turn}
 use Rattle.route_audit.specs.declared.following.Turn.TheVariants as turns
 use Rattle.route_audit.specs.declared.following.Fate.{Fate}
@@ -20,7 +20,7 @@ turn_to net number (Some there) = if is_switch_at net.plan.nodes there.node then
 
 -- port 0 is the switch itself
 abbrev pub turn_by : NetState → ℕ → Entry → Turn
-turn_by net place Untold = turns.Unknown
+turn_by net place Unreported = turns.Unknown
 turn_by net place Missing = turns.Hole
 turn_by net place (Out number) =
     if number == 0 then turns.Arrives (port place 0) else turn_to net number (far_end net.plan.cables (port place number))

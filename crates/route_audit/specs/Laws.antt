@@ -2,7 +2,7 @@
 use Rattle.std.specs.Prelude.{ℕ, ◌≡◌, ◌<◌, ◌≤◌, ◌+◌, ◌↔◌, Bool, true, false, ◌&&◌, List, [], ◌∷◌, filter, length, slice_get, Option, Some, None, is_some}
 use Rattle.std.specs.List.{list_all, list_any}
 use Rattle.dump_file.specs.declared.destination.Destination.{Destination}
-use Rattle.dump_file.specs.declared.destination.Destination.TheVariants.{ChannelAdapter, Switch, Router, FurtherLid, Nobody, NotTold}
+use Rattle.dump_file.specs.declared.destination.Destination.TheVariants.{ChannelAdapter, Switch, Router, FurtherLid, Nobody, NotReported}
 use Rattle.dump_file.specs.declared.row.Row.{Row}
 use Rattle.dump_file.specs.declared.table.Table.{Table}
 use Rattle.fabric_parts.specs.Cable.{far_end, is_cabled, is_same_port, port}
@@ -28,11 +28,11 @@ abbrev pub NeverEnds : NetState → ℕ → ℕ → Type 0
 NeverEnds net lid place = (count : ℕ) → end_within net lid count place ≡ None
 
 -- where this gives no end there is none
-abbrev pub TellsEndless : (NetState → ℕ → ℕ → Option Turn) → Type 0
-TellsEndless end = (net : NetState) (lid place : ℕ) → is_switch_at net.plan.nodes place ≡ true → end net lid place ≡ None → NeverEnds net lid place
+abbrev pub ReportsEndless : (NetState → ℕ → ℕ → Option Turn) → Type 0
+ReportsEndless end = (net : NetState) (lid place : ℕ) → is_switch_at net.plan.nodes place ≡ true → end net lid place ≡ None → NeverEnds net lid place
 
 abbrev pub LoopsNeverEnd : Type 0
-LoopsNeverEnd = TellsEndless end_from
+LoopsNeverEnd = ReportsEndless end_from
 
 -- a way: the switches that it goes on at, one behind the other, and the turn at the last of them, which does not go on
 abbrev pub IsWay : NetState → ℕ → ℕ → List ℕ → Turn → Type 0
@@ -42,9 +42,9 @@ IsWay net lid place (next ∷ rest) turned = (turn net lid place ≡ turns.Goes 
 abbrev pub EndsBy : NetState → ℕ → ℕ → Turn → Type 0
 EndsBy net lid place turned = (way : List ℕ) × IsWay net lid place way turned
 
--- an end is told exactly where a way along the entries comes to it
+-- an end is reported exactly where a way along the entries comes to it
 pub record WaysAreFollowed : Type 0 where
-  pub told : (net : NetState) (lid place : ℕ) (turned : Turn) → is_switch_at net.plan.nodes place ≡ true → EndsBy net lid place turned → end_from net lid place ≡ Some turned
+  pub reported : (net : NetState) (lid place : ℕ) (turned : Turn) → is_switch_at net.plan.nodes place ≡ true → EndsBy net lid place turned → end_from net lid place ≡ Some turned
   pub there : (net : NetState) (lid place : ℕ) (turned : Turn) → end_from net lid place ≡ Some turned → EndsBy net lid place turned
 
 -- each of these switches sends the LID on to the next, and the last to the first
@@ -53,14 +53,14 @@ GoRound net lid first [] = ⊥
 GoRound net lid first (place ∷ []) = turn net lid place ≡ turns.Goes first
 GoRound net lid first (place ∷ next ∷ rest) = (turn net lid place ≡ turns.Goes next) × GoRound net lid first (next ∷ rest)
 
--- what is told is a loop, and begins where it is told
-abbrev pub TellsLoops : (NetState → ℕ → ℕ → Option (List ℕ)) → Type 0
-TellsLoops tells =
-    (net : NetState) (lid home : ℕ) (ring : List ℕ) → tells net lid home ≡ Some ring
+-- what is reported is a loop, and begins where it is reported
+abbrev pub ReportsLoops : (NetState → ℕ → ℕ → Option (List ℕ)) → Type 0
+ReportsLoops reports =
+    (net : NetState) (lid home : ℕ) (ring : List ℕ) → reports net lid home ≡ Some ring
     → (rest : List ℕ) × (ring ≡ home ∷ rest) × GoRound net lid home (home ∷ rest)
 
-abbrev pub ToldLoopsGoRound : Type 0
-ToldLoopsGoRound = TellsLoops loop_from
+abbrev pub ReportedLoopsGoRound : Type 0
+ReportedLoopsGoRound = ReportsLoops loop_from
 
 -- ---- counts
 -- each pair is counted in one part of a line
@@ -83,11 +83,11 @@ pub record IsChannel (net : NetState) (at : PortRef) : Type 0 where
   pub to_switch : is_switch_at net.plan.nodes there.node ≡ true
 
 -- these are all channels, and no other ports
-abbrev pub TellsChannels : (NetState → List PortRef) → Type 0
-TellsChannels tells = (net : NetState) (at : PortRef) → (list_any (is_same_port at) (tells net) ≡ true) ↔ IsChannel net at
+abbrev pub ReportsChannels : (NetState → List PortRef) → Type 0
+ReportsChannels reports = (net : NetState) (at : PortRef) → (list_any (is_same_port at) (reports net) ≡ true) ↔ IsChannel net at
 
-abbrev pub ChannelsAreTold : Type 0
-ChannelsAreTold = TellsChannels channels
+abbrev pub ChannelsAreReported : Type 0
+ChannelsAreReported = ReportsChannels channels
 
 -- ---- what is wrong has its line
 -- the end port that the dump and the topology give a LID
@@ -105,9 +105,9 @@ pub record HasItsLine (line : NetState → ℕ → Aim → List ℕ) (net : NetS
   pub of_switch : is_switch_at net.plan.nodes there ≡ true
   pub way : List ℕ
   pub comes : ComesBy net lid place way there
-  pub told : line net there (aim_of net lid) ≡ [] → ⊥
+  pub reported : line net there (aim_of net lid) ≡ [] → ⊥
 
-pub record TellsTroubles (line : NetState → ℕ → Aim → List ℕ) : Type 0 where
+pub record ReportsTroubles (line : NetState → ℕ → Aim → List ℕ) : Type 0 where
   -- so it is with each switch and each LID of an end port, unless packets from there come to that port, or to an entry of which
   -- nothing is known
   pub lost : (net : NetState) (lid place : ℕ) (end : PortRef) → is_switch_at net.plan.nodes place ≡ true → end_port_of net lid ≡ Some end
@@ -119,39 +119,39 @@ pub record TellsTroubles (line : NetState → ℕ → Aim → List ℕ) : Type 0
   pub endless : (net : NetState) (lid place : ℕ) → is_switch_at net.plan.nodes place ≡ true → NeverEnds net lid place → HasItsLine line net lid place
 
 abbrev pub EachTroubleHasALine : Type 0
-EachTroubleHasALine = TellsTroubles trouble_line
+EachTroubleHasALine = ReportsTroubles trouble_line
 
--- ---- circles of channels
+-- ---- cycles of channels
 -- each waits for the next, and the last for this one
 abbrev pub wait_round : (PortRef → PortRef → Bool) → PortRef → List PortRef → Bool
 wait_round waits first [] = false
 wait_round waits first (a ∷ []) = waits a first
 wait_round waits first (a ∷ b ∷ rest) = waits a b && wait_round waits first (b ∷ rest)
 
-abbrev pub is_circle : (PortRef → PortRef → Bool) → List PortRef → Bool
-is_circle waits [] = false
-is_circle waits (a ∷ rest) = wait_round waits a (a ∷ rest)
+abbrev pub is_cycle : (PortRef → PortRef → Bool) → List PortRef → Bool
+is_cycle waits [] = false
+is_cycle waits (a ∷ rest) = wait_round waits a (a ∷ rest)
 
 abbrev pub are_channels : NetState → List PortRef → Bool
 are_channels net ring = list_all (λ at. list_any (is_same_port at) (channels net)) ring
 
--- what is told is a circle, of channels that wait for one another
-abbrev pub TellsCircles : (NetState → List ℕ → Option (List PortRef)) → Type 0
-TellsCircles tells =
-    (net : NetState) (lids : List ℕ) (ring : List PortRef) → tells net lids ≡ Some ring
-    → (are_channels net ring ≡ true) × (is_circle (depends net lids) ring ≡ true)
+-- what is reported is a cycle, of channels that wait for one another
+abbrev pub ReportsCycles : (NetState → List ℕ → Option (List PortRef)) → Type 0
+ReportsCycles reports =
+    (net : NetState) (lids : List ℕ) (ring : List PortRef) → reports net lids ≡ Some ring
+    → (are_channels net ring ≡ true) × (is_cycle (depends net lids) ring ≡ true)
 
-abbrev pub ToldCirclesWait : Type 0
-ToldCirclesWait = TellsCircles deadlock
+abbrev pub ReportedLoopsWait : Type 0
+ReportedLoopsWait = ReportsCycles deadlock
 
--- where none is told no channels wait for one another in a circle, however long
+-- where none is reported no channels wait for one another in a cycle, however long
 abbrev pub MissesNone : (NetState → List ℕ → Option (List PortRef)) → Type 0
-MissesNone tells =
-    (net : NetState) (lids : List ℕ) → tells net lids ≡ None → (ring : List PortRef) → are_channels net ring ≡ true
-    → is_circle (depends net lids) ring ≡ false
+MissesNone reports =
+    (net : NetState) (lids : List ℕ) → reports net lids ≡ None → (ring : List PortRef) → are_channels net ring ≡ true
+    → is_cycle (depends net lids) ring ≡ false
 
-abbrev pub NoCircleIsMissed : Type 0
-NoCircleIsMissed = MissesNone deadlock
+abbrev pub NoCycleIsMissed : Type 0
+NoCycleIsMissed = MissesNone deadlock
 
 -- ---- what is safe
 -- the port of an adapter that has a cable
@@ -179,7 +179,7 @@ IsOfKind net lid (Switch guid) = (end : PortRef) × (end_port_of net lid ≡ Som
 IsOfKind net lid (Router guid) = Unit {0}
 IsOfKind net lid (FurtherLid guid) = Unit {0}
 IsOfKind net lid Nobody = Unit {0}
-IsOfKind net lid NotTold = Unit {0}
+IsOfKind net lid NotReported = Unit {0}
 
 -- the dump and the topology name the same switches and ports of adapters
 pub record NameTheSame (net : NetState) : Type 0 where
@@ -197,18 +197,18 @@ pub record AreSafe (net : NetState) : Type 0 where
   -- from each switch to which an adapter is attached a way leads to the adapter port of each LID
   pub reached : (place lid : ℕ) (end : PortRef) → CarriesAnAdapter net place → lid < 65536 → end_port_of net lid ≡ Some end
       → is_switch_at net.plan.nodes end.node ≡ false → EndsBy net lid place (turns.Arrives end)
-  -- along all LIDs but the switches' own no channels wait for one another in a circle, however long
-  pub free : (ring : List PortRef) → are_channels net ring ≡ true → is_circle (depends net (other_lids net)) ring ≡ false
+  -- along all LIDs but the switches' own no channels wait for one another in a cycle, however long
+  pub free : (ring : List PortRef) → are_channels net ring ≡ true → is_cycle (depends net (other_lids net)) ring ≡ false
   -- and the dump is of the topology's fabric
   pub same : NameTheSame net
 
 -- this says so exactly where routes are safe, if some adapter's port has a cable, as the subnet manager's
-pub record TellsSafe (says : NetState → Bool) : Type 0 where
+pub record ReportsSafe (says : NetState → Bool) : Type 0 where
   pub safe : (net : NetState) → says net ≡ true → AreSafe net
-  pub told : (net : NetState) (end : PortRef) → IsAdaptersEnd net end → AreSafe net → says net ≡ true
+  pub reported : (net : NetState) (end : PortRef) → IsAdaptersEnd net end → AreSafe net → says net ≡ true
 
 abbrev pub says_safe : NetState → Bool
 says_safe net = (audit_of net).is_safe
 
-abbrev pub SafeRoutesAreTold : Type 0
-SafeRoutesAreTold = TellsSafe says_safe
+abbrev pub SafeRoutesAreReported : Type 0
+SafeRoutesAreReported = ReportsSafe says_safe

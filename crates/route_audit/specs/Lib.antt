@@ -1,4 +1,4 @@
-pub mod Circle
+pub mod Cycle
 pub mod Marks
 pub mod FarEnds
 pub mod Net

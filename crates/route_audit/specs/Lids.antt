@@ -3,7 +3,7 @@ use Rattle.std.specs.Prelude.{ℕ, ◌+◌, ◌-◌, ◌==◌, ◌&&◌, ◌||�
 use Rattle.std.specs.List.{list_all, list_any, range_with_len}
 use Rattle.std.specs.Option.{option_and_then, option_map_or, option_or}
 use Rattle.dump_file.specs.declared.destination.Destination.{Destination}
-use Rattle.dump_file.specs.declared.destination.Destination.TheVariants.{ChannelAdapter, Switch, Router, FurtherLid, Nobody, NotTold}
+use Rattle.dump_file.specs.declared.destination.Destination.TheVariants.{ChannelAdapter, Switch, Router, FurtherLid, Nobody, NotReported}
 use Rattle.dump_file.specs.declared.row.Row.{Row}
 use Rattle.dump_file.specs.Dump.{DumpState}
 use Rattle.dump_file.specs.Row.{end_of}
@@ -49,7 +49,7 @@ is_of_kind of_switch (Switch guid) = of_switch
 is_of_kind of_switch (Router guid) = not of_switch
 is_of_kind of_switch (FurtherLid guid) = true
 is_of_kind of_switch Nobody = true
-is_of_kind of_switch NotTold = true
+is_of_kind of_switch NotReported = true
 
 -- a channel adapter's, or a switch's
 abbrev pub is_of_fabric : Destination → Bool
@@ -58,7 +58,7 @@ is_of_fabric (Switch guid) = true
 is_of_fabric (Router guid) = false
 is_of_fabric (FurtherLid guid) = false
 is_of_fabric Nobody = false
-is_of_fabric NotTold = false
+is_of_fabric NotReported = false
 
 -- the row of the switch there, if it has one, says nothing else of the LID
 abbrev pub says_kind : NetState → ℕ → Bool → ℕ → Bool

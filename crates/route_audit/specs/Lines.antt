@@ -1,15 +1,14 @@
 -- The lines of an audit, but for its last ones.
 use Rattle.std.specs.Prelude.{ℕ, ◌*◌, ◌==◌, ◌&&◌, nat_le, Bool, true, false, not, List, [], ◌∷◌, ◌++◌, codes, decimal, map, flat_map, if◌then◌else◌, is_none, Option, Some, None}
-use Rattle.std.specs.Int.{w64, to_be_bytes}
 use Rattle.std.specs.List.{list_all, list_any, range_with_len}
 use Rattle.std.specs.Option.{option_map_or}
 use Rattle.dump_file.specs.declared.destination.Destination.{Destination}
-use Rattle.dump_file.specs.declared.destination.Destination.TheVariants.{ChannelAdapter, Switch, Router, FurtherLid, Nobody, NotTold}
+use Rattle.dump_file.specs.declared.destination.Destination.TheVariants.{ChannelAdapter, Switch, Router, FurtherLid, Nobody, NotReported}
 use Rattle.dump_file.specs.declared.table.Table.{Table}
 use Rattle.fabric_parts.specs.Cable.{is_same_port}
 use Rattle.fabric_parts.specs.declared.cable.Cable.{Cable}
 use Rattle.fabric_parts.specs.declared.cable.PortRef.{PortRef}
-use Rattle.line_parts.specs.Parts.{hex_text}
+use Rattle.text_parts.specs.Parts.{guid_text, port_name}
 use Rattle.topo_file.specs.Connectivity.{switches}
 use Rattle.topo_file.specs.Node.{is_switch, name_at}
 use Rattle.topo_file.specs.declared.node.Node.{Node}
@@ -21,14 +20,11 @@ use Rattle.route_audit.specs.Lids.{has_lid, is_named}
 use Rattle.route_audit.specs.Net.{NetState, is_left_out, row_of, table_at}
 
 -- ---- words of lines
-abbrev pub guid_text : ℕ → List ℕ
-guid_text guid = hex_text (to_be_bytes w64 guid)
-
 abbrev pub name_text : NetState → ℕ → List ℕ
 name_text net place = name_at net.plan.nodes place
 
 abbrev pub port_text : NetState → PortRef → List ℕ
-port_text net port = name_text net port.node ++ codes "/" ++ decimal port.port
+port_text net port = port_name (name_text net port.node) port.port
 
 -- ---- what the files lack
 -- `no-table A`: a switch of which the dump has no table
@@ -57,23 +53,23 @@ no_lid_line net all port = if has_lid net all port then [] else codes "no-lid " 
 abbrev pub no_lid_lines : NetState → List Aim → Cable → List ℕ
 no_lid_lines net all cable = no_lid_line net all cable.first ++ no_lid_line net all cable.second
 
--- `untold 320`: the top of some table, a multiple of 64, of which that table has no row
+-- `unreported 320`: the top of some table, a multiple of 64, of which that table has no row
 abbrev pub leaves_out : ℕ → Table → Bool
 leaves_out lid table = is_left_out table lid && not (is_named table.rows lid)
 
-abbrev pub untold_line : List Table → ℕ → List ℕ
-untold_line tables lid = if list_any (leaves_out lid) tables then codes "untold " ++ decimal lid ++ 10 ∷ [] else []
+abbrev pub unreported_line : List Table → ℕ → List ℕ
+unreported_line tables lid = if list_any (leaves_out lid) tables then codes "untold " ++ decimal lid ++ 10 ∷ [] else []
 
 unfoldable pub multiples : List ℕ
 multiples = map (λ n. n * 64) (range_with_len 0 1024)
 
-unfoldable pub untold_lines : List Table → List ℕ
-untold_lines tables = flat_map (untold_line tables) multiples
+unfoldable pub unreported_lines : List Table → List ℕ
+unreported_lines tables = flat_map (unreported_line tables) multiples
 
 unfoldable pub files_by : NetState → List Aim → List ℕ
 files_by net all =
     flat_map (no_table_line net) (switches net.plan.nodes) ++ flat_map (no_switch_line net) net.dump.tables
-    ++ flat_map no_port_line all ++ flat_map (no_lid_lines net all) net.plan.cables ++ untold_lines net.dump.tables
+    ++ flat_map no_port_line all ++ flat_map (no_lid_lines net all) net.plan.cables ++ unreported_lines net.dump.tables
 
 -- ---- what a switch does with a LID
 -- `hole A 24`, `nowhere D 3 port 4`, `wrong C 1 h2/1`
@@ -86,7 +82,7 @@ nowhere_line net place lid number = codes "nowhere " ++ name_text net place ++ c
 abbrev pub wrong_line : NetState → ℕ → ℕ → PortRef → List ℕ
 wrong_line net place lid there = codes "wrong " ++ name_text net place ++ codes " " ++ decimal lid ++ codes " " ++ port_text net there ++ 10 ∷ []
 
--- `loop 18 A B`: told at the first switch of the loop
+-- `loop 18 A B`: reported at the first switch of the loop
 abbrev pub name_word : NetState → ℕ → List ℕ
 name_word net place = codes " " ++ name_text net place
 
@@ -112,7 +108,7 @@ is_nobodys (ChannelAdapter guid) = false
 is_nobodys (Switch guid) = false
 is_nobodys (Router guid) = false
 is_nobodys (FurtherLid guid) = false
-is_nobodys NotTold = false
+is_nobodys NotReported = false
 
 abbrev pub is_stray : ℕ → Table → Bool
 is_stray lid table = option_map_or (λ row. is_nobodys row.destination && not (row.port == 255)) (row_of lid table.rows) false

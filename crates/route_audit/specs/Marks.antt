@@ -1,8 +1,8 @@
--- How circles are found: marks, one for each of what is numbered, spread round by round. No definition of the subject
+-- How cycles are found: marks, one for each of what is numbered, spread round by round. No definition of the subject
 -- stands on these.
 use Rattle.std.specs.Prelude.{ℕ, ◌≡◌, zero, suc, Bool, true, false, ◌==◌, ◌&&◌, ◌||◌, ◌<◌, List, length, map, slice_get, is_some, unwrap_or}
 use Rattle.std.specs.List.{enumerate_from, list_any}
-use Rattle.route_audit.specs.Circle.{after, shortest}
+use Rattle.route_audit.specs.Cycle.{after, shortest}
 
 abbrev pub is_marked : List Bool → ℕ → Bool
 is_marked marks a = unwrap_or (slice_get marks a) false
@@ -35,6 +35,6 @@ IsHitBelow graph marks count hits =
 abbrev pub both_marked : List Bool → List Bool → List Bool
 both_marked marks hits = map (λ p. p.1 && is_marked hits p.0) (enumerate_from 0 marks)
 
--- all that is on a circle is in place
-abbrev pub KeepsCircles : List (List ℕ) → List Bool → Type 0
-KeepsCircles graph marks = (a : ℕ) → is_some (shortest graph a) ≡ true → is_marked marks a ≡ true
+-- all that is on a cycle is in place
+abbrev pub KeepsCycles : List (List ℕ) → List Bool → Type 0
+KeepsCycles graph marks = (a : ℕ) → is_some (shortest graph a) ≡ true → is_marked marks a ≡ true

@@ -7,7 +7,7 @@ use Rattle.dump_file.specs.Dump.{DumpState}
 use Rattle.dump_file.specs.Table.{place_of}
 use Rattle.topo_file.specs.Topology.{TopologyState}
 use Rattle.route_audit.specs.declared.entry.Entry.{Entry}
-use Rattle.route_audit.specs.declared.entry.Entry.TheVariants.{Out, Missing, Untold}
+use Rattle.route_audit.specs.declared.entry.Entry.TheVariants.{Out, Missing, Unreported}
 
 pub record NetState : Type 0 where
   pub plan : TopologyState
@@ -32,7 +32,7 @@ is_left_out table lid = (lid == table.top) && (lid % 64 == 0)
 -- 255 leads nowhere, as no row does
 abbrev pub entry_by : Table → ℕ → Option Row → Entry
 entry_by table lid (Some row) = if row.port == 255 then Missing else Out row.port
-entry_by table lid None = if is_left_out table lid then Untold else Missing
+entry_by table lid None = if is_left_out table lid then Unreported else Missing
 
 abbrev pub entry_in : ℕ → Table → Entry
 entry_in lid table = entry_by table lid (row_of lid table.rows)
@@ -43,4 +43,4 @@ row_at net lid place = option_and_then (λ table. row_of lid table.rows) (table_
 
 -- of a switch of which there is no table nothing is known
 abbrev pub entry : NetState → ℕ → ℕ → Entry
-entry net lid place = option_map_or (entry_in lid) (table_at net place) Untold
+entry net lid place = option_map_or (entry_in lid) (table_at net place) Unreported

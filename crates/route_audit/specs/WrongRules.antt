@@ -1,4 +1,4 @@
--- Wrong rules for what is told, and the law that each breaks.
+-- Wrong rules for what is reported, and the law that each breaks.
 use Rattle.std.specs.Prelude.{ℕ, nat_lt, ◌&&◌, Bool, true, false, not, List, [], ◌∷◌, codes, count_by, filter, is_some, length, if◌then◌else◌, Option, Some, None, option_map}
 use Rattle.std.specs.List.{list_all, list_any}
 use Rattle.std.specs.Option.{option_map_or}
@@ -22,7 +22,7 @@ use Rattle.route_audit.specs.declared.verdict.Verdict.{Verdict}
 use Rattle.route_audit.specs.Audit.{credit_loop, lids_of}
 use Rattle.route_audit.specs.Channels.{channels, deadlock}
 use Rattle.route_audit.specs.Following.{end_within, loop_from, turn}
-use Rattle.route_audit.specs.Laws.{AddUp, MissesNone, TellsChannels, TellsCircles, TellsEndless, TellsLoops, TellsSafe, TellsTroubles}
+use Rattle.route_audit.specs.Laws.{AddUp, MissesNone, ReportsChannels, ReportsCycles, ReportsEndless, ReportsLoops, ReportsSafe, ReportsTroubles}
 use Rattle.route_audit.specs.Lids.{aims, is_lacking}
 use Rattle.route_audit.specs.Lines.{stray_line, trouble_line}
 use Rattle.route_audit.specs.Net.{NetState}
@@ -53,9 +53,9 @@ abbrev pub end_at_once : NetState → ℕ → ℕ → Option Turn
 end_at_once net lid place = end_within net lid 1 place
 
 abbrev pub WaysAreLonger : Type 0
-WaysAreLonger = TellsEndless end_at_once → ⊥
+WaysAreLonger = ReportsEndless end_at_once → ⊥
 
--- ---- a loop is told without the switch where it is told
+-- ---- a loop is reported without the switch where it is reported
 abbrev pub second_of : List ℕ → List ℕ
 second_of [] = []
 second_of (first ∷ rest) = rest
@@ -63,8 +63,8 @@ second_of (first ∷ rest) = rest
 abbrev pub from_the_next : NetState → ℕ → ℕ → Option (List ℕ)
 from_the_next net lid home = option_map second_of (loop_from net lid home)
 
-abbrev pub LoopsBeginWhereTold : Type 0
-LoopsBeginWhereTold = TellsLoops from_the_next → ⊥
+abbrev pub LoopsBeginWhereReported : Type 0
+LoopsBeginWhereReported = ReportsLoops from_the_next → ⊥
 
 -- ---- pairs that come to a hole are not counted
 abbrev pub count_but_holes : Fate → List Pair → ℕ
@@ -78,16 +78,16 @@ abbrev pub behind_the_first : NetState → List PortRef
 behind_the_first net = filter (λ at. nat_lt 1 at.port) (channels net)
 
 abbrev pub FirstPortsAreChannels : Type 0
-FirstPortsAreChannels = TellsChannels behind_the_first → ⊥
+FirstPortsAreChannels = ReportsChannels behind_the_first → ⊥
 
 -- ---- dependencies along another LID count too
 abbrev pub along_another : NetState → List ℕ → Option (List PortRef)
 along_another net lids = deadlock net (1 ∷ lids)
 
 abbrev pub OtherLidsDoNotCount : Type 0
-OtherLidsDoNotCount = TellsCircles along_another → ⊥
+OtherLidsDoNotCount = ReportsCycles along_another → ⊥
 
--- ---- a circle has more than two channels
+-- ---- a cycle has more than two channels
 abbrev pub longer : Option (List PortRef) → Option (List PortRef)
 longer (Some ring) = if nat_lt 2 (length ring) then Some ring else None
 longer None = None
@@ -95,10 +95,10 @@ longer None = None
 abbrev pub of_three : NetState → List ℕ → Option (List PortRef)
 of_three net lids = longer (deadlock net lids)
 
-abbrev pub TwoMakeACircle : Type 0
-TwoMakeACircle = MissesNone of_three → ⊥
+abbrev pub TwoMakeACycle : Type 0
+TwoMakeACycle = MissesNone of_three → ⊥
 
--- ---- the last channel of a circle need not wait for the first: it is left out
+-- ---- the last channel of a cycle need not wait for the first: it is left out
 abbrev pub without_last : List PortRef → List PortRef
 without_last [] = []
 without_last (a ∷ []) = []
@@ -112,7 +112,7 @@ abbrev pub not_round : NetState → List ℕ → Option (List PortRef)
 not_round net lids = cut_short (deadlock net lids)
 
 abbrev pub TheLastWaitsForTheFirst : Type 0
-TheLastWaitsForTheFirst = TellsCircles not_round → ⊥
+TheLastWaitsForTheFirst = ReportsCycles not_round → ⊥
 
 -- ---- an adapter at port 1 of the first of two switches, whose port 2 has a cable to port 1 of the second, and their rows
 abbrev pub a_plan : TopologyState
@@ -149,7 +149,7 @@ abbrev pub without_lids : NetState → Bool
 without_lids net = (verdict_of net).is_reached && ((verdict_of net).is_free && (verdict_of net).is_same)
 
 abbrev pub LidsAreAsked : Type 0
-LidsAreAsked = TellsSafe without_lids → ⊥
+LidsAreAsked = ReportsSafe without_lids → ⊥
 
 abbrev pub no_lids : NetState
 no_lids = two_with [] []
@@ -159,7 +159,7 @@ abbrev pub without_ways : NetState → Bool
 without_ways net = (verdict_of net).has_lids && ((verdict_of net).is_free && (verdict_of net).is_same)
 
 abbrev pub WaysAreAsked : Type 0
-WaysAreAsked = TellsSafe without_ways → ⊥
+WaysAreAsked = ReportsSafe without_ways → ⊥
 
 -- the first switch, to which the adapter is attached, has no entry for its LID
 abbrev pub a_hole_at_home : NetState
@@ -170,7 +170,7 @@ abbrev pub from_each_switch : NetState → Bool
 from_each_switch net = all_reached (filter (λ pair. not pair.to_switch) (pairs_by net (aims net))) && verdict_is_safe (verdict_of net)
 
 abbrev pub TransitDecidesNothing : Type 0
-TransitDecidesNothing = TellsSafe from_each_switch → ⊥
+TransitDecidesNothing = ReportsSafe from_each_switch → ⊥
 
 -- credit loops are looked for along the LIDs of adapters alone
 abbrev pub is_adapters : NetState → Aim → Bool
@@ -180,7 +180,7 @@ abbrev pub by_adapters_lids : NetState → Bool
 by_adapters_lids net = verdict_is_safe (verdict_by net (aims net) (deadlock net (lids_of (filter (is_adapters net) (aims net)))))
 
 abbrev pub OtherLidsDecide : Type 0
-OtherLidsDecide = TellsSafe by_adapters_lids → ⊥
+OtherLidsDecide = ReportsSafe by_adapters_lids → ⊥
 
 -- each switch sends the LID of a router to the other
 abbrev pub a_routers_row : ℕ → Row
@@ -196,7 +196,7 @@ with_other_tables net =
     && (have_tables net && not (list_any (is_lacking net) (aims net)))))
 
 abbrev pub OtherTablesDecide : Type 0
-OtherTablesDecide = TellsSafe with_other_tables → ⊥
+OtherTablesDecide = ReportsSafe with_other_tables → ⊥
 
 abbrev pub a_third_table : NetState
 a_third_table = record {
@@ -211,7 +211,7 @@ with_other_ports net =
     && (have_tables net && list_all (is_known net) net.dump.tables)))
 
 abbrev pub OtherPortsDecide : Type 0
-OtherPortsDecide = TellsSafe with_other_ports → ⊥
+OtherPortsDecide = ReportsSafe with_other_ports → ⊥
 
 abbrev pub another_row : Row
 another_row = a_row 2 1 (destinations.ChannelAdapter 777)
@@ -236,10 +236,10 @@ abbrev pub a_loop : NetState
 a_loop = two_with (adapters_row 2 ∷ []) (adapters_row 1 ∷ [])
 
 abbrev pub LoopsHaveALine : Type 0
-LoopsHaveALine = TellsTroubles (silent_where is_going) → ⊥
+LoopsHaveALine = ReportsTroubles (silent_where is_going) → ⊥
 
 abbrev pub HolesHaveALine : Type 0
-HolesHaveALine = TellsTroubles (silent_where is_hole) → ⊥
+HolesHaveALine = ReportsTroubles (silent_where is_hole) → ⊥
 
 -- ---- a LID whose port the topology lacks has no line
 abbrev pub silent_of_others : NetState → ℕ → Aim → List ℕ
@@ -250,14 +250,14 @@ abbrev pub a_routers_hole : NetState
 a_routers_hole = two_with (adapters_row 1 ∷ []) (adapters_row 1 ∷ a_routers_row 1 ∷ [])
 
 abbrev pub OthersHolesHaveALine : Type 0
-OthersHolesHaveALine = TellsTroubles silent_of_others → ⊥
+OthersHolesHaveALine = ReportsTroubles silent_of_others → ⊥
 
 -- ---- nor a loop, if no row says whose the LID is
 abbrev pub silent_of_nobody : NetState → ℕ → Aim → List ℕ
 silent_of_nobody net place aim = if is_some aim.guid then trouble_line net place aim else stray_line net place aim.lid
 
 abbrev pub a_nobodys_loop : NetState
-a_nobodys_loop = two_with (a_row 2 2 destinations.NotTold ∷ []) (a_row 2 1 destinations.NotTold ∷ [])
+a_nobodys_loop = two_with (a_row 2 2 destinations.NotReported ∷ []) (a_row 2 1 destinations.NotReported ∷ [])
 
 abbrev pub NobodysLoopsHaveALine : Type 0
-NobodysLoopsHaveALine = TellsTroubles silent_of_nobody → ⊥
+NobodysLoopsHaveALine = ReportsTroubles silent_of_nobody → ⊥

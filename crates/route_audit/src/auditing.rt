@@ -13,8 +13,8 @@ use crate::pairs::{Pair, between_adapters, count_of, in_transit, to_switches};
 use crate::verdict::push_verdict;
 use dump_file::Dump;
 use fabric_parts::PortRef;
-use line_parts::push_decimal;
 use std::alloc::{AllocError, Global};
+use text_parts::push_decimal;
 use topo_file::Topology;
 
 fn lids_of(alloc: Global, aims: &[Aim]) -> Result<Vec<u16>, AllocError>
@@ -220,11 +220,11 @@ impl<'a> Net<'a> {
     }
 }
 
-/// Judges the routes that a dump shows over a topology. Memory alone can be refused.
+/// Judges the routes that a dump shows over a topology. It can only run out of memory.
 ///
-/// What is told is stated in `specs/Audit.antt`: first what the two lack of one another, then what is wrong at each
-/// switch with each LID, then a circle of channels that wait for one another, counts, and the verdict. Time is that of
-/// following each LID from each switch, and of looking for circles among the channels that are on one or lead to one.
+/// What is reported is stated in `specs/Audit.antt`: first what the two lack of one another, then what is wrong at each
+/// switch with each LID, then a cycle of channels that wait for one another, counts, and the verdict. Time is that of
+/// following each LID from each switch, and of looking for cycles among the channels that are on one or lead to one.
 pub fn audit(alloc: Global, plan: &Topology, dump: &Dump) -> Result<Audit, AllocError>
     ensures { IfOk result (λ found. found ≡ audit plan.now dump.now) }
 {

@@ -6,7 +6,7 @@ ghost use Rattle.route_audit.specs.Channels.{channel_at, channels, channels_of, 
 ghost use Rattle.route_audit.specs.Exits.{entries_at, exit_at, exits, channel_behind, next_port, next_ports, places_of};
 ghost use Rattle.fabric_parts.specs.Cable.{port};
 
-use crate::circle::{NextList, circle};
+use crate::cycle::{NextList, cycle};
 use crate::entry::Entry;
 use crate::net::Net;
 use fabric_parts::PortRef;
@@ -209,7 +209,7 @@ impl<'a> Net<'a> {
         Ok(graph)
     }
 
-    /// A circle of channels along these LIDs, each of which waits for the next, if there is one.
+    /// A cycle of channels along these LIDs, each of which waits for the next, if there is one.
     pub(crate) fn deadlock(
         &self,
         alloc: Global,
@@ -219,7 +219,7 @@ impl<'a> Net<'a> {
     {
         let channels = self.channels(alloc)?;
         let graph = self.dependencies(alloc, lids, &channels)?;
-        match circle(alloc, &graph)? {
+        match cycle(alloc, &graph)? {
             Some(places) => Ok(Some(at_places(alloc, &channels, &places)?)),
             None => Ok(None),
         }

@@ -7,6 +7,6 @@ pub(crate) enum Entry {
     Out(u8),
     /// It leads nowhere.
     Missing,
-    /// It is not told.
-    Untold,
+    /// It is not reported.
+    Unreported,
 }

@@ -1,10 +1,10 @@
 //! What entries, ports and lines are, computed. Each function does nothing: its contract is the example.
 
-ghost use Rattle.route_audit.specs.Examples.{AttachedAreTold, CountsAreTold, EntriesAreTold, KindsAreTold, LacksAreTold, PortsAreFound, TroublesAreTold, VerdictsAreTold};
+ghost use Rattle.route_audit.specs.Examples.{AttachedAreReported, CountsAreReported, EntriesAreReported, KindsAreReported, LacksAreReported, PortsAreFound, TroublesAreReported, VerdictsAreReported};
 
 /// The entries of a table.
-pub fn entries_are_told()
-    ensures { EntriesAreTold }
+pub fn entries_are_reported()
+    ensures { EntriesAreReported }
 {}
 
 /// The ports of GUIDs.
@@ -13,31 +13,31 @@ pub fn ports_are_found()
 {}
 
 /// What two switches do wrong.
-pub fn troubles_are_told()
-    ensures { TroublesAreTold }
+pub fn troubles_are_reported()
+    ensures { TroublesAreReported }
 {}
 
 /// What a dump and a topology lack of one another.
-pub fn lacks_are_told()
-    ensures { LacksAreTold }
+pub fn lacks_are_reported()
+    ensures { LacksAreReported }
 {}
 
 /// Whose a LID is.
-pub fn kinds_are_told()
-    ensures { KindsAreTold }
+pub fn kinds_are_reported()
+    ensures { KindsAreReported }
 {}
 
 /// Which switches an adapter is attached to.
-pub fn attached_are_told()
-    ensures { AttachedAreTold }
+pub fn attached_are_reported()
+    ensures { AttachedAreReported }
 {}
 
 /// The verdict.
-pub fn verdicts_are_told()
-    ensures { VerdictsAreTold }
+pub fn verdicts_are_reported()
+    ensures { VerdictsAreReported }
 {}
 
 /// The lines of counts.
-pub fn counts_are_told()
-    ensures { CountsAreTold }
+pub fn counts_are_reported()
+    ensures { CountsAreReported }
 {}

@@ -19,7 +19,7 @@ pub(crate) enum Turn {
     Hole,
     /// The entry is this port, which has no cable.
     Nowhere(u8),
-    /// The entry is not told.
+    /// The entry is not reported.
     Unknown,
 }
 
@@ -36,7 +36,7 @@ pub(crate) enum Fate {
     Wrong,
     /// They never end.
     Loop,
-    /// They come to a switch of which the entry is not told.
+    /// They come to a switch of which the entry is not reported.
     Unknown,
 }
 
@@ -56,7 +56,7 @@ impl<'a> Net<'a> {
         ensures { result ≡ turn self.now lid place }
     {
         match self.entry(lid, place) {
-            Entry::Untold => Turn::Unknown,
+            Entry::Unreported => Turn::Unknown,
             Entry::Missing => Turn::Hole,
             Entry::Out(number) => {
                 let out = PortRef {

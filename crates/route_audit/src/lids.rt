@@ -11,7 +11,7 @@ ghost use Rattle.route_audit.specs.Net.{row_at};
 ghost use Rattle.topo_file.specs.Connectivity.{switches};
 ghost use Rattle.topo_file.specs.Node.{is_switch_at};
 
-use crate::circle::is_marked;
+use crate::cycle::is_marked;
 use crate::net::Net;
 use dump_file::{Destination, Row, Table};
 use fabric_parts::{Cable, PortRef};
@@ -65,7 +65,7 @@ fn is_of_kind(of_switch: bool, destination: Destination) -> bool
     match destination {
         Destination::ChannelAdapter { .. } | Destination::Router { .. } => !of_switch,
         Destination::Switch { .. } => of_switch,
-        Destination::FurtherLid { .. } | Destination::Nobody | Destination::NotTold => true,
+        Destination::FurtherLid { .. } | Destination::Nobody | Destination::NotReported => true,
     }
 }
 

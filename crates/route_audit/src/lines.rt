@@ -7,25 +7,19 @@ ghost use Rattle.route_audit.specs.Following.{loop_from, turn};
 ghost use Rattle.route_audit.specs.Lids.{is_named};
 ghost use Rattle.route_audit.specs.Net.{table_at};
 ghost use Rattle.dump_file.specs.Sound.{is_rising};
-ghost use Rattle.route_audit.specs.Lines.{files_by, guid_text, has_switch, hole_line, is_least, is_nobodys, is_stray, lacking_line, leaves_out};
+ghost use Rattle.route_audit.specs.Lines.{files_by, has_switch, hole_line, is_least, is_nobodys, is_stray, lacking_line, leaves_out};
 ghost use Rattle.route_audit.specs.Lines.{line_by, loop_line, name_text, name_word, nobodys_line, unplaced_line, no_lid_line, no_lid_lines, no_port_line, no_switch_line, no_table_line};
-ghost use Rattle.route_audit.specs.Lines.{nowhere_line, port_text, stray_line, trouble_line, troubles_at, troubles_by, untold_line, untold_lines, wrong_line};
+ghost use Rattle.route_audit.specs.Lines.{nowhere_line, port_text, stray_line, trouble_line, troubles_at, troubles_by, unreported_line, unreported_lines, wrong_line};
 ghost use Rattle.topo_file.specs.Connectivity.{switches};
 
 use crate::following::Turn;
 use crate::lids::Aim;
 use crate::net::{Net, is_left_out, row_of};
 use dump_file::{Destination, Row, Table};
-use fabric_parts::{Cable, PortRef};
-use line_parts::{push_decimal, push_hex};
+use fabric_parts::{Cable, NO_PORT, PortRef};
 use std::alloc::{AllocError, Global};
+use text_parts::{push_decimal, push_guid, push_port_name};
 use topo_file::{Node, name_at};
-
-fn push_guid(text: &mut Vec<u8>, guid: u64) -> Result<(), AllocError>
-    ensures { OnOk result (text.new.items ≡ text.old.items ++ guid_text guid) }
-{
-    push_hex(text, &guid.to_be_bytes())
-}
 
 /// Whether a switch of these has the GUID.
 pub(crate) fn has_switch(guid: u64, nodes: &[Node]) -> bool
@@ -100,7 +94,7 @@ fn is_stray(lid: u16, table: &Table) -> bool
     ensures { result ≡ is_stray lid table.now }
 {
     match row_of(table.rows.as_slice(), lid, table.top) {
-        Some(row) => is_nobodys(row.destination) && row.port != 255,
+        Some(row) => is_nobodys(row.destination) && row.port != NO_PORT,
         None => false,
     }
 }
@@ -121,9 +115,7 @@ impl<'a> Net<'a> {
     pub(crate) fn push_port(&self, text: &mut Vec<u8>, port: PortRef) -> Result<(), AllocError>
         ensures { OnOk result (text.new.items ≡ text.old.items ++ port_text self.now port) }
     {
-        self.push_name(text, port.node)?;
-        text.extend_from_slice(b"/")?;
-        push_decimal(text, usize::from(port.port))
+        push_port_name(text, name_at(self.nodes(), port.node), port.port)
     }
 
     fn push_no_table(&self, text: &mut Vec<u8>, place: usize) -> Result<(), AllocError>
@@ -204,8 +196,8 @@ impl<'a> Net<'a> {
         some_leaves_out(self.dump().tables(), lid)
     }
 
-    fn push_untold(&self, text: &mut Vec<u8>, lid: u16) -> Result<(), AllocError>
-        ensures { OnOk result (text.new.items ≡ text.old.items ++ untold_line self.now.dump.tables lid) }
+    fn push_unreported(&self, text: &mut Vec<u8>, lid: u16) -> Result<(), AllocError>
+        ensures { OnOk result (text.new.items ≡ text.old.items ++ unreported_line self.now.dump.tables lid) }
     {
         if self.is_left_out_of_one(lid) {
             text.extend_from_slice(b"untold ")?;
@@ -215,21 +207,21 @@ impl<'a> Net<'a> {
         Ok(())
     }
 
-    fn push_untold_below(&self, text: &mut Vec<u8>, count: u16) -> Result<(), AllocError>
+    fn push_unreported_below(&self, text: &mut Vec<u8>, count: u16) -> Result<(), AllocError>
         requires { count ≤ 1024 }
-        ensures { OnOk result (text.new.items ≡ text.old.items ++ flat_map (λ n. untold_line self.now.dump.tables (n * 64)) (range_with_len 0 count)) }
+        ensures { OnOk result (text.new.items ≡ text.old.items ++ flat_map (λ n. unreported_line self.now.dump.tables (n * 64)) (range_with_len 0 count)) }
     {
         for number in 0..count {
-            self.push_untold(text, number * 64)?;
+            self.push_unreported(text, number * 64)?;
         }
         Ok(())
     }
 
     /// Adds the LIDs that a table leaves out.
-    fn push_untold_lines(&self, text: &mut Vec<u8>) -> Result<(), AllocError>
-        ensures { OnOk result (text.new.items ≡ text.old.items ++ untold_lines self.now.dump.tables) }
+    fn push_unreported_lines(&self, text: &mut Vec<u8>) -> Result<(), AllocError>
+        ensures { OnOk result (text.new.items ≡ text.old.items ++ unreported_lines self.now.dump.tables) }
     {
-        self.push_untold_below(text, 1024)?;
+        self.push_unreported_below(text, 1024)?;
         Ok(())
     }
 
@@ -242,7 +234,7 @@ impl<'a> Net<'a> {
         self.push_no_switches(text)?;
         push_no_ports(text, aims)?;
         self.push_no_lids(text, aims)?;
-        self.push_untold_lines(text)?;
+        self.push_unreported_lines(text)?;
         Ok(())
     }
 

@@ -12,7 +12,7 @@ ghost use Rattle.route_audit.specs.Net.{entry, entry_by, entry_in, is_left_out, 
 
 use crate::entry::Entry;
 use dump_file::{Dump, Row, Table};
-use fabric_parts::{Cable, PortRef};
+use fabric_parts::{Cable, NO_PORT, PortRef};
 use indexmap::IndexMap;
 use std::alloc::{AllocError, Global};
 use std::marker::Model;
@@ -119,7 +119,7 @@ impl<'a> Net<'a> {
     {
         match self.table_at(place) {
             Some(table) => entry_in(lid, table),
-            None => Entry::Untold,
+            None => Entry::Unreported,
         }
     }
 }
@@ -156,9 +156,9 @@ fn entry_in(lid: u16, table: &Table) -> Entry
     ensures { result ≡ entry_in lid table.now }
 {
     match row_of(table.rows.as_slice(), lid, table.top) {
-        Some(row) if row.port == 255 => Entry::Missing,
+        Some(row) if row.port == NO_PORT => Entry::Missing,
         Some(row) => Entry::Out(row.port),
-        None if is_left_out(table, lid) => Entry::Untold,
+        None if is_left_out(table, lid) => Entry::Unreported,
         None => Entry::Missing,
     }
 }

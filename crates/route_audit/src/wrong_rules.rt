@@ -1,18 +1,18 @@
-//! Wrong rules for what is told, and the law that each breaks, so that a reader sees that the laws say something. Each
+//! Wrong rules for what is reported, and the law that each breaks, so that a reader sees that the laws say something. Each
 //! function does nothing: its contract says that with this rule the law is false.
 
-ghost use Rattle.route_audit.specs.WrongRules.{FirstPortsAreChannels, HolesAreCounted, HolesHaveALine, LidsAreAsked, LoopsBeginWhereTold, LoopsHaveALine};
+ghost use Rattle.route_audit.specs.WrongRules.{FirstPortsAreChannels, HolesAreCounted, HolesHaveALine, LidsAreAsked, LoopsBeginWhereReported, LoopsHaveALine};
 ghost use Rattle.route_audit.specs.WrongRules.{NobodysLoopsHaveALine, OtherLidsDecide, OtherLidsDoNotCount, OtherPortsDecide, OtherTablesDecide, OthersHolesHaveALine};
-ghost use Rattle.route_audit.specs.WrongRules.{TheLastWaitsForTheFirst, TransitDecidesNothing, TwoMakeACircle, WaysAreAsked, WaysAreLonger};
+ghost use Rattle.route_audit.specs.WrongRules.{TheLastWaitsForTheFirst, TransitDecidesNothing, TwoMakeACycle, WaysAreAsked, WaysAreLonger};
 
-/// Where what does not end at the first switch is told to be endless, it may end at the second.
+/// Where what does not end at the first switch is reported to be endless, it may end at the second.
 pub fn ways_are_longer()
     ensures { WaysAreLonger }
 {}
 
-/// Where a loop is told without the switch where it is told, it does not begin there.
-pub fn loops_begin_where_told()
-    ensures { LoopsBeginWhereTold }
+/// Where a loop is reported without the switch where it is reported, it does not begin there.
+pub fn loops_begin_where_reported()
+    ensures { LoopsBeginWhereReported }
 {}
 
 /// Where pairs that come to a hole are not counted, the parts of a line are not all.
@@ -25,14 +25,14 @@ pub fn first_ports_are_channels()
     ensures { FirstPortsAreChannels }
 {}
 
-/// Where dependencies along another LID count too, channels are told that do not wait for one another along these.
+/// Where dependencies along another LID count too, channels are reported that do not wait for one another along these.
 pub fn other_lids_do_not_count()
     ensures { OtherLidsDoNotCount }
 {}
 
-/// Where circles of two channels are not told, one is missed.
-pub fn two_make_a_circle()
-    ensures { TwoMakeACircle }
+/// Where cycles of two channels are not reported, one is missed.
+pub fn two_make_a_cycle()
+    ensures { TwoMakeACycle }
 {}
 
 /// Where the last channel is left out, the one before it does not wait for the first.
@@ -70,22 +70,22 @@ pub fn other_ports_decide()
     ensures { OtherPortsDecide }
 {}
 
-/// Where what goes on has no line, packets go round and none tells it.
+/// Where what goes on has no line, packets go round and none reports it.
 pub fn loops_have_a_line()
     ensures { LoopsHaveALine }
 {}
 
-/// Where a hole has no line, packets end there and none tells it.
+/// Where a hole has no line, packets end there and none reports it.
 pub fn holes_have_a_line()
     ensures { HolesHaveALine }
 {}
 
-/// If a LID whose port the topology lacks has no line, packets to it end and none tells it.
+/// If a LID whose port the topology lacks has no line, packets to it end and none reports it.
 pub fn others_holes_have_a_line()
     ensures { OthersHolesHaveALine }
 {}
 
-/// If a loop of a LID that is nobody's has no line, packets go round and none tells it.
+/// If a loop of a LID that is nobody's has no line, packets go round and none reports it.
 pub fn nobodys_loops_have_a_line()
     ensures { NobodysLoopsHaveALine }
 {}

@@ -4,7 +4,7 @@ use Rattle.std.proofs.lemmas.Bool.{cases_Bool, eqb-true, eq-eqb}
 use Rattle.std.specs.List.{position_from}
 use Rattle.std.proofs.lemmas.Iterator.Adapters.{position_from-zero}
 use Rattle.mad_layout.specs.Bits.{field}
-use Rattle.result_words.proofs.ListLemmas.{found_passes}
+use Rattle.step_results.proofs.ListLemmas.{found_passes}
 use Rattle.mad_layout.specs.declared.status.MadStatus.{MadStatus}
 use Rattle.rmpp_core.specs.Segments.{Transfer, opened, segment_mad}
 use Rattle.subnet_model.specs.Delivery.{port_with_guid}
@@ -20,7 +20,7 @@ use Rattle.sa_replies.specs.Reply.{refusal_reply, table_header}
 use Rattle.sa_replies.specs.Request.{Request, request_in}
 use Rattle.sa_replies.specs.Success.{Success as Brought}
 use Rattle.sa_replies.specs.Transfers.{PortTransfer, with_table}
-use Rattle.sa_answer.specs.Answering.{Brings, CanBeTold, Reacts, answer_to_port}
+use Rattle.sa_answer.specs.Answering.{Brings, CanBeReported, Reacts, answer_to_port}
 use Rattle.sa_store.specs.Registry.{IsListed, RegistryState, place_with_guid}
 use Rattle.sa_answer.specs.Replying.{padded, reply_with}
 use Rattle.sa_answer.proofs.MembershipLemmas.{quiet}
@@ -64,35 +64,35 @@ tabled_is state (Ok (Brought.whole_table offset bytes)) spacing held h = rw (h.0
 pub refused_answers : (own : SubnetPort) (request : Request) (old : RegistryState) (brought : Result Brought MadStatus) (reaction : Reaction) (status : MadStatus)
     → brought ≡ Err status → reaction.replies.items ≡ refusal_reply request status ∷ [] → reaction.changed.items ≡ []
     → Reacts (answered_with own request old.administration brought) reaction old old
-refused_answers own request old brought reaction status is told none = rw is (quiet _ reaction old old (record { mads_are = told; next = refl }) none refl)
+refused_answers own request old brought reaction status is reported none = rw is (quiet _ reaction old old (record { mads_are = reported; next = refl }) none refl)
 
 pub replied_answers : (own : SubnetPort) (request : Request) (old : RegistryState) (brought : Result Brought MadStatus) (reaction : Reaction) (content : List ℕ)
     → IsReplied old.administration.remembered brought content → reaction.replies.items ≡ reply_with request 0 content ∷ [] → reaction.changed.items ≡ []
     → Reacts (answered_with own request old.administration brought) reaction old old
-replied_answers own request old brought reaction content replied told none =
+replied_answers own request old brought reaction content replied reported none =
     let whole = replied.whole in
-    rw replied.is (quiet _ reaction old old (record { mads_are = rw whole at told; next = refl }) none refl)
+    rw replied.is (quiet _ reaction old old (record { mads_are = rw whole at reported; next = refl }) none refl)
 
 pub tabled_answers : (own : SubnetPort) (request : Request) (old new : RegistryState) (brought : Result Brought MadStatus) (reaction : Reaction) (spacing : ℕ)
     (bytes : List ℕ) → brought ≡ Ok (Brought.whole_table spacing bytes)
     → reaction.replies.items ≡ segment_mad (opened (table_header request spacing) bytes) 1 ∷ []
     → new ≡ record old { administration = record old.administration { transfers = with_table own.guid (Some (opened (table_header request spacing) bytes)) old.administration.transfers } }
     → reaction.changed.items ≡ [] → Reacts (answered_with own request old.administration brought) reaction old new
-tabled_answers own request old new brought reaction spacing bytes is told next none =
-    rw is (quiet _ reaction old new (record { mads_are = told; next = next }) none refl)
+tabled_answers own request old new brought reaction spacing bytes is reported next none =
+    rw is (quiet _ reaction old new (record { mads_are = reported; next = next }) none refl)
 
--- ---- the length of a table can be told
-can_be_told : (state : SaState) (brought : Result Brought MadStatus) (found : Result Success MadStatus) → Brings state brought found → Ends TableLow brought → CanBeTold found
-can_be_told state brought (Err status) brings low = tt
-can_be_told state brought (Ok (Reply content)) brings low = tt
-can_be_told state (Ok (Brought.whole_table offset bytes)) (Ok (Table spacing held)) brings low = rw brings.1 low.2
-can_be_told state (Ok (Brought.one_reply bytes next)) (Ok (Table spacing held)) brings low = absurd brings
-can_be_told state (Err status) (Ok (Table spacing held)) brings low = absurd brings
+-- ---- the length of a table can be reported
+can_be_reported : (state : SaState) (brought : Result Brought MadStatus) (found : Result Success MadStatus) → Brings state brought found → Ends TableLow brought → CanBeReported found
+can_be_reported state brought (Err status) brings low = tt
+can_be_reported state brought (Ok (Reply content)) brings low = tt
+can_be_reported state (Ok (Brought.whole_table offset bytes)) (Ok (Table spacing held)) brings low = rw brings.1 low.2
+can_be_reported state (Ok (Brought.one_reply bytes next)) (Ok (Table spacing held)) brings low = absurd brings
+can_be_reported state (Err status) (Ok (Table spacing held)) brings low = absurd brings
 
-pub told_of : (configuration : ConfigurationState) (own : SubnetPort) (state : SaState) (request : Request) (found : Result Success MadStatus) → IsConfigured configuration
-    → IsListed configuration.ports own → IsRememberedOf configuration state → Brings state (outcome configuration.ports own state request) found → CanBeTold found
-told_of configuration own state request found configured listed remembered brings =
-    can_be_told state (outcome configuration.ports own state request) found brings (outcome_low configuration own state request configured listed remembered)
+pub reported_of : (configuration : ConfigurationState) (own : SubnetPort) (state : SaState) (request : Request) (found : Result Success MadStatus) → IsConfigured configuration
+    → IsListed configuration.ports own → IsRememberedOf configuration state → Brings state (outcome configuration.ports own state request) found → CanBeReported found
+reported_of configuration own state request found configured listed remembered brings =
+    can_be_reported state (outcome configuration.ports own state request) found brings (outcome_low configuration own state request configured listed remembered)
 
 -- ---- who asks, and whether it is a MAD
 pub record IsSomebody (ports : List SubnetPort) (guid : ℕ) : Type 0 where

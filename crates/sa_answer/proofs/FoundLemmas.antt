@@ -23,22 +23,22 @@ pub other_id : (mask : ℕ) (asked : ServiceRecord) (one : ServiceOfPort) → pa
 unfolding service_record_selected names_selected
 other_id mask asked one other = rw other refl
 
-pub record Told (one : ServiceOfPort) (shown : ServiceRecord) (agreeing : Bool) : Type 0 where
+pub record Reported (one : ServiceOfPort) (shown : ServiceRecord) (agreeing : Bool) : Type 0 where
   pub agrees_so : agreeing ≡ true
   pub is : shown ≡ service_record_of one
 
-pub told : (mask : ℕ) (asked : ServiceRecord) (one : ServiceOfPort) (shown : ServiceRecord)
-    → Some shown ≡ (if agrees mask asked one then Some (service_record_of one) else None) → Told one shown (agrees mask asked one)
-told mask asked one shown h = elim (cases_Bool (agrees mask asked one)) [
+pub reported : (mask : ℕ) (asked : ServiceRecord) (one : ServiceOfPort) (shown : ServiceRecord)
+    → Some shown ≡ (if agrees mask asked one then Some (service_record_of one) else None) → Reported one shown (agrees mask asked one)
+reported mask asked one shown h = elim (cases_Bool (agrees mask asked one)) [
   | inl does ↦
       let e : Some shown ≡ Some (service_record_of one) = rw does at h in
       record { agrees_so = does; is = cc }
   | inr differs ↦ absurd (let nothing : Option ServiceRecord = None in let e : Some shown ≡ nothing = rw differs at h in cc)
 ]
 
-pub not_told : (mask : ℕ) (asked : ServiceRecord) (one : ServiceOfPort)
+pub not_reported : (mask : ℕ) (asked : ServiceRecord) (one : ServiceOfPort)
     → None ≡ (if agrees mask asked one then Some (service_record_of one) else None) → agrees mask asked one ≡ false
-not_told mask asked one h = elim (cases_Bool (agrees mask asked one)) [
+not_reported mask asked one h = elim (cases_Bool (agrees mask asked one)) [
   | inl does ↦ absurd (let nothing : Option ServiceRecord = None in let e : nothing ≡ Some (service_record_of one) = rw does at h in cc)
   | inr differs ↦ differs
 ]
@@ -70,13 +70,13 @@ pub something_shown : (own other : SubnetPort) (place : ServicesOfBase) → offe
 something_shown own other place some = (and_parts (not (length place.services == 0)) (is_offered own other place.base) some).1
 
 -- ---- the bytes of a service that agrees
-abbrev pub service_told : ℕ → ServiceRecord → (port base : ℕ) → Service → List (List ℕ)
-service_told mask asked port base service = map service_bytes (services_selected mask asked (offer port base service ∷ []))
+abbrev pub service_reported : ℕ → ServiceRecord → (port base : ℕ) → Service → List (List ℕ)
+service_reported mask asked port base service = map service_bytes (services_selected mask asked (offer port base service ∷ []))
 
-pub services_told_are : (mask : ℕ) (asked : ServiceRecord) (port base : ℕ) (services : List Service)
-    → map service_bytes (services_selected mask asked (map (offer port base) services)) ≡ flat_map (service_told mask asked port base) services
-services_told_are mask asked port base [] = refl
-services_told_are mask asked port base (service ∷ services) = elim (cases_Bool (agrees mask asked (offer port base service))) [
-  | inl does ↦ rw does (ap (λ (rest : List (List ℕ)). service_bytes (offer port base service) ∷ rest) (services_told_are mask asked port base services))
-  | inr differs ↦ rw differs (services_told_are mask asked port base services)
+pub services_reported_are : (mask : ℕ) (asked : ServiceRecord) (port base : ℕ) (services : List Service)
+    → map service_bytes (services_selected mask asked (map (offer port base) services)) ≡ flat_map (service_reported mask asked port base) services
+services_reported_are mask asked port base [] = refl
+services_reported_are mask asked port base (service ∷ services) = elim (cases_Bool (agrees mask asked (offer port base service))) [
+  | inl does ↦ rw does (ap (λ (rest : List (List ℕ)). service_bytes (offer port base service) ∷ rest) (services_reported_are mask asked port base services))
+  | inr differs ↦ rw differs (services_reported_are mask asked port base services)
 ]

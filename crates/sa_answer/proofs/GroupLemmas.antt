@@ -18,8 +18,8 @@ use Rattle.sa_queries.specs.Shown.{group_entry, group_record_of}
 use Rattle.sa_queries.specs.Visible.{GroupOfBase, groups_of, visible_groups}
 use Rattle.sa_replies.specs.State.{is_fit_group}
 use Rattle.sa_answer.specs.Taken.{bytes_of}
-use Rattle.sa_answer.proofs.TakenLemmas.{bytes_are, flat_told}
-use Rattle.sa_answer.specs.Groups.{group_bytes, group_of, groups_agreeing, groups_shown, groups_told, is_named, is_searched}
+use Rattle.sa_answer.proofs.TakenLemmas.{bytes_are, flat_reported}
+use Rattle.sa_answer.specs.Groups.{group_bytes, group_of, groups_agreeing, groups_shown, groups_reported, is_named, is_searched}
 use Rattle.sa_store.specs.MlidRange.{SlotGroup, groups_in, partition_in, with_mlid}
 use Rattle.sa_store.proofs.SlotLemmas.{groups_joined}
 
@@ -162,17 +162,17 @@ pub slot_next : (mask : ℕ) (asked : McMemberRecord) (base mlid : ℕ) (slots :
     → i < length slots → slot ≡ get_or slots i slot → map group_bytes (groups_agreeing mask asked base (mlid + i) (slot ∷ [])) ≡ here
     → map group_bytes (groups_agreeing mask asked base (mlid + i) (drop i slots))
     ≡ here ++ map group_bytes (groups_agreeing mask asked base (mlid + (i + 1)) (drop (i + 1) slots))
-slot_next mask asked base mlid slots i slot here within is told =
+slot_next mask asked base mlid slots i slot here within is reported =
     ap (λ some. map group_bytes (groups_agreeing mask asked base (mlid + i) some))
     (drop_more slots i slot within ∙ ap (λ (one : Option SlotGroup). one ∷ drop (i + 1) slots) (sym is))
     ∙ (ap (map group_bytes) (agreeing_joined mask asked base (mlid + i) (mlid + (i + 1)) (slot ∷ []) (drop (i + 1) slots) (omega arith))
     ∙ (map-append group_bytes (groups_agreeing mask asked base (mlid + i) (slot ∷ [])) (groups_agreeing mask asked base (mlid + (i + 1)) (drop (i + 1) slots))
-    ∙ ap (λ (some : List (List ℕ)). some ++ map group_bytes (groups_agreeing mask asked base (mlid + (i + 1)) (drop (i + 1) slots))) told))
+    ∙ ap (λ (some : List (List ℕ)). some ++ map group_bytes (groups_agreeing mask asked base (mlid + (i + 1)) (drop (i + 1) slots))) reported))
 
 -- what shows nothing is nothing
-pub nothing_told : (groups : List GroupOfBase) → [] ≡ map group_bytes groups → groups ≡ []
-nothing_told [] h = refl
-nothing_told (one ∷ groups) h = absurd (cc)
+pub nothing_reported : (groups : List GroupOfBase) → [] ≡ map group_bytes groups → groups ≡ []
+nothing_reported [] h = refl
+nothing_reported (one ∷ groups) h = absurd (cc)
 
 -- ---- what is shown partition by partition is what is visible of all
 pub shown_is : (own : SubnetPort) (mask : ℕ) (asked : McMemberRecord) (partitions : List PartitionGroups)
@@ -189,7 +189,7 @@ shown_is own mask asked (partition ∷ partitions) =
     ]
 
 pub groups_are : (own : SubnetPort) (mask : ℕ) (asked : McMemberRecord) (partitions : List PartitionGroups)
-    → flat_map (groups_told own mask asked) partitions ≡ bytes_of (map group_entry (groups_selected mask asked (visible_groups own partitions)))
+    → flat_map (groups_reported own mask asked) partitions ≡ bytes_of (map group_entry (groups_selected mask asked (visible_groups own partitions)))
 groups_are own mask asked partitions =
-    flat_told group_bytes (groups_shown own mask asked) partitions
+    flat_reported group_bytes (groups_shown own mask asked) partitions
     ∙ (ap (map group_bytes) (shown_is own mask asked partitions) ∙ sym (bytes_are group_entry (groups_selected mask asked (visible_groups own partitions))))

@@ -22,9 +22,9 @@ use Rattle.sa_answer.specs.declared.reaction.Reaction.{Reaction}
 -- ---- who asks is the port that is found
 pub asked_by : (questions : SubnetPort → List Question) (given : Option MadStatus) (port own : SubnetPort) (found : Option SubnetPort) → Some port ≡ found
     → found ≡ Some own → given ≡ first_refusal (questions port) → given ≡ first_refusal (questions own)
-asked_by questions given port own found is found_is told =
+asked_by questions given port own found is found_is reported =
     let same : port ≡ own = same_Some port own (is ∙ found_is) in
-    told ∙ ap (λ (one : SubnetPort). first_refusal (questions one)) same
+    reported ∙ ap (λ (one : SubnetPort). first_refusal (questions one)) same
 
 -- ---- a leave
 pub leave_refused : (ports : List SubnetPort) (own : SubnetPort) (state : SaState) (mask : ℕ) (asked : McMemberRecord) (content : List ℕ) (status : MadStatus)
@@ -55,11 +55,11 @@ refused_change old new (Err other) status h = (ap (λ (s : MadStatus). Err s) (s
 pub change_reacts : (own : SubnetPort) (request : Request) (old new : RegistryState) (brought : Result Success MadStatus) (change : Change) (reaction : Reaction)
     → BringsChange old brought (Ok change) new → reaction.replies.items ≡ reply_with request 0 change.«data» ∷ [] → reaction.changed.items ≡ change.numbers.items
     → Reacts (answered_with own request old.administration brought) reaction old new
-change_reacts own request old new (Err status) change reaction h told numbers = absurd h
-change_reacts own request old new (Ok (Success.whole_table offset bytes)) change reaction h told numbers = absurd h
-change_reacts own request old new (Ok (Success.one_reply bytes next)) change reaction h told numbers =
+change_reacts own request old new (Err status) change reaction h reported numbers = absurd h
+change_reacts own request old new (Ok (Success.whole_table offset bytes)) change reaction h reported numbers = absurd h
+change_reacts own request old new (Ok (Success.one_reply bytes next)) change reaction h reported numbers =
     let whole = h.0 in
-    record { answers = record { mads_are = rw whole at told; next = h.1.0 }; changed = numbers ∙ h.1.1 }
+    record { answers = record { mads_are = rw whole at reported; next = h.1.0 }; changed = numbers ∙ h.1.1 }
 
 -- ---- what leaves the partitions changes no receivers
 pub quiet : (answered : Answered) (reaction : Reaction) (old new : RegistryState) → Answers answered reaction.replies.items old new → reaction.changed.items ≡ []

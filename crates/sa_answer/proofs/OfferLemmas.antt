@@ -22,10 +22,10 @@ use Rattle.sa_queries.specs.Visible.{ServiceOfPort, visible_services}
 use Rattle.sa_store.specs.Registry.{IsListed, of_guid, of_port}
 use Rattle.sa_store.proofs.PortServiceLemmas.{place_of}
 use Rattle.sa_answer.specs.Taken.{bytes_of}
-use Rattle.sa_answer.proofs.TakenLemmas.{bytes_are, flat_told}
+use Rattle.sa_answer.proofs.TakenLemmas.{bytes_are, flat_reported}
 use Rattle.sa_store.specs.Kept.{KeptPort, ServicesOfBase, ports_of, services_of, services_of_port}
 use Rattle.sa_answer.specs.Asked.{guid_in}
-use Rattle.sa_answer.specs.Offers.{is_offered, offer, offers_of, offers_shown, service_bytes, services_offered, services_told}
+use Rattle.sa_answer.specs.Offers.{is_offered, offer, offers_of, offers_shown, service_bytes, services_offered, services_reported}
 use Rattle.sa_answer.proofs.FoundLemmas.{agrees}
 use Rattle.sa_answer.proofs.OutLemmas.{gids_differ}
 use Rattle.sa_queries.specs.Visible as visible
@@ -151,11 +151,11 @@ offered_by ports own mask asked guid kept services once own_listed named is port
 
 -- ---- and as it is gone through
 pub services_are : (own : SubnetPort) (mask : ℕ) (asked : ServiceRecord) (others : List KeptPort) (services : List ServiceOfPort)
-    → flat_map (services_offered own mask asked) others ≡ services → flat_map (services_told own mask asked) others ≡ bytes_of (map service_entry services)
+    → flat_map (services_offered own mask asked) others ≡ services → flat_map (services_reported own mask asked) others ≡ bytes_of (map service_entry services)
 services_are own mask asked others services same =
     each others
-    ∙ (flat_told service_bytes (services_offered own mask asked) others ∙ (ap (map service_bytes) same ∙ sym (bytes_are service_entry services)))
+    ∙ (flat_reported service_bytes (services_offered own mask asked) others ∙ (ap (map service_bytes) same ∙ sym (bytes_are service_entry services)))
   where
-    each : (some : List KeptPort) → flat_map (services_told own mask asked) some ≡ flat_map (λ other. map service_bytes (services_offered own mask asked other)) some
+    each : (some : List KeptPort) → flat_map (services_reported own mask asked) some ≡ flat_map (λ other. map service_bytes (services_offered own mask asked other)) some
     each [] = refl
-    each (other ∷ some) = λ i. flat_told service_bytes (offers_shown own mask asked other.port) other.services i ++ each some i
+    each (other ∷ some) = λ i. flat_reported service_bytes (offers_shown own mask asked other.port) other.services i ++ each some i

@@ -11,11 +11,11 @@ use Rattle.sa_queries.specs.Gid.{gid_of, gid_prefix}
 use Rattle.sa_queries.specs.Selected.{asks, at_most, few_paths, paths_selected}
 use Rattle.sa_queries.specs.Shown.{path_record_of}
 use Rattle.sa_queries.specs.Visible.{Path, keys_to, paths_under}
-use Rattle.sa_answer.specs.Asked.{guid_in, is_told}
+use Rattle.sa_answer.specs.Asked.{guid_in, is_reported}
 use Rattle.sa_answer.proofs.PathLemmas.{under}
 
 pub node_out : (own : SubnetPort) (mask : ℕ) (asked : NodeRecord) (port : SubnetPort) → asks mask 1 ≡ true → (port.lid == asked.lid) ≡ false
-    → is_told own mask asked port ≡ false
+    → is_reported own mask asked port ≡ false
 unfolding node_record_selected
 node_out own mask asked port named other = rw (named, other) refl
 

@@ -40,10 +40,10 @@ agreeing_no mask asked own other keys i key within is accepted differs =
 -- ---- as many as are wanted, one after another
 pub one_wanted : (left : ℕ) (path : Path) (all rest : List Path) (one : List ℕ) → 0 < left → all ≡ path ∷ rest → one ≡ path_bytes path
     → map path_bytes (take left all) ≡ (one ∷ []) ++ map path_bytes (take (left - 1) rest)
-one_wanted zero path all rest one some is spelt = absurd (omega arith)
-one_wanted (suc n) path all rest one some is spelt =
+one_wanted zero path all rest one some is encoded = absurd (omega arith)
+one_wanted (suc n) path all rest one some is encoded =
     let e : suc n - 1 ≡ n = omega arith in
-    rw (is, spelt, e) refl
+    rw (is, encoded, e) refl
 
 pub nothing_left : (left : ℕ) (all rest : List Path) → left ≤ 0 → map path_bytes (take left all) ≡ map path_bytes (take left rest)
 nothing_left zero all rest none = refl

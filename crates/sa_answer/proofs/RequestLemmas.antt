@@ -22,9 +22,9 @@ use Rattle.sa_records.specs.ServiceMask as service_mask
 -- ---- a port that may set and delete
 pub may : (given : Option MadStatus) (port own : SubnetPort) (found : Option SubnetPort) (mask : ℕ) (asked : ServiceRecord) → Some port ≡ found → found ≡ Some own
     → given ≡ first_refusal (owner_questions port mask asked) → given ≡ None → first_refusal (owner_questions own mask asked) ≡ None
-may given port own found mask asked is found_is told none =
+may given port own found mask asked is found_is reported none =
     let same : port ≡ own = same_Some port own (is ∙ found_is) in
-    ap (λ (one : SubnetPort). first_refusal (owner_questions one mask asked)) (sym same) ∙ sym told ∙ none
+    ap (λ (one : SubnetPort). first_refusal (owner_questions one mask asked)) (sym same) ∙ sym reported ∙ none
 
 third : (a b c : Bool) (r s t : MadStatus) → first_refusal (refused_if a r ∷ refused_if b s ∷ refused_if (not c) t ∷ []) ≡ None → c ≡ true
 third true b c r s t none = absurd (cc)

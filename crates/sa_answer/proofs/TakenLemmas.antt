@@ -79,32 +79,32 @@ pub all_taken : (shown left : List (List ℕ)) (start now : Taken) → left ≡ 
 all_taken shown left start now none leads = leads.goes now (subst (λ (some : List (List ℕ)). HasTaken some now now) (sym none) (none_taken now))
 
 -- one more of a list
-pub one_of : {X : Type 0} (told : X → List (List ℕ)) (xs : List X) (i : ℕ) (x : X) → i < length xs → x ≡ get_or xs i x
-    → flat_map told (drop i xs) ≡ told x ++ flat_map told (drop (i + 1) xs)
-one_of told xs i x within is =
-    ap (flat_map told) (drop_more xs i x within) ∙ ap (λ one. told one ++ flat_map told (drop (i + 1) xs)) (sym is)
+pub one_of : {X : Type 0} (reported : X → List (List ℕ)) (xs : List X) (i : ℕ) (x : X) → i < length xs → x ≡ get_or xs i x
+    → flat_map reported (drop i xs) ≡ reported x ++ flat_map reported (drop (i + 1) xs)
+one_of reported xs i x within is =
+    ap (flat_map reported) (drop_more xs i x within) ∙ ap (λ one. reported one ++ flat_map reported (drop (i + 1) xs)) (sym is)
 
 -- ---- a walk over a list, at one of its elements
-module _ {X : Type 0} (told : X → List (List ℕ)) (xs : List X) (i : ℕ) (x : X) (shown : List (List ℕ)) (start now : Taken) (within : i < length xs)
-    (is : x ≡ get_or xs i x) (leads : LeadsTo shown start (flat_map told (drop i xs)) now) where
-  split : (here : List (List ℕ)) → told x ≡ here → flat_map told (drop i xs) ≡ here ++ flat_map told (drop (i + 1) xs)
-  split here same = one_of told xs i x within is ∙ ap (λ (some : List (List ℕ)). some ++ flat_map told (drop (i + 1) xs)) same
+module _ {X : Type 0} (reported : X → List (List ℕ)) (xs : List X) (i : ℕ) (x : X) (shown : List (List ℕ)) (start now : Taken) (within : i < length xs)
+    (is : x ≡ get_or xs i x) (leads : LeadsTo shown start (flat_map reported (drop i xs)) now) where
+  split : (here : List (List ℕ)) → reported x ≡ here → flat_map reported (drop i xs) ≡ here ++ flat_map reported (drop (i + 1) xs)
+  split here same = one_of reported xs i x within is ∙ ap (λ (some : List (List ℕ)). some ++ flat_map reported (drop (i + 1) xs)) same
 
-  pub taken_one : (here : List (List ℕ)) (next : Taken) → told x ≡ here → HasTaken here now next → LeadsTo shown start (flat_map told (drop (i + 1) xs)) next
+  pub taken_one : (here : List (List ℕ)) (next : Taken) → reported x ≡ here → HasTaken here now next → LeadsTo shown start (flat_map reported (drop (i + 1) xs)) next
   taken_one here next same taken =
-      leads_on shown (flat_map told (drop i xs)) here (flat_map told (drop (i + 1) xs)) start now next (split here same) taken leads
+      leads_on shown (flat_map reported (drop i xs)) here (flat_map reported (drop (i + 1) xs)) start now next (split here same) taken leads
 
-  pub passed_one : told x ≡ [] → LeadsTo shown start (flat_map told (drop (i + 1) xs)) now
-  passed_one none = leads_as shown (flat_map told (drop i xs)) (flat_map told (drop (i + 1) xs)) start now (split [] none) leads
+  pub passed_one : reported x ≡ [] → LeadsTo shown start (flat_map reported (drop (i + 1) xs)) now
+  passed_one none = leads_as shown (flat_map reported (drop i xs)) (flat_map reported (drop (i + 1) xs)) start now (split [] none) leads
 
-  pub stops_at : (here : List (List ℕ)) → told x ≡ here → Stops here now → Stops shown start
+  pub stops_at : (here : List (List ℕ)) → reported x ≡ here → Stops here now → Stops shown start
   stops_at here same stops =
-      stops_here shown (flat_map told (drop i xs)) here (flat_map told (drop (i + 1) xs)) start now (split here same) stops leads
+      stops_here shown (flat_map reported (drop i xs)) here (flat_map reported (drop (i + 1) xs)) start now (split here same) stops leads
 
 -- and behind the last
-pub done_all : {X : Type 0} (told : X → List (List ℕ)) (xs : List X) (i : ℕ) (shown : List (List ℕ)) (start now : Taken) → length xs ≤ i
-    → LeadsTo shown start (flat_map told (drop i xs)) now → HasTaken shown start now
-done_all told xs i shown start now past leads = all_taken shown (flat_map told (drop i xs)) start now (ap (flat_map told) (drop_all i xs past)) leads
+pub done_all : {X : Type 0} (reported : X → List (List ℕ)) (xs : List X) (i : ℕ) (shown : List (List ℕ)) (start now : Taken) → length xs ≤ i
+    → LeadsTo shown start (flat_map reported (drop i xs)) now → HasTaken shown start now
+done_all reported xs i shown start now past leads = all_taken shown (flat_map reported (drop i xs)) start now (ap (flat_map reported) (drop_all i xs past)) leads
 
 -- ---- the bytes of a table
 pub whole_table : (entries : List Entry) (held : Vec ℕ Global) → held.items ≡ flat_map (λ bytes. bytes) (bytes_of entries)
@@ -120,7 +120,7 @@ pub bytes_are : {X : Type 0} (entry : X → Entry) (xs : List X) → bytes_of (m
 bytes_are entry [] = refl
 bytes_are entry (x ∷ xs) = ap (λ (rest : List (List ℕ)). record_bytes (entry x).shown ∷ rest) (bytes_are entry xs)
 
-pub flat_told : {X Y : Type 0} (bytes : Y → List ℕ) (found : X → List Y) (xs : List X) → flat_map (λ x. map bytes (found x)) xs ≡ map bytes (flat_map found xs)
-flat_told bytes found [] = refl
-flat_told bytes found (x ∷ xs) =
-    ap (λ (rest : List (List ℕ)). map bytes (found x) ++ rest) (flat_told bytes found xs) ∙ sym (map-append bytes (found x) (flat_map found xs))
+pub flat_reported : {X Y : Type 0} (bytes : Y → List ℕ) (found : X → List Y) (xs : List X) → flat_map (λ x. map bytes (found x)) xs ≡ map bytes (flat_map found xs)
+flat_reported bytes found [] = refl
+flat_reported bytes found (x ∷ xs) =
+    ap (λ (rest : List (List ℕ)). map bytes (found x) ++ rest) (flat_reported bytes found xs) ∙ sym (map-append bytes (found x) (flat_map found xs))

@@ -22,7 +22,7 @@ IsBrought state _ _ = ⊥
 
 abbrev pub Brings : SaState → Result Brought MadStatus → Result Success MadStatus → Type 0
 Brings state (Ok brought) (Ok found) = IsBrought state brought found
-Brings state (Err status) (Err told) = told ≡ status
+Brings state (Err status) (Err reported) = reported ≡ status
 Brings state _ _ = ⊥
 
 -- a Set or a Delete brings this data for its reply, with the numbers of the partitions whose receivers are others then, and what is
@@ -30,14 +30,14 @@ Brings state _ _ = ⊥
 abbrev pub BringsChange : RegistryState → Result Brought MadStatus → Result Change MadStatus → RegistryState → Type 0
 BringsChange old (Ok (Brought.one_reply bytes next)) (Ok change) new =
     (change.«data» ≡ padded bytes) × ((new ≡ with_remembered next old) × (change.numbers.items ≡ changed_between old new))
-BringsChange old (Err status) (Err told) new = (told ≡ status) × (new ≡ old)
+BringsChange old (Err status) (Err reported) new = (reported ≡ status) × (new ≡ old)
 BringsChange old _ _ new = ⊥
 
--- the length of a table can be told in the 32 bits that its first segment has for it
-abbrev pub CanBeTold : Result Success MadStatus → Type 0
-CanBeTold (Ok (Table spacing held)) = payload_size held.items < 2 ^ 32
-CanBeTold (Ok (Reply content)) = Unit {0}
-CanBeTold (Err status) = Unit {0}
+-- the length of a table can be reported in the 32 bits that its first segment has for it
+abbrev pub CanBeReported : Result Success MadStatus → Type 0
+CanBeReported (Ok (Table spacing held)) = payload_size held.items < 2 ^ 32
+CanBeReported (Ok (Reply content)) = Unit {0}
+CanBeReported (Err status) = Unit {0}
 
 -- ---- what a port of a GUID sends; what comes from none is not answered
 abbrev pub answer_from : List SubnetPort → Option SubnetPort → List ℕ → Administration → Answered

@@ -15,14 +15,14 @@ use Rattle.sa_queries.specs.Visible.{may_know}
 abbrev pub guid_in : ℕ → Option ℕ
 guid_in gid = if gid / 2 ^ 64 == gid_prefix then Some (gid % 2 ^ 64) else None
 
--- ---- a node is told: it agrees with the request, and may be known
-abbrev pub is_told : SubnetPort → ℕ → NodeRecord → SubnetPort → Bool
-is_told own mask asked node = node_record_selected mask (node_record_of node) asked && may_know own node
+-- ---- a node is reported: it agrees with the request, and may be known
+abbrev pub is_reported : SubnetPort → ℕ → NodeRecord → SubnetPort → Bool
+is_reported own mask asked node = node_record_selected mask (node_record_of node) asked && may_know own node
 
--- the bytes of a node that is told
-abbrev pub node_told : SubnetPort → ℕ → NodeRecord → KeptPort → List (List ℕ)
-node_told own mask asked node = if is_told own mask asked node.port then node_bytes node.port ∷ [] else []
+-- the bytes of a node that is reported
+abbrev pub node_reported : SubnetPort → ℕ → NodeRecord → KeptPort → List (List ℕ)
+node_reported own mask asked node = if is_reported own mask asked node.port then node_bytes node.port ∷ [] else []
 
 -- ---- the bytes of the paths to a port
-abbrev pub paths_told : Option ℕ → ℕ → PathRecord → SubnetPort → KeptPort → List (List ℕ)
-paths_told most mask asked own other = map path_bytes (few_paths most mask asked own other.port)
+abbrev pub paths_reported : Option ℕ → ℕ → PathRecord → SubnetPort → KeptPort → List (List ℕ)
+paths_reported most mask asked own other = map path_bytes (few_paths most mask asked own other.port)

@@ -24,8 +24,8 @@ abbrev pub groups_shown : SubnetPort → ℕ → McMemberRecord → PartitionGro
 groups_shown own mask asked partition = if is_in own partition.base then groups_selected mask asked (groups_of partition) else []
 
 -- their bytes
-abbrev pub groups_told : SubnetPort → ℕ → McMemberRecord → PartitionGroups → List (List ℕ)
-groups_told own mask asked partition = map group_bytes (groups_shown own mask asked partition)
+abbrev pub groups_reported : SubnetPort → ℕ → McMemberRecord → PartitionGroups → List (List ℕ)
+groups_reported own mask asked partition = map group_bytes (groups_shown own mask asked partition)
 
 -- a group of the partition of this base
 abbrev pub group_of : ℕ → MulticastGroup → GroupOfBase

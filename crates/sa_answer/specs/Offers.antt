@@ -40,5 +40,5 @@ abbrev pub services_offered : SubnetPort → ℕ → ServiceRecord → KeptPort 
 services_offered own mask asked other = flat_map (offers_shown own mask asked other.port) other.services
 
 -- their bytes
-abbrev pub services_told : SubnetPort → ℕ → ServiceRecord → KeptPort → List (List ℕ)
-services_told own mask asked other = flat_map (λ place. map service_bytes (offers_shown own mask asked other.port place)) other.services
+abbrev pub services_reported : SubnetPort → ℕ → ServiceRecord → KeptPort → List (List ℕ)
+services_reported own mask asked other = flat_map (λ place. map service_bytes (offers_shown own mask asked other.port place)) other.services

@@ -9,7 +9,7 @@ ghost use Rattle.mad_layout.specs.declared.status.MadStatus.{MadStatus};
 ghost use Rattle.sa_replies.specs.Answer.{after_rmpp, answer_to, answered_with, version_refused};
 ghost use Rattle.sa_replies.specs.Success.{Success as Brought};
 ghost use Rattle.sa_replies.specs.Transfers.{on_rmpp, table_of};
-ghost use Rattle.sa_answer.specs.Answering.{Answers, Brings, BringsChange, CanBeTold, Reacts, answer_to_port};
+ghost use Rattle.sa_answer.specs.Answering.{Answers, Brings, BringsChange, CanBeReported, Reacts, answer_to_port};
 ghost use Rattle.sa_store.specs.Registry.{IsRequester, RegistryState};
 
 use crate::change::ChangeOutcome;
@@ -18,10 +18,10 @@ use crate::outcome::{Outcome, Success};
 use crate::reaction::Reaction;
 use crate::registry::Registry;
 use crate::reply::{refusal_reply, reply, table_header};
-use crate::request::{Request, SA_CLASS};
+use crate::request::Request;
 use crate::transfers::{on_rmpp, only};
 use mad_layout::{Mad, MadStatus, get_bits};
-use rmpp_core::Sender;
+use rmpp_core::{SA_CLASS, Sender};
 use sa_store::{Requester, Store};
 use std::alloc::{AllocError, Global};
 
@@ -29,7 +29,7 @@ impl Registry {
     /// Takes what the port of a GUID sends, and answers it. What is no MAD of subnet administration, or comes from no port of
     /// the subnet, is not answered.
     ///
-    /// Memory alone can be refused, and then for good.
+    /// It can only run out of memory, and then for good.
     pub fn handle(&mut self, port: u64, payload: &[u8]) -> Result<Reaction, AllocError>
         ensures reacts { IfOk result (λ reaction.
             Reacts (answer_to_port self.old.configuration.ports port payload.now self.old.administration) reaction self.old self.new) }
@@ -132,7 +132,7 @@ pub(crate) fn records_answered(
 ) -> Result<Reaction, AllocError>
     requires place { IsRequester store.old.configuration.ports requester }
     requires method { request.now.header.method < 128 }
-    requires told { CanBeTold outcome }
+    requires reported { CanBeReported outcome }
     ensures configuration { store.new.configuration ≡ store.old.configuration }
     ensures reacts { (own : SubnetPort) (brought : Result Brought MadStatus) → own.guid ≡ requester.guid
         → Brings store.old.administration.remembered brought outcome → IfOk result (λ reaction.

@@ -4,10 +4,7 @@ ghost use Rattle.std.specs.Prelude.{◌≡◌, ◌/◌, ◌%◌, ◌==◌};
 ghost use Rattle.sa_queries.specs.Gid.{gid_of};
 ghost use Rattle.sa_answer.specs.Asked.{guid_in};
 
-/// The subnet's prefix, which PortInfo shows.
-///
-/// Source: IBA volume 1, 14.2.5.6.
-const GID_PREFIX: u64 = 0xfe80_0000_0000_0000;
+use fabric_parts::GID_PREFIX;
 
 /// The GID of the port of a GUID.
 pub(crate) fn gid_of(guid: u64) -> u128

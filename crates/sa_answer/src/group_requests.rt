@@ -62,7 +62,7 @@ fn join_refused(
     ensures { (own : SubnetPort) → join.now ≡ join_asked own mask asked.now
         → result ≡ join_refusal store.now.configuration.ports own mask asked.now store.now.administration.remembered.partitions }
 {
-    // That no two partitions have one base is known once it is said.
+    // It follows that no two partitions have one base.
     store.known();
     group_refusal(store.partition_at(place), store.may_make(join), mask, asked)
 }

@@ -14,24 +14,24 @@ ghost use Rattle.sa_store.specs.MlidRange.{with_mlid};
 
 use crate::gid::gid_of;
 use crate::mc_member::group_record;
-use crate::member_mask::{
-    FLOW_LABEL, HOP_LIMIT, JOIN_STATE, MGID, MTU, P_KEY, PACKET_LIFE_TIME, PORT_GID, PROXY_JOIN,
-    Q_KEY, RATE, SCOPE, SL, T_CLASS,
-};
 use crate::parameters::{life_taken, mtu_taken, parameters_asked, rate_taken};
 use crate::questions::{asks, asks_unknown_mtu, asks_unknown_rate, first_refusal, refused_if};
 use mad_layout::{JoinState, MadStatus};
 use pkey_rules::base_of;
 use sa_records::McMemberRecord;
+use sa_records::member_mask::{
+    FLOW_LABEL, HOP_LIMIT, JOIN_STATE, MGID, P_KEY, PORT_GID, PROXY_JOIN, Q_KEY, SCOPE,
+    SELECTED_LIFE_TIME, SELECTED_MTU, SELECTED_RATE, SL, T_CLASS,
+};
 use sa_store::{Group, Join, Leave, MlidRange, is_in};
 use subnet_model::SubnetPort;
 
 /// What a group is asked to agree with: all but what names it, and MLID and ProxyJoin.
 const COMPARED: u64 = Q_KEY
-    | MTU
+    | SELECTED_MTU
     | T_CLASS
-    | RATE
-    | PACKET_LIFE_TIME
+    | SELECTED_RATE
+    | SELECTED_LIFE_TIME
     | SL
     | FLOW_LABEL
     | HOP_LIMIT
@@ -55,17 +55,17 @@ pub(crate) fn join_refusal(own: &SubnetPort, mask: u64, asked: &McMemberRecord) 
             MadStatus::RequestInvalid,
         ),
         refused_if(
-            asks_unknown_mtu(mask, MTU, asked.mtu),
+            asks_unknown_mtu(mask, SELECTED_MTU, asked.mtu),
             MadStatus::RequestInvalid,
         ),
         refused_if(
-            asks_unknown_rate(mask, RATE, asked.rate),
+            asks_unknown_rate(mask, SELECTED_RATE, asked.rate),
             MadStatus::RequestInvalid,
         ),
     ])
 }
 
-/// Why a join is refused by the groups of the partition of its base: whether the port may make one is known already.
+/// Why the groups of the partition refuse a join. `may_make` says whether the port may create a group.
 pub(crate) fn group_refusal(
     partition: &MlidRange,
     may_make: bool,

@@ -13,7 +13,6 @@ mod gid;
 mod group_requests;
 mod joins;
 mod mc_member;
-mod member_mask;
 mod node;
 mod outcome;
 mod parameters;

@@ -15,18 +15,18 @@ ghost use Rattle.sa_replies.specs.Joins.{group_named, member_bytes, member_recor
 ghost use Rattle.sa_answer.specs.Answering.{Brings};
 ghost use Rattle.sa_store.specs.Members.{place_with_base};
 ghost use Rattle.sa_answer.specs.Taken.{Walks};
-ghost use Rattle.sa_answer.specs.Groups.{groups_told, group_bytes, group_of, groups_agreeing, is_named, is_searched};
+ghost use Rattle.sa_answer.specs.Groups.{groups_reported, group_bytes, group_of, groups_agreeing, is_named, is_searched};
 ghost use Rattle.sa_answer.specs.Replying.{padded};
 ghost use Rattle.sa_store.specs.MlidRange.{with_mlid};
 
 use crate::gid::gid_of;
-use crate::member_mask::{MGID, MLID, MTU, P_KEY, RATE};
 use crate::outcome::Outcome;
 use crate::path::EXACTLY;
 use crate::questions::{asks, asks_unknown_mtu, asks_unknown_rate, first_refusal, refused_if};
 use crate::taken::{Stopped, Taken, got_by, table_by};
 use mad_layout::{MadStatus, SA_DATA_BYTES};
 use pkey_rules::{base_of, key_of};
+use sa_records::member_mask::{MGID, MLID, P_KEY, SELECTED_MTU, SELECTED_RATE};
 use sa_records::{MC_MEMBER_RECORD_BYTES, MC_MEMBER_RECORD_OFFSET, McMemberRecord};
 use sa_store::{Group, KeptPort, MlidRange, Store, is_in};
 use std::alloc::AllocError;
@@ -70,11 +70,11 @@ fn group_refusal(mask: u64, asked: &McMemberRecord) -> Option<MadStatus>
 {
     first_refusal(&[
         refused_if(
-            asks_unknown_mtu(mask, MTU, asked.mtu),
+            asks_unknown_mtu(mask, SELECTED_MTU, asked.mtu),
             MadStatus::RequestInvalid,
         ),
         refused_if(
-            asks_unknown_rate(mask, RATE, asked.rate),
+            asks_unknown_rate(mask, SELECTED_RATE, asked.rate),
             MadStatus::RequestInvalid,
         ),
     ])
@@ -88,7 +88,7 @@ fn walk(
     asked: &McMemberRecord,
     taken: &mut Taken,
 ) -> Result<(), Stopped>
-    ensures { Walks (flat_map (groups_told own.now mask asked.now) partitions.now) taken.old taken.new result }
+    ensures { Walks (flat_map (groups_reported own.now mask asked.now) partitions.now) taken.old taken.new result }
 {
     for partition in partitions {
         walk_partition(own, partition, mask, asked, taken)?;
@@ -104,7 +104,7 @@ fn walk_partition(
     asked: &McMemberRecord,
     taken: &mut Taken,
 ) -> Result<(), Stopped>
-    ensures { Walks (groups_told own.now mask asked.now partition.now) taken.old taken.new result }
+    ensures { Walks (groups_reported own.now mask asked.now partition.now) taken.old taken.new result }
 {
     let slots = partition.as_slice();
     if !is_searched(own, partition, mask, asked) {

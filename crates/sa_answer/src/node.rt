@@ -7,7 +7,7 @@ ghost use Rattle.subnet_model.specs.declared.subnet_port.SubnetPort.{SubnetPort 
 ghost use Rattle.sa_queries.specs.Selected.{Query};
 ghost use Rattle.sa_replies.specs.Answer.{get_outcome, table_outcome};
 ghost use Rattle.sa_answer.specs.Answering.{Brings};
-ghost use Rattle.sa_answer.specs.Asked.{is_told, node_told};
+ghost use Rattle.sa_answer.specs.Asked.{is_reported, node_reported};
 ghost use Rattle.sa_answer.specs.Taken.{Walks};
 ghost use Rattle.sa_store.specs.Kept.{ports_of};
 
@@ -15,13 +15,11 @@ use crate::outcome::Outcome;
 use crate::questions::asks;
 use crate::taken::{Stopped, Taken, got_by, table_by};
 use mad_layout::{MadStatus, SA_DATA_BYTES};
+use sa_records::node_mask::LID;
 use sa_records::{NODE_RECORD_BYTES, NODE_RECORD_OFFSET, NodeRecord};
 use sa_store::{KeptPort, Store};
 use std::alloc::AllocError;
 use subnet_model::SubnetPort;
-
-/// The bit of the ComponentMask that asks for a LID.
-const LID: u64 = 1 << 0;
 
 /// A Get by NodeRecord.
 pub(crate) fn got(store: &Store, own: &KeptPort, mask: u64, asked: &NodeRecord) -> Outcome
@@ -53,8 +51,8 @@ pub(crate) fn table(
 
 /// The ports whose nodes a request can name: that of the LID that it asks, or all.
 fn nodes_asked<'a>(store: &'a Store, mask: u64, asked: &NodeRecord) -> &'a [KeptPort]
-    ensures { (own : Port) → filter (is_told own mask asked.now) (ports_of result.now)
-        ≡ filter (is_told own mask asked.now) store.now.configuration.ports }
+    ensures { (own : Port) → filter (is_reported own mask asked.now) (ports_of result.now)
+        ≡ filter (is_reported own mask asked.now) store.now.configuration.ports }
 {
     if asks(mask, LID) {
         store.of_lid(asked.lid)
@@ -71,10 +69,10 @@ fn walk(
     asked: &NodeRecord,
     taken: &mut Taken,
 ) -> Result<(), Stopped>
-    ensures { Walks (flat_map (node_told own.now mask asked.now) nodes.now) taken.old taken.new result }
+    ensures { Walks (flat_map (node_reported own.now mask asked.now) nodes.now) taken.old taken.new result }
 {
     for node in nodes {
-        if is_told(own, node, mask, asked) {
+        if is_reported(own, node, mask, asked) {
             taken.take(node.bytes())?;
         }
     }
@@ -82,8 +80,8 @@ fn walk(
 }
 
 /// Whether a port is shown a node, which agrees with a request.
-fn is_told(own: &SubnetPort, node: &KeptPort, mask: u64, asked: &NodeRecord) -> bool
-    ensures { result ≡ is_told own.now mask asked.now node.now.port }
+fn is_reported(own: &SubnetPort, node: &KeptPort, mask: u64, asked: &NodeRecord) -> bool
+    ensures { result ≡ is_reported own.now mask asked.now node.now.port }
 {
     node.shown().selected_by(mask, asked) && may_know(own, node.port())
 }

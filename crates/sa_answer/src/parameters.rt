@@ -8,9 +8,9 @@ ghost use Rattle.sa_queries.specs.Selected.{asks};
 ghost use Rattle.sa_replies.specs.Joins.{life_taken, mtu_taken, parameters_asked, rate_taken};
 ghost use Rattle.sa_store.specs.MlidRange.{parameters_of};
 
-use crate::member_mask::{HOP_LIMIT, MTU, PACKET_LIFE_TIME, RATE, SCOPE};
 use crate::questions::asks;
 use attr_tables::{Mtu, Rate};
+use sa_records::member_mask::{HOP_LIMIT, SCOPE, SELECTED_LIFE_TIME, SELECTED_MTU, SELECTED_RATE};
 use sa_records::{McMemberRecord, code_satisfies, rate_satisfies};
 use sa_store::{GroupParameters, PACKET_LIFE_TIME as PACKETS_LIVE};
 
@@ -33,7 +33,7 @@ pub(crate) fn mtu_taken(mask: u64, asked: &McMemberRecord) -> Option<u8>
 fn takes_mtu(mask: u64, asked: &McMemberRecord, mtu: u8) -> bool
     ensures { result ≡ (not (asks mask member_mask.mtu) || satisfies asked.now.mtu_selector mtu asked.now.mtu) }
 {
-    !asks(mask, MTU) || code_satisfies(asked.mtu_selector, mtu, asked.mtu)
+    !asks(mask, SELECTED_MTU) || code_satisfies(asked.mtu_selector, mtu, asked.mtu)
 }
 
 /// The greatest rate that we have and that satisfies what is asked.
@@ -54,7 +54,7 @@ pub(crate) fn rate_taken(mask: u64, asked: &McMemberRecord) -> Option<u8>
 fn takes_rate(mask: u64, asked: &McMemberRecord, rate: u8) -> bool
     ensures { result ≡ (not (asks mask member_mask.rate) || rate_satisfies asked.now.rate_selector rate asked.now.rate) }
 {
-    !asks(mask, RATE) || rate_satisfies(asked.rate_selector, rate, asked.rate)
+    !asks(mask, SELECTED_RATE) || rate_satisfies(asked.rate_selector, rate, asked.rate)
 }
 
 /// The life time that we have, where it satisfies what is asked.
@@ -62,7 +62,7 @@ pub(crate) fn life_taken(mask: u64, asked: &McMemberRecord) -> Option<u8>
     ensures { result ≡ life_taken mask asked.now }
 {
     let life = PACKETS_LIVE;
-    if !asks(mask, PACKET_LIFE_TIME)
+    if !asks(mask, SELECTED_LIFE_TIME)
         || code_satisfies(
             asked.packet_life_time_selector,
             life,

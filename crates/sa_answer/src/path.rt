@@ -11,7 +11,7 @@ ghost use Rattle.sa_queries.specs.Visible.{Path};
 ghost use Rattle.subnet_model.specs.declared.subnet_port.SubnetPort.{SubnetPort as Port};
 ghost use Rattle.sa_replies.specs.Answer.{get_outcome, table_outcome};
 ghost use Rattle.sa_answer.specs.Answering.{Brings};
-ghost use Rattle.sa_answer.specs.Asked.{paths_told};
+ghost use Rattle.sa_answer.specs.Asked.{paths_reported};
 ghost use Rattle.sa_answer.specs.Taken.{Walks};
 ghost use Rattle.sa_store.specs.Kept.{ports_of};
 ghost use Rattle.sa_answer.specs.Replying.{path_bytes};
@@ -23,25 +23,11 @@ use crate::taken::{Stopped, Taken, got_by, table_by};
 use attr_tables::{Mtu, Rate};
 use mad_layout::MadStatus;
 use pkey_rules::PKey;
+use sa_records::path_mask::{DGID, DLID, NUMB_PATH, SELECTED_MTU, SELECTED_RATE, SGID, SLID};
 use sa_records::{PATH_RECORD_BYTES, PATH_RECORD_OFFSET, PathRecord};
 use sa_store::{KeptPort, PACKET_LIFE_TIME, Store};
 use std::alloc::AllocError;
 use subnet_model::SubnetPort;
-
-// What the bits of the ComponentMask ask for (IBA volume 1, 15.2.5).
-const DGID: u64 = 1 << 2;
-
-const SGID: u64 = 1 << 3;
-
-const DLID: u64 = 1 << 4;
-
-const SLID: u64 = 1 << 5;
-
-const NUMB_PATH: u64 = 1 << 12;
-
-const MTU: u64 = 0b11 << 16;
-
-const RATE: u64 = 0b11 << 18;
 
 /// The selector that says that a value is this very one.
 pub(crate) const EXACTLY: u8 = 2;
@@ -106,11 +92,11 @@ fn path_refusal(own: &SubnetPort, mask: u64, asked: &PathRecord) -> Option<MadSt
         refused_if(has_foreign_sgid(own, mask, asked), MadStatus::InvalidGid),
         refused_if(wants_no_path(mask, asked), MadStatus::RequestInvalid),
         refused_if(
-            asks_unknown_mtu(mask, MTU, asked.mtu),
+            asks_unknown_mtu(mask, SELECTED_MTU, asked.mtu),
             MadStatus::RequestInvalid,
         ),
         refused_if(
-            asks_unknown_rate(mask, RATE, asked.rate),
+            asks_unknown_rate(mask, SELECTED_RATE, asked.rate),
             MadStatus::RequestInvalid,
         ),
     ])
@@ -157,7 +143,7 @@ fn walk(
     most: Option<u8>,
     taken: &mut Taken,
 ) -> Result<(), Stopped>
-    ensures { Walks (flat_map (paths_told most mask asked.now own.now.port) others.now) taken.old taken.new result }
+    ensures { Walks (flat_map (paths_reported most mask asked.now own.now.port) others.now) taken.old taken.new result }
 {
     for other in others {
         walk_to(own, other.port(), mask, asked, most, taken)?;

@@ -31,7 +31,7 @@ impl Model for Registry {
 
 impl Registry {
     /// The registry of a subnet before its first command: of these ports in order of LID, and the partitions and the keys
-    /// of each of them that a partition file gives. Memory alone can be refused.
+    /// of each of them that a partition file gives. It can only run out of memory.
     pub fn new(alloc: Global, ports: &[NodePort], members: &Members) -> Result<Registry, AllocError>
         requires each { length members.now.keys ≡ length ports.now }
         requires configured { IsConfigured (configured ports.now members.now) }
@@ -45,7 +45,7 @@ impl Registry {
         Ok(Registry { store })
     }
 
-    /// The same, of a subnet as it is configured. Memory alone can be refused.
+    /// The same, of a subnet as it is configured. It can only run out of memory.
     pub fn of(alloc: Global, configuration: &Configuration) -> Result<Registry, AllocError>
         requires { IsConfigured configuration.now }
         ensures { IfOk result (λ registry. registry ≡ record {
@@ -75,7 +75,7 @@ impl Registry {
     /// Who receives what is sent to the multicast groups of the partition of this number: pairs of an MLID and the LID of a
     /// channel adapter's port, by MLID and then by LID. None for a number that no partition has.
     ///
-    /// Memory alone can be refused, and the registry stays as it is; one to which memory was refused before refuses this too.
+    /// It can only run out of memory, and the registry stays as it is; one in which an allocation failed before refuses this too.
     ///
     /// Source: IBA volume 1, 15.2.5 (JoinState): ports that joined as SendOnlyNonMember receive nothing.
     pub fn receivers(&self, partition: u16) -> Result<Vec<GroupReceiver>, AllocError>

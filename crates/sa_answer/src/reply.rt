@@ -4,9 +4,9 @@ ghost use Rattle.std.specs.Prelude.{◌≡◌, ◌<◌};
 ghost use Rattle.sa_replies.specs.Reply.{refusal_reply, reply_header, reply_method, table_header};
 ghost use Rattle.sa_answer.specs.Replying.{reply_with};
 
-use crate::request::{BASE_VERSION, Request, SA_CLASS, SA_CLASS_VERSION};
+use crate::request::Request;
 use mad_layout::{Header, Mad, MadStatus, Method, RmppHeader, SA_DATA_BYTES, SaMad};
-use rmpp_core::{ReplyHeader, reply_mad};
+use rmpp_core::{BASE_VERSION, ReplyHeader, SA_CLASS, SA_CLASS_VERSION, sa_mad};
 
 /// The header of a MAD that is no segment.
 const NO_RMPP: RmppHeader = RmppHeader {
@@ -57,7 +57,7 @@ fn reply_of(request: &Request, status: u16, content: &[u8; SA_DATA_BYTES]) -> Ma
         component_mask: request.component_mask,
         data: *content,
     };
-    reply_mad(&reply_header(request, status), &NO_RMPP, &fields)
+    sa_mad(&reply_header(request, status), &NO_RMPP, &fields)
 }
 
 /// What a reply copies of its request, and 0 for all else.

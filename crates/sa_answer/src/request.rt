@@ -5,17 +5,8 @@ ghost use Rattle.sa_replies.specs.Request.{has_versions, is_response, request_in
 
 use bitflags::Flags;
 use mad_layout::{Header, Mad, RmppFlags, RmppHeader, SA_DATA_BYTES, SaMad};
+use rmpp_core::{BASE_VERSION, SA_CLASS_VERSION};
 use std::marker::Model;
-
-/// The version of the MAD's base format that is answered.
-pub(crate) const BASE_VERSION: u8 = 1;
-
-/// The management class of subnet administration, and the version of it that is answered.
-///
-/// Source: IBA volume 1, 13.4.4.
-pub(crate) const SA_CLASS: u8 = 0x03;
-
-pub(crate) const SA_CLASS_VERSION: u8 = 2;
 
 /// A MAD of subnet administration: its headers, its ComponentMask, and its data, in which a record stands first.
 ///

@@ -16,7 +16,7 @@ ghost use Rattle.sa_queries.specs.Visible.{visible_services};
 ghost use Rattle.sa_answer.specs.Answering.{Brings};
 ghost use Rattle.sa_store.specs.Registry.{IsListed};
 ghost use Rattle.sa_answer.specs.Taken.{Walks};
-ghost use Rattle.sa_answer.specs.Offers.{services_told, is_offered, offer, offers_of, offers_some, service_bytes, services_offered};
+ghost use Rattle.sa_answer.specs.Offers.{services_reported, is_offered, offer, offers_of, offers_some, service_bytes, services_offered};
 ghost use Rattle.sa_answer.specs.Replying.{padded};
 
 use crate::gid::{gid_of, guid_in};
@@ -25,15 +25,11 @@ use crate::questions::asks;
 use crate::taken::{Stopped, Taken, got_by, table_by};
 use mad_layout::SA_DATA_BYTES;
 use pkey_rules::key_of;
+use sa_records::service_mask::{SERVICE_GID, SERVICE_ID};
 use sa_records::{SERVICE_RECORD_BYTES, SERVICE_RECORD_OFFSET, ServiceRecord};
 use sa_store::{KeptPort, Service, ServicesOfBase, Store};
 use std::alloc::AllocError;
 use subnet_model::SubnetPort;
-
-// What the bits of the ComponentMask ask for (IBA volume 1, 15.2.5.14).
-const SERVICE_ID: u64 = 1 << 0;
-
-const SERVICE_GID: u64 = 1 << 1;
 
 /// A Get by ServiceRecord.
 pub(crate) fn got(store: &Store, own: &KeptPort, mask: u64, asked: &ServiceRecord) -> Outcome
@@ -88,7 +84,7 @@ fn walk(
     asked: &ServiceRecord,
     taken: &mut Taken,
 ) -> Result<(), Stopped>
-    ensures { Walks (flat_map (services_told own.now.port mask asked.now) others.now) taken.old taken.new result }
+    ensures { Walks (flat_map (services_reported own.now.port mask asked.now) others.now) taken.old taken.new result }
 {
     for other in others {
         walk_port(own, other, mask, asked, taken)?;
@@ -104,7 +100,7 @@ fn walk_port(
     asked: &ServiceRecord,
     taken: &mut Taken,
 ) -> Result<(), Stopped>
-    ensures { Walks (services_told own.now.port mask asked.now other.now) taken.old taken.new result }
+    ensures { Walks (services_reported own.now.port mask asked.now other.now) taken.old taken.new result }
 {
     for place in other.services() {
         if offers_some(own.port(), other.port(), place) {

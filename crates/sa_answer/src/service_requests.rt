@@ -18,17 +18,15 @@ use crate::service::{data_of, service_record};
 use mad_layout::{MadStatus, SA_DATA_BYTES};
 use pkey_rules::base_of;
 use sa_records::ServiceRecord;
+use sa_records::service_mask::{
+    SERVICE_GID, SERVICE_ID, SERVICE_LEASE, SERVICE_NAME, SERVICE_P_KEY,
+};
 use sa_store::{Requester, Service, Store, is_in};
 use std::alloc::AllocError;
 use subnet_model::SubnetPort;
 
-// What the bits of the ComponentMask ask for (IBA volume 1, 15.2.5.14).
-/// ServiceID, ServiceGID and ServiceP_Key, which are required.
-const REQUIRED: u64 = 0b111;
-
-const LEASE: u64 = 1 << 4;
-
-const NAME: u64 = 1 << 6;
+/// What a request to offer or to withdraw a service has to name.
+const REQUIRED: u64 = SERVICE_ID | SERVICE_GID | SERVICE_P_KEY;
 
 /// A Set of a ServiceRecord: the reply is the record as it is shown.
 pub(crate) fn service_set(
@@ -96,12 +94,12 @@ fn service_asked(mask: u64, asked: &ServiceRecord) -> Service
     ensures value { result ≡ service_asked mask asked.now }
     ensures fit { is_fit_service result ≡ true }
 {
-    let lease = if asks(mask, LEASE) {
+    let lease = if asks(mask, SERVICE_LEASE) {
         asked.service_lease
     } else {
         0
     };
-    let name = if asks(mask, NAME) {
+    let name = if asks(mask, SERVICE_NAME) {
         asked.service_name
     } else {
         [0; 64]

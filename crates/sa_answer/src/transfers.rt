@@ -6,11 +6,8 @@ ghost use Rattle.sa_replies.specs.Transfers.{by_kind, is_of_table, on_ack, on_rm
 
 use crate::request::Request;
 use mad_layout::{Mad, RmppHeader, RmppKind};
-use rmpp_core::{Acknowledged, Sender};
+use rmpp_core::{Acknowledged, RMPP_VERSION, Sender};
 use std::alloc::{AllocError, Global};
-
-/// The one version of RMPP.
-const RMPP_VERSION: u8 = 1;
 
 /// MADs that answer, and the table that is open then.
 pub(crate) type Sent = (Vec<Mad>, Option<Sender>);

@@ -13,8 +13,8 @@ use Rattle.partition_file.specs.Members.{heading_of}
 use Rattle.partition_file.specs.Sound.{IsSound as ArePartitions}
 use Rattle.partition_file.specs.declared.partition.Partition.{Partition}
 use Rattle.pkey_rules.specs.declared.key_table.TheConstants.{PARTITIONS}
-use Rattle.result_words.proofs.DistinctLemmas.{none_shares}
-use Rattle.result_words.proofs.ListLemmas.{any_none}
+use Rattle.step_results.proofs.DistinctLemmas.{none_shares}
+use Rattle.step_results.proofs.ListLemmas.{any_none}
 use Rattle.std.proofs.lemmas.Map.Keys.{IsDistinct-tail}
 use Rattle.sa_groups.proofs.ReceiverLemmas.{receivers_are_reached}
 use Rattle.sa_groups.specs.Delivery.{is_receiver_of}
@@ -31,7 +31,7 @@ use Rattle.table_push.proofs.NodeLemmas.{none_there, same_number}
 use Rattle.table_push.specs.BroughtUpLaws.{AreOfGroups}
 use Rattle.topo_file.specs.Topology.{TopologyState}
 use Rattle.sa_fabric.proofs.ReceiveLemmas.{all_listed, by_partitions, of_a_partition, one_passes, receiver_of_a_partition}
-use Rattle.sa_fabric.proofs.ToldLemmas.{all_low, among_is}
+use Rattle.sa_fabric.proofs.ReportedLemmas.{all_low, among_is}
 use Rattle.sa_fabric.specs.Served.{receives_at}
 
 -- ---- the numbers of partitions are few

@@ -1,8 +1,8 @@
 pub mod ReceiveLemmas
-pub mod SliceLemmas
+pub mod MlidRangeLemmas
 pub mod NobodyLemmas
 pub mod OverLemmas
-pub mod ToldLemmas
+pub mod ReportedLemmas
 pub mod GroupLemmas
 pub mod ListedLemmas
 pub mod StartLemmas

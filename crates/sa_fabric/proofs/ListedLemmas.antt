@@ -2,8 +2,8 @@
 use Rattle.std.proofs.Common.{ℕ, ◌≡◌, ◌∙◌, ap, subst, sym, Bool, true, false, List, Option}
 use Rattle.std.specs.Option.{option_map_or}
 use Rattle.fabric_parts.specs.Lid.{is_multicast}
-use Rattle.packet_ways.specs.Forwards.{IsCabledPort}
-use Rattle.packet_ways.specs.Groups.{ForwardsByMlid}
+use Rattle.delivery_laws.specs.Forwards.{IsCabledPort}
+use Rattle.delivery_laws.specs.Groups.{ForwardsByMlid}
 use Rattle.fabric_parts.specs.declared.cable.PortRef.{PortRef}
 use Rattle.partition_file.specs.Sound.{IsSound as ArePartitions}
 use Rattle.partition_file.specs.declared.partition.Partition.{Partition}

@@ -9,7 +9,7 @@ use Rattle.std.proofs.lemmas.Option.{slice_get_past}
 use Rattle.agent_rules.specs.declared.power_up.TheConstants.{MULTICAST_TABLE}
 use Rattle.fabric_parts.specs.Lid.{is_multicast}
 use Rattle.fabric_parts.specs.declared.lid.TheConstants.{FIRST_MULTICAST_LID}
-use Rattle.result_words.proofs.ListLemmas.{any_none}
+use Rattle.step_results.proofs.ListLemmas.{any_none}
 use Rattle.sa_groups.proofs.ReceiverLemmas.{any_alike}
 use Rattle.switch_model.specs.Multicast.{has_bit, has_bits}
 use Rattle.table_push.proofs.MaskLemmas.{at_range}

@@ -1,4 +1,4 @@
--- Slices pushed over masks of other routes: where no bit is set outside of them, the fabric has all masks of who receives.
+-- MlidRanges pushed over masks of other routes: where no bit is set outside of them, the fabric has all masks of who receives.
 use Rattle.std.proofs.Common.{ℕ, zero, suc, ◌+◌, ◌-◌, ◌*◌, ◌/◌, ◌≡◌, ◌≤◌, ◌<◌, ◌==◌, ◌&&◌, ◌∙◌, add-zero, ap, refl, sym, not, Bool, true, false, if◌then◌else◌, List, [], ◌∷◌, ◌++◌, drop, get_or, length, map, slice_get, take, Option, Some, None, Result, inl, inr, arith}
 use Rattle.std.specs.List.{All, fold, list_any, range_with_len}
 use Rattle.std.specs.Option.{option_map_or}
@@ -15,8 +15,8 @@ use Rattle.attr_tables.specs.Blocks.{block_of, with_block}
 use Rattle.fabric_parts.specs.Lid.{is_multicast}
 use Rattle.fabric_parts.specs.declared.lid.TheConstants.{FIRST_MULTICAST_LID}
 use Rattle.pkey_rules.specs.declared.key_table.TheConstants.{PARTITIONS}
-use Rattle.result_words.proofs.ListLemmas.{range_at}
-use Rattle.result_words.proofs.RangeLemmas.{range_more}
+use Rattle.step_results.proofs.ListLemmas.{range_at}
+use Rattle.step_results.proofs.RangeLemmas.{range_more}
 use Rattle.sa_store.specs.Registry.{RegistryState}
 use Rattle.sa_groups.specs.Groups.{PartitionGroups}
 use Rattle.sa_groups.specs.Receivers.{receivers_of}
@@ -31,25 +31,25 @@ use Rattle.switch_model.specs.Multicast.{has_bit, has_bits}
 use Rattle.switch_model.specs.SwitchState.{SwitchState}
 use Rattle.table_push.proofs.MaskLemmas.{window_alike}
 use Rattle.table_push.proofs.NodeLemmas.{both_written, none_there, none_written}
-use Rattle.table_push.specs.Masks.{all_masks_pushed, is_in_slice, mask_of_position, mask_word, masks_of, masks_pushed, receives_of, wanted_slice, with_all_masks, with_masks, with_slice}
+use Rattle.table_push.specs.Masks.{all_masks_pushed, is_in_mlid_range, mask_of_position, mask_word, masks_of, masks_pushed, receives_of, wanted_range, with_all_masks, with_masks, with_range}
 use Rattle.table_push.specs.Nodes.{switch_by, with_switches}
 use Rattle.table_push.specs.Pushes.{Leaves}
 use Rattle.table_push.specs.declared.fault.PushFault.{PushFault}
 use Rattle.updn_routes.specs.Subnet.{RoutesState, place_of}
 use Rattle.sa_fabric.proofs.NobodyLemmas.{no_mask}
-use Rattle.sa_fabric.proofs.ReceiveLemmas.{any_kept, in_its_slice}
-use Rattle.sa_fabric.proofs.SliceLemmas.{is_pushed, pushed_alike}
+use Rattle.sa_fabric.proofs.ReceiveLemmas.{any_kept, in_its_range}
+use Rattle.sa_fabric.proofs.MlidRangeLemmas.{is_pushed, pushed_alike}
 use Rattle.sa_fabric.specs.Served.{receives_at}
-use Rattle.sa_fabric.specs.Slices.{CanBePushed, HasNoStrayBits, IsPushed, is_received, received_in, slice_pushed, slice_receives, slices_pushed}
+use Rattle.sa_fabric.specs.MlidRanges.{CanBePushed, HasNoStrayBits, IsPushed, is_received, received_in, range_pushed, range_receives, ranges_pushed}
 
 -- ---- blocks of one table, put into another
-inside : (block i : ℕ) → 32 * block ≤ i → i < 32 * block + 32 → is_in_slice block (FIRST_MULTICAST_LID + i) ≡ true
+inside : (block i : ℕ) → 32 * block ≤ i → i < 32 * block + 32 → is_in_mlid_range block (FIRST_MULTICAST_LID + i) ≡ true
 inside block i above below = grind (arith, nat_tests)
 
-before_it : (block i : ℕ) → i < 32 * block → is_in_slice block (FIRST_MULTICAST_LID + i) ≡ false
+before_it : (block i : ℕ) → i < 32 * block → is_in_mlid_range block (FIRST_MULTICAST_LID + i) ≡ false
 before_it block i below = grind (arith, nat_tests)
 
-behind_it : (block i : ℕ) → 32 * block + 32 ≤ i → is_in_slice block (FIRST_MULTICAST_LID + i) ≡ false
+behind_it : (block i : ℕ) → 32 * block + 32 ≤ i → is_in_mlid_range block (FIRST_MULTICAST_LID + i) ≡ false
 behind_it block i above = grind (arith, nat_tests)
 
 rest_alike : (f g : ℕ → ℕ) (a n k : ℕ) → ((i : ℕ) → a + k ≤ i → f i ≡ g i) → drop k (map f (range_with_len a n)) ≡ drop k (map g (range_with_len a n))
@@ -63,7 +63,7 @@ rest_alike f g a (suc n) (suc k) each = rest_alike f g (a + 1) n k (λ i above. 
 
 -- the words of one in the block, and of the other outside
 abbrev put_over : ℕ → (f g : ℕ → ℕ) → ℕ → ℕ
-put_over block f g i = if is_in_slice block (FIRST_MULTICAST_LID + i) then g i else f i
+put_over block f g i = if is_in_mlid_range block (FIRST_MULTICAST_LID + i) then g i else f i
 
 block_put : (block n : ℕ) (f g : ℕ → ℕ)
     → with_block 32 block (block_of 32 block (map g (range_with_len 0 n))) (map f (range_with_len 0 n)) ≡ map (put_over block f g) (range_with_len 0 n)
@@ -87,9 +87,9 @@ block_put block n f g =
 abbrev all_put : (wanted words : List ℕ) → (numbers : List ℕ) → List ℕ
 all_put wanted words numbers = fold (λ words number. with_block 32 number (block_of 32 number wanted) words) words numbers
 
--- the multicast LID of that place lies in none of these slices
+-- the multicast LID of that place lies in none of these MLID ranges
 abbrev Lies : ℕ → List ℕ → Type 0
-Lies i numbers = list_any (λ number. is_in_slice number (FIRST_MULTICAST_LID + i)) numbers ≡ false
+Lies i numbers = list_any (λ number. is_in_mlid_range number (FIRST_MULTICAST_LID + i)) numbers ≡ false
 
 range_alike : (f g : ℕ → ℕ) (a n : ℕ) → ((i : ℕ) → a ≤ i → i < a + n → f i ≡ g i) → map f (range_with_len a n) ≡ map g (range_with_len a n)
 range_alike f g a zero each = refl
@@ -104,7 +104,7 @@ blocks_put : (g : ℕ → ℕ) (n : ℕ) (numbers : List ℕ) (f : ℕ → ℕ) 
 blocks_put g n [] f same = range_alike f g 0 n (λ i above below. same i (omega (arith, below)) refl)
 blocks_put g n (number ∷ numbers) f same =
     ap (λ (words : List ℕ). all_put (map g (range_with_len 0 n)) words numbers) (block_put number n f g)
-    ∙ blocks_put g n numbers (put_over number f g) (λ i within apart. elim (cases_Bool (is_in_slice number (FIRST_MULTICAST_LID + i))) [
+    ∙ blocks_put g n numbers (put_over number f g) (λ i within apart. elim (cases_Bool (is_in_mlid_range number (FIRST_MULTICAST_LID + i))) [
       | inl here ↦ rw here refl
       | inr there ↦ rw there (same i within (rw there apart))
     ])
@@ -144,7 +144,7 @@ empty_word words i long within none =
 -- ---- the masks of one switch
 module _ (routes : RoutesState) (receives : ℕ → ℕ → Bool) where
   abbrev masks_over : (place : ℕ) → (masks : List (List ℕ)) → (numbers : List ℕ) → List (List ℕ)
-  masks_over place masks numbers = fold (λ masks number. with_slice number (wanted_slice routes number receives place) masks) masks numbers
+  masks_over place masks numbers = fold (λ masks number. with_range number (wanted_range routes number receives place) masks) masks numbers
 
   by_positions : (place : ℕ) (a b c : List ℕ) (numbers : List ℕ)
       → masks_over place (a ∷ b ∷ c ∷ []) numbers
@@ -157,16 +157,16 @@ module _ (routes : RoutesState) (receives : ℕ → ℕ → Bool) where
       (with_block 32 number (block_of 32 number (mask_of_position routes receives place 2)) c) numbers
 
   -- ---- pushes one after another are one change of each switch
-  abbrev with_slices : (numbers : List ℕ) → (guid : ℕ) → SwitchState → SwitchState
-  with_slices numbers guid held =
+  abbrev with_ranges : (numbers : List ℕ) → (guid : ℕ) → SwitchState → SwitchState
+  with_ranges numbers guid held =
       record held { masks = option_map_or (λ place. masks_over place held.masks numbers) (place_of routes.graph.switches guid) held.masks }
 
   abbrev each_pushed : (numbers : List ℕ) → FabricState → FabricState
   each_pushed numbers fabric = fold (λ fabric number. masks_pushed routes number receives fabric) fabric numbers
 
-  at_once : (numbers : List ℕ) (fabric : FabricState) → each_pushed numbers fabric ≡ with_switches (with_slices numbers) fabric
+  at_once : (numbers : List ℕ) (fabric : FabricState) → each_pushed numbers fabric ≡ with_switches (with_ranges numbers) fabric
   at_once [] fabric =
-      sym (none_written (with_slices []) fabric
+      sym (none_written (with_ranges []) fabric
       (λ guid held. ap (λ (masks : List (List ℕ)). record held { masks = masks }) (by held.masks (place_of routes.graph.switches guid))))
     where
       by : (masks : List (List ℕ)) (o : Option ℕ) → option_map_or (λ place. masks) o masks ≡ masks
@@ -174,12 +174,12 @@ module _ (routes : RoutesState) (receives : ℕ → ℕ → Bool) where
       by masks (Some place) = refl
   at_once (number ∷ numbers) fabric =
       at_once numbers (masks_pushed routes number receives fabric)
-      ∙ both_written (with_slices numbers) (with_masks routes number receives) (with_slices (number ∷ numbers)) fabric (λ guid held. refl)
+      ∙ both_written (with_ranges numbers) (with_masks routes number receives) (with_ranges (number ∷ numbers)) fabric (λ guid held. refl)
       (λ guid held. ap (λ (masks : List (List ℕ)). record held { masks = masks }) (by held.masks (place_of routes.graph.switches guid)))
     where
       by : (masks : List (List ℕ)) (o : Option ℕ)
-          → option_map_or (λ place. masks_over place (option_map_or (λ place. with_slice number (wanted_slice routes number receives place) masks) o masks) numbers) o
-          (option_map_or (λ place. with_slice number (wanted_slice routes number receives place) masks) o masks)
+          → option_map_or (λ place. masks_over place (option_map_or (λ place. with_range number (wanted_range routes number receives place) masks) o masks) numbers) o
+          (option_map_or (λ place. with_range number (wanted_range routes number receives place) masks) o masks)
           ≡ option_map_or (λ place. masks_over place masks (number ∷ numbers)) o masks
       by masks None = refl
       by masks (Some place) = refl
@@ -217,7 +217,7 @@ module _ (routes : RoutesState) (receives : ℕ → ℕ → Bool) where
 
     node_over : (node : Node) → IsGoodNode node
         → ((mlid : ℕ) (held : SwitchState) → Some node ≡ Some (Switch held) → Nobody mlid → has_bits held.masks mlid ≡ false)
-        → switch_by (with_slices numbers) node ≡ switch_by (with_all_masks routes receives) node
+        → switch_by (with_ranges numbers) node ≡ switch_by (with_all_masks routes receives) node
     node_over (Switch held) good none =
         ap (λ (masks : List (List ℕ)). Switch (record held { masks = masks })) (by (place_of routes.graph.switches held.node_guid))
       where
@@ -228,7 +228,7 @@ module _ (routes : RoutesState) (receives : ℕ → ℕ → Bool) where
 
     nodes_over : (nodes : List Node) → All IsGoodNode nodes
         → ((k mlid : ℕ) (held : SwitchState) → slice_get nodes k ≡ Some (Switch held) → Nobody mlid → has_bits held.masks mlid ≡ false)
-        → map (switch_by (with_slices numbers)) nodes ≡ map (switch_by (with_all_masks routes receives)) nodes
+        → map (switch_by (with_ranges numbers)) nodes ≡ map (switch_by (with_all_masks routes receives)) nodes
     nodes_over [] good none = refl
     nodes_over (node ∷ nodes) good none =
         let head = node_over node (All-head IsGoodNode node nodes good) (none 0) in
@@ -241,21 +241,21 @@ module _ (routes : RoutesState) (receives : ℕ → ℕ → Bool) where
         at_once numbers fabric ∙ ap (λ (nodes : List Node). record fabric { nodes = nodes }) (nodes_over fabric.nodes good none)
 
 -- ---- one after another
--- the slice of a partition in which somebody receives is pushed
+-- the MLID range of a partition in which somebody receives is pushed
 pub some_received : (routes : RoutesState) (registry : RegistryState) (fabric left : FabricState) (number : ℕ) (receivers : List GroupReceiver)
     (result : Result (Unit {0}) PushFault)
     → receivers ≡ receivers_of registry.configuration.ports number registry.administration.remembered.partitions → (length receivers == 0) ≡ false
     → CanBePushed routes fabric → Leaves result (Some left) fabric (masks_pushed routes number (receives_of receivers) fabric)
-    → IsPushed routes (slices_pushed routes registry (received_in registry (number ∷ [])) fabric) left
+    → IsPushed routes (ranges_pushed routes registry (received_in registry (number ∷ [])) fabric) left
 some_received routes registry fabric left number receivers result are some can leaves =
     let there : (length (receivers_of registry.configuration.ports number registry.administration.remembered.partitions) == 0) ≡ false =
     ap (λ (all : List GroupReceiver). length all == 0) (sym are) ∙ some in
     rw there (is_pushed routes registry fabric left number receivers result are can leaves)
 
 pub more_received : (routes : RoutesState) (registry : RegistryState) (count : ℕ) (fabric now left : FabricState)
-    → IsPushed routes (slices_pushed routes registry (received_in registry (range_with_len 0 count)) fabric) now
-    → IsPushed routes (slices_pushed routes registry (received_in registry (count ∷ [])) now) left
-    → IsPushed routes (slices_pushed routes registry (received_in registry (range_with_len 0 (count + 1))) fabric) left
+    → IsPushed routes (ranges_pushed routes registry (received_in registry (range_with_len 0 count)) fabric) now
+    → IsPushed routes (ranges_pushed routes registry (received_in registry (count ∷ [])) now) left
+    → IsPushed routes (ranges_pushed routes registry (received_in registry (range_with_len 0 (count + 1))) fabric) left
 more_received routes registry count fabric now left before one =
     let first = range_with_len 0 count in
     let up : count + 1 ≡ suc count = omega arith in
@@ -264,9 +264,9 @@ more_received routes registry count fabric now left before one =
     let parts : received_in registry (range_with_len 0 (count + 1)) ≡ received_in registry first ++ received_in registry (count ∷ []) =
     ap (received_in registry) more ∙ filter-append (is_received registry) first (count ∷ []) in
     record {
-      is = one.is ∙ ap (slices_pushed routes registry (received_in registry (count ∷ []))) before.is
-          ∙ sym (ap (λ (numbers : List ℕ). slices_pushed routes registry numbers fabric) parts
-          ∙ fold-append (slice_pushed routes registry) fabric (received_in registry first) (received_in registry (count ∷ [])));
+      is = one.is ∙ ap (ranges_pushed routes registry (received_in registry (count ∷ []))) before.is
+          ∙ sym (ap (λ (numbers : List ℕ). ranges_pushed routes registry numbers fabric) parts
+          ∙ fold-append (range_pushed routes registry) fabric (received_in registry first) (received_in registry (count ∷ [])));
       stands = one.stands;
     }
 
@@ -282,15 +282,15 @@ module _ (routes : RoutesState) (registry : RegistryState)
   abbrev receives : ℕ → ℕ → Bool
   receives = receives_at ports partitions
 
-  as_received : (numbers : List ℕ) (fabric : FabricState) → slices_pushed routes registry numbers fabric ≡ each_pushed routes receives numbers fabric
+  as_received : (numbers : List ℕ) (fabric : FabricState) → ranges_pushed routes registry numbers fabric ≡ each_pushed routes receives numbers fabric
   as_received [] fabric = refl
   as_received (number ∷ numbers) fabric =
-      as_received numbers (masks_pushed routes number (slice_receives registry number) fabric)
+      as_received numbers (masks_pushed routes number (range_receives registry number) fabric)
       ∙ ap (each_pushed routes receives numbers)
-      (pushed_alike routes number (slice_receives registry number) receives fabric (λ mlid lid here. in_its_slice ports mlid lid number partitions sound here))
+      (pushed_alike routes number (range_receives registry number) receives fabric (λ mlid lid here. in_its_range ports mlid lid number partitions sound here))
 
-  -- each multicast LID of the table lies in the slice of some number
-  own_slice : (i : ℕ) → is_in_slice (i / 32) (FIRST_MULTICAST_LID + i) ≡ true
+  -- each multicast LID of the table lies in the MLID range of some number
+  own_slice : (i : ℕ) → is_in_mlid_range (i / 32) (FIRST_MULTICAST_LID + i) ≡ true
   own_slice i = inside (i / 32) i (omega (arith)) (omega (arith))
 
   nobody_outside : (i : ℕ) → i < MULTICAST_TABLE → Lies i (received_in registry (range_with_len 0 PARTITIONS))
@@ -299,15 +299,15 @@ module _ (routes : RoutesState) (registry : RegistryState)
       let mlid = FIRST_MULTICAST_LID + i in
       let number = i / 32 in
       let low : number < PARTITIONS = omega (arith, within) in
-      let none : list_any (λ one. is_received registry one && is_in_slice one mlid) (range_with_len 0 PARTITIONS) ≡ false =
-      sym (any_kept (λ one. is_in_slice one mlid) (is_received registry) (range_with_len 0 PARTITIONS)) ∙ lies in
+      let none : list_any (λ one. is_received registry one && is_in_mlid_range one mlid) (range_with_len 0 PARTITIONS) ≡ false =
+      sym (any_kept (λ one. is_in_mlid_range one mlid) (is_received registry) (range_with_len 0 PARTITIONS)) ∙ lies in
       let there : slice_get (range_with_len 0 PARTITIONS) number ≡ Some number = range_at 0 PARTITIONS number low ∙ ap (λ (n : ℕ). Some n) (zero-add number) in
       let not_some : is_received registry number ≡ false =
-      and_first (is_received registry number) (is_in_slice number mlid) (own_slice i) (none_there (λ one. is_received registry one && is_in_slice one mlid) (range_with_len 0 PARTITIONS) number number none there) in
+      and_first (is_received registry number) (is_in_mlid_range number mlid) (own_slice i) (none_there (λ one. is_received registry one && is_in_mlid_range one mlid) (range_with_len 0 PARTITIONS) number number none there) in
       let empty : receivers_of ports number partitions ≡ [] =
       nil_from_length (receivers_of ports number partitions) (eqb-true (length (receivers_of ports number partitions)) 0
       (not-false (length (receivers_of ports number partitions) == 0) not_some)) in
-      sym (in_its_slice ports mlid lid number partitions sound (own_slice i)) ∙ ap (λ (all : List GroupReceiver). receives_of all mlid lid) empty
+      sym (in_its_range ports mlid lid number partitions sound (own_slice i)) ∙ ap (λ (all : List GroupReceiver). receives_of all mlid lid) empty
     where
       and_first : (a b : Bool) → b ≡ true → (a && b) ≡ false → a ≡ false
       and_first true b is none = absurd (cc)
@@ -315,7 +315,7 @@ module _ (routes : RoutesState) (registry : RegistryState)
 
   -- so once those are pushed in which somebody receives, it has all masks
   pub received_are_all : (fabric : FabricState) → All IsGoodNode fabric.nodes → HasNoStrayBits receives fabric
-      → slices_pushed routes registry (received_in registry (range_with_len 0 PARTITIONS)) fabric ≡ all_masks_pushed routes receives fabric
+      → ranges_pushed routes registry (received_in registry (range_with_len 0 PARTITIONS)) fabric ≡ all_masks_pushed routes receives fabric
   received_are_all fabric good none =
       as_received (received_in registry (range_with_len 0 PARTITIONS)) fabric
       ∙ slices_over routes receives (received_in registry (range_with_len 0 PARTITIONS)) nobody_outside fabric good none

@@ -1,13 +1,13 @@
 -- A fabric that is served has no bit for groups that nobody receives. So it is served again once it is set up over other cables, and
--- the slices are pushed in which somebody receives.
+-- the MLID ranges are pushed in which somebody receives.
 use Rattle.std.proofs.Common.{ℕ, ◌≡◌, ◌==◌, ◌∙◌, ap, refl, subst, sym, Bool, false, List, [], map, slice_get, Option, Some, None, option_map}
 use Rattle.std.proofs.lemmas.Bool.{eqb-false}
 use Rattle.std.proofs.lemmas.Option.{none-some, same_Some}
 use Rattle.std.proofs.lemmas.Simd.{map-map}
 use Rattle.partition_file.specs.Sound.{IsSound as ArePartitions}
 use Rattle.partition_file.specs.declared.partition.Partition.{Partition}
-use Rattle.result_words.proofs.ElementLemmas.{get_same}
-use Rattle.result_words.proofs.PlaceLemmas.{not_there}
+use Rattle.step_results.proofs.ElementLemmas.{get_same}
+use Rattle.step_results.proofs.PlaceLemmas.{not_there}
 use Rattle.sa_store.specs.Registry.{RegistryState}
 use Rattle.smp_wire.specs.FabricState.{FabricState}
 use Rattle.smp_wire.specs.declared.node.Node.{Node}
@@ -32,7 +32,7 @@ use Rattle.updn_routes.specs.Subnet.{RoutesState, place_of}
 use Rattle.sa_fabric.proofs.NobodyLemmas.{none_read}
 use Rattle.sa_fabric.proofs.ServeLemmas.{still_up}
 use Rattle.sa_fabric.specs.Served.{Serves, receives_at}
-use Rattle.sa_fabric.specs.Slices.{CanBePushed, HasNoStrayBits}
+use Rattle.sa_fabric.specs.MlidRanges.{CanBePushed, HasNoStrayBits}
 
 -- ---- no bit stands for a group that nobody receives
 -- a switch that the graph has at some place has one by its GUID

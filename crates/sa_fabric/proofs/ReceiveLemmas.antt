@@ -1,10 +1,10 @@
--- Who receives, by the groups of partitions: in the slice of a partition those whom a registry lists for it.
+-- Who receives, by the groups of partitions: in the MLID range of a partition those whom a registry lists for it.
 use Rattle.std.proofs.Common.{ℕ, ◌≡◌, ◌==◌, ◌&&◌, ◌||◌, ◌∙◌, ap, refl, sym, not, Bool, true, false, List, [], ◌∷◌, filter, inl, inr, arith}
 use Rattle.std.specs.List.{flat_map, list_all, list_any}
 use Rattle.std.proofs.lemmas.Bool.{and_parts, both_ways, cases_Bool, eqb-true, false_from_ne_true, or_cases, or_left, or_right}
 use Rattle.std.proofs.lemmas.Bool.Decides.{nat_tests}
 use Rattle.fabric_parts.specs.NodeType.{is_switch_type}
-use Rattle.result_words.proofs.ListLemmas.{any_flat, any_map, any_none}
+use Rattle.step_results.proofs.ListLemmas.{any_flat, any_map, any_none, any_turned}
 use Rattle.sa_groups.proofs.ReceiverLemmas.{any_alike}
 use Rattle.sa_groups.proofs.SoundLemmas.{partition_parts, sound_parts}
 use Rattle.sa_groups.specs.Delivery.{is_receiver_of, receives, receives_in}
@@ -13,29 +13,13 @@ use Rattle.sa_groups.specs.Receivers.{group_receivers, receivers_in, receivers_o
 use Rattle.sa_groups.specs.Sound.{is_in_range, is_sound, is_sound_group, is_sound_partition}
 use Rattle.subnet_model.specs.declared.group_receiver.GroupReceiver.{GroupReceiver}
 use Rattle.subnet_model.specs.declared.subnet_port.SubnetPort.{SubnetPort}
-use Rattle.table_push.specs.Masks.{is_in_slice, receives_of}
+use Rattle.table_push.specs.Masks.{is_in_mlid_range, receives_of}
 use Rattle.sa_fabric.specs.Served.{receives_at}
 
 -- ---- tests of lists
-either : (a b c d : Bool) → ((a || b) || (c || d)) ≡ ((a || c) || (b || d))
-either true b true d = refl
-either true b false d = refl
-either false true true d = refl
-either false true false d = refl
-either false false true d = refl
-either false false false d = refl
-
-any_either : {X : Type 0} (p q : X → Bool) (xs : List X) → list_any (λ x. p x || q x) xs ≡ (list_any p xs || list_any q xs)
-any_either p q [] = refl
-any_either p q (x ∷ xs) = ap (λ rest. (p x || q x) || rest) (any_either p q xs) ∙ either (p x) (q x) (list_any p xs) (list_any q xs)
-
 any_with : {X : Type 0} (b : Bool) (p : X → Bool) (xs : List X) → list_any (λ x. b && p x) xs ≡ (b && list_any p xs)
 any_with true p xs = refl
 any_with false p xs = any_none xs
-
-any_swap : {X Y : Type 0} (p : X → Y → Bool) (xs : List X) (ys : List Y) → list_any (λ x. list_any (p x) ys) xs ≡ list_any (λ y. list_any (λ x. p x y) xs) ys
-any_swap p [] ys = sym (any_none ys)
-any_swap p (x ∷ xs) ys = ap (λ rest. list_any (p x) ys || rest) (any_swap p xs ys) ∙ sym (any_either (p x) (λ y. list_any (λ x. p x y) xs) ys)
 
 pub any_kept : {X : Type 0} (p q : X → Bool) (xs : List X) → list_any p (filter q xs) ≡ list_any (λ x. q x && p x) xs
 any_kept p q [] = refl
@@ -120,7 +104,7 @@ module _ (ports : List SubnetPort) (mlid lid : ℕ) where
       any_alike (λ port. (port.lid == lid) && (not (is_switch_type port.node_type) && receives_in mlid port.guid partition))
       (λ port. list_any (λ group. (port.lid == lid) && (not (is_switch_type port.node_type) && ((group.mlid == mlid) && list_any (receives port.guid) group.memberships))) partition.groups)
       (λ port. through_groups port (λ group. (group.mlid == mlid) && list_any (receives port.guid) group.memberships) partition.groups) ports
-      ∙ any_swap (λ port group. (port.lid == lid) && (not (is_switch_type port.node_type) && ((group.mlid == mlid) && list_any (receives port.guid) group.memberships))) ports partition.groups
+      ∙ any_turned (λ port group. (port.lid == lid) && (not (is_switch_type port.node_type) && ((group.mlid == mlid) && list_any (receives port.guid) group.memberships))) ports partition.groups
       ∙ any_alike (λ group. list_any (λ port. (port.lid == lid) && (not (is_switch_type port.node_type) && ((group.mlid == mlid) && list_any (receives port.guid) group.memberships))) ports)
       in_group group_reads partition.groups
 
@@ -129,7 +113,7 @@ module _ (ports : List SubnetPort) (mlid lid : ℕ) where
       any_alike (λ port. (port.lid == lid) && (not (is_switch_type port.node_type) && list_any (receives_in mlid port.guid) partitions))
       (λ port. list_any (λ partition. (port.lid == lid) && (not (is_switch_type port.node_type) && receives_in mlid port.guid partition)) partitions)
       (λ port. through port (receives_in mlid port.guid) partitions) ports
-      ∙ any_swap (λ port partition. (port.lid == lid) && (not (is_switch_type port.node_type) && receives_in mlid port.guid partition)) ports partitions
+      ∙ any_turned (λ port partition. (port.lid == lid) && (not (is_switch_type port.node_type) && receives_in mlid port.guid partition)) ports partitions
       ∙ any_alike (λ partition. list_any (λ port. (port.lid == lid) && (not (is_switch_type port.node_type) && receives_in mlid port.guid partition)) ports)
       in_partition partition_reads partitions
 
@@ -193,11 +177,11 @@ module _ (ports : List SubnetPort) (mlid lid : ℕ) where
       one_passes (is_sound_partition ports) in_partition (λ partition. is_in_range partition.number mlid) partition_ranged partitions sound
       (sym (by_partitions partitions) ∙ there)
 
-  -- in the slice of a partition it is those who are listed for its number
-  other_range : (number other : ℕ) → is_in_slice number mlid ≡ true → is_in_range other mlid ≡ true → (other == number) ≡ true
+  -- in the MLID range of a partition it is those who are listed for its number
+  other_range : (number other : ℕ) → is_in_mlid_range number mlid ≡ true → is_in_range other mlid ≡ true → (other == number) ≡ true
   other_range number other here there = grind (arith, nat_tests)
 
-  only_number : (number : ℕ) → is_in_slice number mlid ≡ true → (partition : PartitionGroups) → is_sound_partition ports partition ≡ true
+  only_number : (number : ℕ) → is_in_mlid_range number mlid ≡ true → (partition : PartitionGroups) → is_sound_partition ports partition ≡ true
       → ((partition.number == number) && in_partition partition) ≡ in_partition partition
   only_number number here partition sound = elim (cases_Bool (partition.number == number)) [
     | inl this ↦ rw this refl
@@ -207,9 +191,9 @@ module _ (ports : List SubnetPort) (mlid lid : ℕ) where
         (λ there. both_ways (partition.number == number) other (other_range number partition.number here (partition_ranged partition sound there)))))
   ]
 
-  pub in_its_slice : (number : ℕ) (partitions : List PartitionGroups) → is_sound ports partitions ≡ true → is_in_slice number mlid ≡ true
+  pub in_its_range : (number : ℕ) (partitions : List PartitionGroups) → is_sound ports partitions ≡ true → is_in_mlid_range number mlid ≡ true
       → receives_of (receivers_of ports number partitions) mlid lid ≡ receives_at ports partitions mlid lid
-  in_its_slice number partitions sound here =
+  in_its_range number partitions sound here =
       number_listed number partitions
       ∙ any_where (is_sound_partition ports) (λ partition. (partition.number == number) && in_partition partition) in_partition (only_number number here) partitions sound
       ∙ sym (by_partitions partitions)

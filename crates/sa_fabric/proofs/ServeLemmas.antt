@@ -1,4 +1,4 @@
--- A fabric that is served is one, and is served again where the slices of all partitions that change are pushed.
+-- A fabric that is served is one, and is served again where the MLID ranges of all partitions that change are pushed.
 use Rattle.std.proofs.Common.{ℕ, ◌≡◌, ◌∙◌, ap, subst, sym, Bool, true, nat_lt, List}
 use Rattle.std.specs.List.{list_all}
 use Rattle.pkey_rules.specs.declared.key_table.TheConstants.{PARTITIONS}
@@ -19,12 +19,12 @@ use Rattle.topo_file.specs.Topology.{TopologyState}
 use Rattle.updn_routes.specs.Subnet.{RoutesState}
 use Rattle.sa_fabric.proofs.GroupLemmas.{few_numbers}
 use Rattle.sa_fabric.proofs.ListedLemmas.{served_is_up}
-use Rattle.sa_fabric.proofs.SliceLemmas.{all_alike, slices_make}
-use Rattle.sa_fabric.proofs.ToldLemmas.{told_are_low, told_is_all}
-use Rattle.sa_fabric.proofs.ReceiveLemmas.{in_its_slice}
+use Rattle.sa_fabric.proofs.MlidRangeLemmas.{all_alike, ranges_make}
+use Rattle.sa_fabric.proofs.ReportedLemmas.{reported_are_low, reported_is_all}
+use Rattle.sa_fabric.proofs.ReceiveLemmas.{in_its_range}
 use Rattle.sa_fabric.specs.Laws.{OneFabricIsServed}
 use Rattle.sa_fabric.specs.Served.{IsServed, Serves, receives_at}
-use Rattle.sa_fabric.specs.Slices.{CanBePushed, slices_pushed, where_in}
+use Rattle.sa_fabric.specs.MlidRanges.{CanBePushed, ranges_pushed, where_in}
 
 pub one_fabric_is_served : OneFabricIsServed
 one_fabric_is_served plan ports partitions routes one other first second same =
@@ -52,11 +52,11 @@ pub numbers_are_few : (plan : TopologyState) (routes : RoutesState) (registry ne
     → IsRememberedOf registry.configuration registry.administration.remembered
     → list_all (λ number. nat_lt number PARTITIONS) (changed_between registry next) ≡ true
 numbers_are_few plan routes registry next fabric serves remembered =
-    told_are_low PARTITIONS registry.configuration.ports registry.administration.remembered.partitions next.administration.remembered.partitions
+    reported_are_low PARTITIONS registry.configuration.ports registry.administration.remembered.partitions next.administration.remembered.partitions
     (few_numbers serves.partitions plan registry.administration.remembered serves.whole
     (subst (λ (configuration : ConfigurationState). IsRememberedOf configuration registry.administration.remembered) serves.configured remembered))
 
--- ---- once the slices that change are pushed, it is served as the registry is then
+-- ---- once the MLID ranges that change are pushed, it is served as the registry is then
 module _ (plan : TopologyState) (routes : RoutesState) (registry next : RegistryState) (fabric : FabricState) (serves : Serves plan routes registry fabric)
     (was : IsRememberedOf registry.configuration registry.administration.remembered)
     (is : IsRememberedOf next.configuration next.administration.remembered)
@@ -79,20 +79,20 @@ module _ (plan : TopologyState) (routes : RoutesState) (registry next : Registry
   still : IsRememberedOf registry.configuration next.administration.remembered
   still = subst (λ (configuration : ConfigurationState). IsRememberedOf configuration next.administration.remembered) same is
 
-  pub told : (mlid lid : ℕ) → where_in numbers now (receives_at ports before) mlid lid ≡ now mlid lid
-  told mlid lid =
+  pub reported : (mlid lid : ℕ) → where_in numbers now (receives_at ports before) mlid lid ≡ now mlid lid
+  reported mlid lid =
       subst (λ (some : List SubnetPort). where_in numbers (receives_at some after) (receives_at ports before) mlid lid ≡ receives_at some after mlid lid)
       (sym (ap (λ (configuration : ConfigurationState). configuration.ports) same))
-      (told_is_all ports before after (still.partitions ∙ sym was.partitions) was.groups still.groups mlid lid)
+      (reported_is_all ports before after (still.partitions ∙ sym was.partitions) was.groups still.groups mlid lid)
 
-  masked : slices_pushed routes next numbers fabric ≡ all_masks_pushed routes now serves.served.base
+  masked : ranges_pushed routes next numbers fabric ≡ all_masks_pushed routes now serves.served.base
   masked =
-      ap (slices_pushed routes next numbers) serves.served.masks
-      ∙ slices_make routes next now serves.served.base (λ number mlid lid here. in_its_slice next.configuration.ports mlid lid number after is.groups here)
+      ap (ranges_pushed routes next numbers) serves.served.masks
+      ∙ ranges_make routes next now serves.served.base (λ number mlid lid here. in_its_range next.configuration.ports mlid lid number after is.groups here)
       numbers (receives_at ports before)
-      ∙ all_alike routes (where_in numbers now (receives_at ports before)) now serves.served.base told
+      ∙ all_alike routes (where_in numbers now (receives_at ports before)) now serves.served.base reported
 
-  pub serves_again : (left : FabricState) → left ≡ slices_pushed routes next numbers fabric → Serves plan routes next left
+  pub serves_again : (left : FabricState) → left ≡ ranges_pushed routes next numbers fabric → Serves plan routes next left
   serves_again left pushed = record {
     sound = serves.sound;
     partitions = serves.partitions;

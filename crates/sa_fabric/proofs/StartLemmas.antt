@@ -9,7 +9,7 @@ use Rattle.fabric_parts.specs.declared.lid.TheConstants.{FIRST_MULTICAST_LID}
 use Rattle.fabric_wire.specs.OfTopology.{fabric_of}
 use Rattle.partition_file.specs.declared.broadcast_group.BroadcastGroup.{BroadcastGroup}
 use Rattle.partition_file.specs.declared.heading.Heading.{Heading}
-use Rattle.result_words.proofs.ListLemmas.{all_there, any_none}
+use Rattle.step_results.proofs.ListLemmas.{all_there, any_none}
 use Rattle.sa_groups.proofs.ReceiverLemmas.{any_alike}
 use Rattle.sa_groups.specs.Delivery.{is_receiver_of, receives_in}
 use Rattle.sa_groups.specs.Groups.{file_groups, first_mlid, start_from, start_of}

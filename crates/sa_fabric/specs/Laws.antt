@@ -33,7 +33,7 @@ StartsAreServed =
     → IsSound plan → ArePartitions partitions → IsBroughtUpBy plan (all_keys (ports_of partitions plan)) routes fabric
     → IsServed plan (ports_of partitions plan) (start_of (configuration_of partitions plan)) routes fabric
 
--- with the same cables in place it is served by one set of masks: nothing else than who receives tells what the fabric is
+-- with the same cables in place it is served by one set of masks: nothing else than who receives decides what the fabric is
 abbrev pub OneFabricIsServed : Type 0
 OneFabricIsServed =
     (plan : TopologyState) (ports : List SubnetPort) (partitions : List PartitionGroups) (routes : RoutesState) (one other : FabricState)

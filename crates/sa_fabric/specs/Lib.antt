@@ -1,3 +1,3 @@
-pub mod Slices
+pub mod MlidRanges
 pub mod Served
 pub mod Laws

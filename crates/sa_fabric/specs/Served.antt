@@ -19,7 +19,7 @@ use Rattle.table_push.specs.Masks.{all_masks_pushed}
 use Rattle.topo_file.specs.Sound.{IsSound}
 use Rattle.topo_file.specs.Topology.{TopologyState}
 use Rattle.updn_routes.specs.Subnet.{RoutesState}
-use Rattle.sa_fabric.specs.Slices.{AreRight}
+use Rattle.sa_fabric.specs.MlidRanges.{AreRight}
 
 -- the port of that LID is one of a channel adapter, and receives what is sent to the groups of that MLID
 abbrev pub receives_at : List SubnetPort → List PartitionGroups → (mlid lid : ℕ) → Bool

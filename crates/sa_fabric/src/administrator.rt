@@ -36,7 +36,7 @@ impl Model for Administrator {
 }
 
 impl Administrator {
-    /// Subnet administration of a subnet as it is configured, before its first command. Memory alone can be refused.
+    /// Subnet administration of a subnet as it is configured, before its first command. It can only run out of memory.
     pub fn of(alloc: Global, configuration: &Configuration) -> Result<Administrator, AllocError>
         requires { IsConfigured configuration.now }
         ensures { IfOk result (λ administrator. administrator ≡ record {

@@ -8,7 +8,7 @@ ghost use Rattle.sa_fabric.specs.declared.answering.AnswerFault.{AnswerFault};
 ghost use Rattle.topo_file.specs.Topology.{TopologyState};
 
 use crate::administrator::Administrator;
-use crate::slices::push_slices;
+use crate::mlid_ranges::push_ranges;
 use fabric_wire::Fabric;
 use mad_layout::Mad;
 use std::alloc::AllocError;
@@ -19,10 +19,10 @@ use updn_routes::Routes;
 /// Why a MAD is not answered.
 #[derive(Clone, Copy, Debug, PartialEq, Eq, Error)]
 pub enum AnswerFault {
-    /// Memory was refused.
+    /// Out of memory.
     #[error("out of memory")]
     NoMemory,
-    /// A switch did not take its masks. Those of a fabric that is served do.
+    /// A switch refused an MFT block. In a fabric that is served none does.
     #[error("a switch did not take its masks")]
     Push(PushFault),
 }
@@ -41,7 +41,7 @@ impl From<AllocError> for AnswerFault {
 /// What subnet administration answers where the port of a GUID sends it these bytes; in the fabric the masks of all who
 /// receive then stand. Of these only what changes is pushed.
 ///
-/// Memory alone can be refused. Then the fabric may have other masks, and the SA is broken for good.
+/// It can only run out of memory. Then the fabric may have other masks, and the SA is broken for good.
 pub fn answer(
     fabric: &mut Fabric,
     routes: &Routes,
@@ -65,7 +65,7 @@ pub fn answer(
     administrator.registry.known_remembered();
     let reaction = administrator.registry.handle(port, payload)?;
     administrator.registry.known_remembered();
-    match push_slices(
+    match push_ranges(
         fabric,
         routes,
         &administrator.registry,

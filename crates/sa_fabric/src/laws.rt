@@ -3,7 +3,7 @@
 ghost use Rattle.sa_fabric.specs.Laws.{AServedFabricIsAsListed, OneFabricIsServed, StartsAreServed};
 
 /// A fabric that is served is the fabric of the list of its ports, where those receive what is sent to groups that are in
-/// them. So what it delivers, to a port or to a group, is what the list and the groups tell.
+/// them. So what it delivers, to a port or to a group, is what the list and the groups report.
 pub fn a_served_fabric_is_as_listed()
     ensures { AServedFabricIsAsListed }
 {}

@@ -9,36 +9,51 @@ ghost use Rattle.subnet_fabric.specs.Standing.{IsNextCabling};
 
 use crate::administrator::Administrator;
 use crate::answering::AnswerFault;
-use crate::slices::push_received;
-use fabric_parts::Cable;
+use crate::mlid_ranges::push_received;
 use fabric_wire::Fabric;
 use pkey_rules::{KeyTable, PARTITIONS};
 use std::alloc::Global;
+use subnet_model::CableCommand;
 use topo_file::Topology;
 use updn_routes::Routes;
 
-/// Cuts the cable between two switches of a fabric that is served, or mends it, and sets the fabric up again where that can be
-/// done; else all stays as it is. What is sent to groups then goes by the new routes, to the ports that received it before.
+/// The subnet whose fabric is served.
+#[derive(Clone, Copy)]
+pub struct Listed<'a> {
+    /// Its topology.
+    pub topology: &'a Topology,
+    /// The P_Key tables of its end ports, in order of LID.
+    pub keys: &'a [KeyTable<PARTITIONS>],
+}
+
+/// Takes the link between two switches of a fabric that is served down or up, and sets the fabric up again. If the fabric could not
+/// be set up then, nothing changes. What is sent to groups then goes by the new routes, to the ports that received it before.
 ///
-/// The keys are those of the end ports, in order of LID. Memory alone can be refused. Then the fabric may have been changed, and
-/// may not serve any more.
+/// It can only run out of memory. Then the fabric may have been changed, and may not serve any more.
 pub fn recable(
     alloc: Global,
-    topology: &Topology,
+    listed: Listed<'_>,
     fabric: &mut Fabric,
     routes: &mut Routes,
     administrator: &Administrator,
-    keys: &[KeyTable<PARTITIONS>],
-    cable: Cable,
-    up: bool,
+    command: &CableCommand,
 ) -> Result<(), AnswerFault>
-    requires served { Serves topology.now routes.old administrator.now fabric.old }
-    requires keys { keys.now ≡ all_keys administrator.now.configuration.ports }
-    ensures cabling { OnOk result (IsNextCabling topology.now cable.first cable.second up (cabling_of fabric.old) (cabling_of fabric.new)) }
-    ensures serves { OnOk result (Serves topology.now routes.new administrator.now fabric.new) }
+    requires served { Serves listed.topology.now routes.old administrator.now fabric.old }
+    requires keys { listed.keys.now ≡ all_keys administrator.now.configuration.ports }
+    ensures cabling { OnOk result (IsNextCabling listed.entry.topology.now command.now.cable.first command.now.cable.second command.now.up
+        (cabling_of fabric.old) (cabling_of fabric.new)) }
+    ensures kept { OnOk result (cabling_of fabric.new ≡ cabling_of fabric.old → (fabric.new ≡ fabric.old) × (routes.new ≡ routes.old)) }
+    ensures serves { OnOk result (Serves listed.entry.topology.now routes.new administrator.now fabric.new) }
     ensures no_push { IfErr result (λ fault. fault ≡ AnswerFault.NoMemory) }
 {
-    let next = match subnet_fabric::recable(alloc, topology, fabric, routes, keys, cable, up) {
+    let next = match subnet_fabric::recable(
+        alloc,
+        listed.topology,
+        fabric,
+        routes,
+        listed.keys,
+        command,
+    ) {
         Ok(Some(next)) => next,
         Ok(None) => return Ok(()),
         Err(_) => return Err(AnswerFault::NoMemory),

@@ -1,4 +1,4 @@
-//! Who received when the slice of a partition was pushed last.
+//! Who received when the MLID range of a partition was pushed last.
 
 ghost use Rattle.std.specs.Prelude.{◌≡◌, []};
 
@@ -6,7 +6,7 @@ use std::alloc::Global;
 use std::marker::Model;
 use subnet_model::GroupReceiver;
 
-/// Who received what is sent to the groups of a partition when its slice was pushed last.
+/// Who received what is sent to the groups of a partition when its MLID range was pushed last.
 #[derive(Drop)]
 pub(crate) struct Received {
     receivers: Vec<GroupReceiver>,

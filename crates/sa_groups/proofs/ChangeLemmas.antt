@@ -55,9 +55,9 @@ mlid_in_range ports partition mlid (group ∷ groups) sound has =
 one_range : (a b mlid : ℕ) → is_in_range a mlid ≡ true → is_in_range b mlid ≡ true → (a == b) ≡ true
 one_range a b mlid in_a in_b = grind (arith, nat_tests)
 
-pub mlids_tell_partitions : (ports : List SubnetPort) (a b : PartitionGroups) (mlid : ℕ) → is_sound_partition ports a ≡ true → is_sound_partition ports b ≡ true
+pub mlids_report_partitions : (ports : List SubnetPort) (a b : PartitionGroups) (mlid : ℕ) → is_sound_partition ports a ≡ true → is_sound_partition ports b ≡ true
     → (a.number == b.number) ≡ false → list_any (λ group. group.mlid == mlid) a.groups ≡ true → list_any (λ group. group.mlid == mlid) b.groups ≡ false
-mlids_tell_partitions ports a b mlid sound_a sound_b other has =
+mlids_report_partitions ports a b mlid sound_a sound_b other has =
     false_from_ne_true (list_any (λ group. group.mlid == mlid) b.groups)
     (λ too. both_ways (a.number == b.number) other
     (one_range a.number b.number mlid

@@ -3,7 +3,7 @@ use Rattle.std.proofs.Common.{ℕ, true, false, not, ◌==◌, ◌&&◌, ◌||�
 use Rattle.std.proofs.Common.{◌≡◌, ◌∙◌, ap, refl, sym, inl, inr}
 use Rattle.std.specs.List.{list_any}
 use Rattle.std.proofs.lemmas.Bool.{cases_Bool, both_ways, false_from_ne_true, and_left, and_right, and_parts, or_left, eqb-true}
-use Rattle.result_words.proofs.ListLemmas.{none_passes}
+use Rattle.step_results.proofs.ListLemmas.{none_passes}
 use Rattle.fabric_parts.specs.NodeType.{is_switch_type}
 use Rattle.pkey_rules.specs.KeyTable.{accepts}
 use Rattle.subnet_model.specs.declared.subnet_port.SubnetPort.{SubnetPort}
@@ -19,7 +19,7 @@ use Rattle.sa_groups.specs.Delivery.{receives, receives_in, is_receiver_of, reac
 use Rattle.sa_groups.specs.Sound.{is_sound_membership, is_sound_group, is_sound_partition, is_sound}
 use Rattle.sa_groups.specs.Sight.{group_seen, partition_seen, seen, Alike}
 use Rattle.sa_groups.proofs.SoundLemmas.{sound_parts, partition_parts}
-use Rattle.result_words.proofs.FilterLemmas.{any_within, any_map_same}
+use Rattle.step_results.proofs.FilterLemmas.{any_within, any_map_same}
 
 -- ---- only ports near the sender
 pub reached_is_near : (ports : List SubnetPort) (partitions : List PartitionGroups) (p : ℕ) (command : SendCommand) (sender : SubnetPort)

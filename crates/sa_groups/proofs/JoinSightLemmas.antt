@@ -15,7 +15,7 @@ use Rattle.sa_groups.specs.Sight.{group_seen, partition_seen, Alike}
 use Rattle.sa_groups.proofs.SoundLemmas.{sound_parts, partition_parts}
 use Rattle.sa_groups.proofs.InPlaceLemmas.{lower_ones, higher_ones, nothing_lost}
 use Rattle.sa_groups.proofs.JoinSoundLemmas.{more_port, joined_sound}
-use Rattle.result_words.proofs.FilterLemmas.{any_within, filter_commutes, any_map_same, find_same, filter_map_same, filter_map_absorbs, map_swap}
+use Rattle.step_results.proofs.FilterLemmas.{any_within, filter_commutes, any_map_same, find_same, filter_map_same, filter_map_absorbs, map_swap}
 use Rattle.sa_groups.proofs.SightLemmas.{full_member_is_near, seen_change, seen_absorbs}
 
 abbrev is_seen : List SubnetPort → ℕ → Membership → Bool

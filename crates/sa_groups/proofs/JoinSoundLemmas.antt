@@ -4,7 +4,7 @@ use Rattle.std.proofs.Common.{◌≡◌, ◌∙◌, ap, refl, sym, inl, inr, ari
 use Rattle.std.specs.List.{list_all, list_any, range_with_len}
 use Rattle.std.proofs.lemmas.Bool.{cases_Bool, both_ways, and_from, and_parts, or_cases, or_parts, or_left, or_right, not_from_true, eqb-true}
 use Rattle.std.proofs.lemmas.Bool.Decides.{nat_tests}
-use Rattle.result_words.proofs.ListLemmas.{found_passes, list_all_weaker}
+use Rattle.step_results.proofs.ListLemmas.{found_passes, list_all_weaker}
 use Rattle.subnet_model.specs.declared.subnet_port.SubnetPort.{SubnetPort}
 use Rattle.sa_groups.specs.JoinState.{JoinState, is_joined, with_bits}
 use Rattle.sa_groups.specs.Members.{is_member, is_full_member}

@@ -3,7 +3,7 @@ use Rattle.std.proofs.Common.{◌≡◌, ℕ, ◌+◌, ◌<◌, ◌≤◌, Bool,
 use Rattle.std.specs.List.{flat_map, list_all, list_any, range_with_len}
 use Rattle.std.proofs.lemmas.Bool.{and_from, and_parts, both_ways, cases_Bool, eq-eqb, eqb-true, le-leb, leb-true, lt-ltb, not-true, not_from_false, or_cases, or_left, or_parts, or_right}
 use Rattle.std.proofs.lemmas.Bool.Decides.{nat_tests}
-use Rattle.result_words.proofs.ListLemmas.{all_joined, list_all_weaker, list_any_weaker, any_none, any_flat, any_map}
+use Rattle.step_results.proofs.ListLemmas.{all_joined, list_all_weaker, list_any_weaker, any_none, any_flat, any_map}
 use Rattle.fabric_parts.specs.NodeType.{is_switch_type}
 use Rattle.subnet_model.specs.Configured.{HaveLidsInOrder}
 use Rattle.subnet_model.specs.Delivery.{port_with_guid}
@@ -12,7 +12,7 @@ use Rattle.subnet_model.specs.declared.subnet_port.SubnetPort.{SubnetPort}
 use Rattle.sa_groups.specs.Delivery.{receives, receives_in}
 use Rattle.sa_groups.specs.Groups.{MulticastGroup, PartitionGroups}
 use Rattle.sa_groups.specs.Joining.{Join, joined, joined_in, may_join}
-use Rattle.sa_groups.specs.ReceiverLaws.{JoinsChangeOne, NothingChangesAlone, ReceiversAreReached, ReceiversStandInOrder, comes_first, is_number_of, is_of_adapter, same_answer, ChangesAreTold, OnlyChangesAreTold, has_number}
+use Rattle.sa_groups.specs.ReceiverLaws.{JoinsChangeOne, NothingChangesAlone, ReceiversAreReached, ReceiversStandInOrder, comes_first, is_number_of, is_of_adapter, same_answer, ChangesAreReported, OnlyChangesAreReported, has_number}
 use Rattle.sa_groups.specs.Receivers.{are_same_receivers, group_receivers, is_among, is_same_receiver, receives_group, receivers_in, receivers_of}
 use Rattle.sa_groups.specs.Sound.{is_in_range, is_sound_group, lower_mlid, pairwise}
 use Rattle.sa_groups.proofs.ListLemmas.{pairwise_append}
@@ -273,7 +273,7 @@ is_through a b c first second =
     let y = and_parts (b.mlid == c.mlid) (b.lid == c.lid) second in
     and_from _ _ (eq-eqb a.mlid c.mlid (eqb-true a.mlid b.mlid x.0 ∙ eqb-true b.mlid c.mlid y.0)) (eq-eqb a.lid c.lid (eqb-true a.lid b.lid x.1 ∙ eqb-true b.lid c.lid y.1))
 
-among_too : (xs ys : List GroupReceiver) (one : GroupReceiver) → list_all (is_among ys) xs ≡ true → is_among xs one ≡ true → is_among ys one ≡ true
+pub among_too : (xs ys : List GroupReceiver) (one : GroupReceiver) → list_all (is_among ys) xs ≡ true → is_among xs one ≡ true → is_among ys one ≡ true
 among_too [] ys one all there = absurd (cc)
 among_too (x ∷ xs) ys one all there =
     let parts = and_parts (is_among ys x) _ all in
@@ -297,8 +297,8 @@ are_others xs ys one differ = elim (cases_Bool (are_same_receivers xs ys)) [
   | inr other ↦ not_from_false (are_same_receivers xs ys) other
 ]
 
-pub changes_are_told : ChangesAreTold
-changes_are_told ports before after number one there differ = told before there
+pub changes_are_reported : ChangesAreReported
+changes_are_reported ports before after number one there differ = reported before there
   where
     changes : not (are_same_receivers (receivers_of ports number before) (receivers_of ports number after)) ≡ true
     changes = are_others (receivers_of ports number before) (receivers_of ports number after) one differ
@@ -306,15 +306,15 @@ changes_are_told ports before after number one there differ = told before there
     at_number : (n : ℕ) → (n == number) ≡ true → not (are_same_receivers (receivers_of ports n before) (receivers_of ports n after)) ≡ true
     at_number n same = subst (λ (m : ℕ). not (are_same_receivers (receivers_of ports m before) (receivers_of ports m after)) ≡ true) (sym (eqb-true n number same)) changes
 
-    told : (some : List PartitionGroups) → list_any (λ partition. partition.number == number) some ≡ true
+    reported : (some : List PartitionGroups) → list_any (λ partition. partition.number == number) some ≡ true
         → list_any (λ n. n == number)
         (filter (λ n. not (are_same_receivers (receivers_of ports n before) (receivers_of ports n after))) (map (λ partition. partition.number) some)) ≡ true
-    told [] there_is = absurd (cc)
-    told (partition ∷ some) there_is = elim (cases_Bool (partition.number == number)) [
+    reported [] there_is = absurd (cc)
+    reported (partition ∷ some) there_is = elim (cases_Bool (partition.number == number)) [
       | inl this ↦ rw (at_number partition.number this, this) refl
       | inr other ↦ elim (cases_Bool (not (are_same_receivers (receivers_of ports partition.number before) (receivers_of ports partition.number after)))) [
-        | inl told_too ↦ rw (told_too, other) (told some (rw other at there_is))
-        | inr untold ↦ rw untold (told some (rw other at there_is))
+        | inl reported_too ↦ rw (reported_too, other) (reported some (rw other at there_is))
+        | inr unreported ↦ rw unreported (reported some (rw other at there_is))
       ]
     ]
 
@@ -357,28 +357,28 @@ one_differs xs ys other = elim (cases_Bool (list_all (is_among ys) xs)) [
 abbrev changes_at : List SubnetPort → List PartitionGroups → List PartitionGroups → ℕ → Bool
 changes_at ports before after number = not (are_same_receivers (receivers_of ports number before) (receivers_of ports number after))
 
-told_there : (changes : ℕ → Bool) (number : ℕ) (some : List PartitionGroups)
+reported_there : (changes : ℕ → Bool) (number : ℕ) (some : List PartitionGroups)
     → list_any (λ n. n == number) (filter changes (map (λ partition. partition.number) some)) ≡ true
     → (has_number number some ≡ true) × (changes number ≡ true)
-told_there changes number [] told = absurd (cc)
-told_there changes number (partition ∷ some) told = elim (cases_Bool (changes partition.number)) [
-  | inl changed ↦ elim (or_cases (partition.number == number) _ (rw changed at told)) [
+reported_there changes number [] reported = absurd (cc)
+reported_there changes number (partition ∷ some) reported = elim (cases_Bool (changes partition.number)) [
+  | inl changed ↦ elim (or_cases (partition.number == number) _ (rw changed at reported)) [
     | inl this ↦ (
       or_left (partition.number == number) (has_number number some) this,
       subst (λ (n : ℕ). changes n ≡ true) (eqb-true partition.number number this) changed,
     )
     | inr later ↦
-        let rest = told_there changes number some later in
+        let rest = reported_there changes number some later in
         (or_right (partition.number == number) (has_number number some) rest.0, rest.1)
   ]
   | inr same ↦
-      let rest = told_there changes number some (rw same at told) in
+      let rest = reported_there changes number some (rw same at reported) in
       (or_right (partition.number == number) (has_number number some) rest.0, rest.1)
 ]
 
-pub only_changes_are_told : OnlyChangesAreTold
-only_changes_are_told ports before after number told =
-    let found = told_there (changes_at ports before after) number before told in
+pub only_changes_are_reported : OnlyChangesAreReported
+only_changes_are_reported ports before after number reported =
+    let found = reported_there (changes_at ports before after) number before reported in
     let changed = one_differs (receivers_of ports number before) (receivers_of ports number after) found.1 in
     record { there = found.0; one = changed.one; differs = changed.differs }
 

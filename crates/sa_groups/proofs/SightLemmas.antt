@@ -3,7 +3,7 @@ use Rattle.std.proofs.Common.{ℕ, Bool, true, false, ◌==◌, ◌&&◌, ◌||�
 use Rattle.std.proofs.Common.{◌≡◌, ◌∙◌, ap, refl, sym, inl, inr}
 use Rattle.std.specs.List.{list_all}
 use Rattle.std.proofs.lemmas.Bool.{cases_Bool, both_ways, false_from_ne_true, and_from, and_parts, or_right, eqb-true}
-use Rattle.result_words.proofs.ListLemmas.{list_any_weaker}
+use Rattle.step_results.proofs.ListLemmas.{list_any_weaker}
 use Rattle.pkey_rules.specs.PKey.{key_of}
 use Rattle.pkey_rules.specs.KeyTable.{accepts, holds, shares}
 use Rattle.subnet_model.specs.declared.subnet_port.SubnetPort.{SubnetPort}
@@ -20,7 +20,7 @@ use Rattle.sa_groups.specs.Sight.{group_seen, partition_seen, seen, Alike}
 use Rattle.sa_groups.proofs.SoundLemmas.{sound_parts, partition_parts}
 use Rattle.sa_groups.proofs.LeaveSoundLemmas.{less_port, left_sound}
 use Rattle.sa_groups.proofs.ListLemmas.{all_filter}
-use Rattle.result_words.proofs.FilterLemmas.{filter_commutes, any_within, filter_map_same, map_swap, filter_map_idle, filter_map_idle_of}
+use Rattle.step_results.proofs.FilterLemmas.{filter_commutes, any_within, filter_map_same, map_swap, filter_map_idle, filter_map_idle_of}
 
 -- a full member of a partition is near each of its members
 pub full_member_is_near : (ports : List SubnetPort) (base p q : ℕ) → is_full_member ports base q ≡ true → is_member ports base p ≡ true

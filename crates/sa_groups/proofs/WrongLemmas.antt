@@ -1,4 +1,4 @@
--- Two states that are alike to a port, and that a wrong rule tells apart.
+-- Two states that are alike to a port, and that a wrong rule distinguishes.
 use Rattle.std.proofs.Common.{◌==◌, Bool, true, false, List, [], ◌∷◌, ◌≡◌, ap, refl}
 use Rattle.std.specs.List.{list_any}
 use Rattle.subnet_model.specs.declared.subnet_port.SubnetPort.{SubnetPort}
@@ -7,7 +7,7 @@ use Rattle.sa_groups.specs.Groups.{PartitionGroups}
 use Rattle.sa_groups.specs.Joining.{joined}
 use Rattle.sa_groups.specs.Sight.{Alike}
 use Rattle.sa_groups.specs.Examples.{adapter, full_member, parameters, ports, nobody, both, mgid, join_of, leave_of, mlids}
-use Rattle.sa_groups.specs.WrongRules.{OnePoolIsSeen, MgidsAloneAreSeen, LimitedKeepersAreSeen, SendersAreReached, ComersAreTold, AllNumbersAreTold}
+use Rattle.sa_groups.specs.WrongRules.{OnePoolIsSeen, MgidsAloneAreSeen, LimitedKeepersAreSeen, SendersAreReached, ComersAreReported, AllNumbersAreReported}
 use Rattle.sa_groups.specs.ReceiverLaws.{same_answer}
 use Rattle.sa_groups.specs.Receivers.{is_among, receivers_of}
 
@@ -64,17 +64,17 @@ senders_are_reached law =
     let same : true ≡ false = law together with_sender 0xc020 (adapter 3 0x121 (0x8001 ∷ [])) refl refl refl in
     absurd (cc)
 
-pub comers_are_told : ComersAreTold
-comers_are_told law =
+pub comers_are_reported : ComersAreReported
+comers_are_reported law =
     let same : false ≡ true = law together made with_receiver 1 (record { mlid = 0xc020; lid = 3 }) refl refl in
     absurd (cc)
 
--- nothing changes, and so no receiver is told apart
+-- nothing changes, and so no receiver is distinguished
 no_difference : (b : Bool) → same_answer b b ≡ false → ⊥
-no_difference true e = let told : true ≡ false = e in absurd (cc)
-no_difference false e = let told : true ≡ false = e in absurd (cc)
+no_difference true e = let reported : true ≡ false = e in absurd (cc)
+no_difference false e = let reported : true ≡ false = e in absurd (cc)
 
-pub all_numbers_are_told : AllNumbersAreTold
-all_numbers_are_told law =
-    let told = law together made made 1 refl in
-    no_difference (is_among (receivers_of together 1 made) told.one) told.differs
+pub all_numbers_are_reported : AllNumbersAreReported
+all_numbers_are_reported law =
+    let reported = law together made made 1 refl in
+    no_difference (is_among (receivers_of together 1 made) reported.one) reported.differs

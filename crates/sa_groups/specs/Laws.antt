@@ -30,8 +30,8 @@ LeavesKeepSound =
     → is_sound ports (left ports leave partitions) ≡ true
 
 -- partitions of different numbers have no MLID in common: so an MLID that no group of its partition has is free
-abbrev pub MlidsTellPartitions : Type 0
-MlidsTellPartitions =
+abbrev pub MlidsReportPartitions : Type 0
+MlidsReportPartitions =
     (ports : List SubnetPort) (a b : PartitionGroups) (mlid : ℕ) → is_sound_partition ports a ≡ true
     → is_sound_partition ports b ≡ true → (a.number == b.number) ≡ false
     → list_any (λ group. group.mlid == mlid) a.groups ≡ true → list_any (λ group. group.mlid == mlid) b.groups ≡ false

@@ -48,11 +48,11 @@ ReceiversStandInOrder =
     → AreReceivers ports partition
 
 -- ---- where they change
--- where nothing changes, no number is told
+-- where nothing changes, no number is reported
 abbrev pub NothingChangesAlone : Type 0
 NothingChangesAlone = (ports : List SubnetPort) (partitions : List PartitionGroups) → changed_numbers ports partitions partitions ≡ []
 
--- a partition of whose receivers one comes or goes is told
+-- a partition of whose receivers one comes or goes is reported
 abbrev pub has_number : ℕ → List PartitionGroups → Bool
 has_number number partitions = list_any (λ partition. partition.number == number) partitions
 
@@ -64,28 +64,28 @@ same_answer false b = not b
 abbrev pub NumberRule : Type 0
 NumberRule = List SubnetPort → List PartitionGroups → List PartitionGroups → List ℕ
 
-abbrev pub ChangesAreToldBy : NumberRule → Type 0
-ChangesAreToldBy rule =
+abbrev pub ChangesAreReportedBy : NumberRule → Type 0
+ChangesAreReportedBy rule =
     (ports : List SubnetPort) (before after : List PartitionGroups) (number : ℕ) (one : GroupReceiver) → has_number number before ≡ true
     → same_answer (is_among (receivers_of ports number before) one) (is_among (receivers_of ports number after) one) ≡ false
-    → list_any (λ told. told == number) (rule ports before after) ≡ true
+    → list_any (λ reported. reported == number) (rule ports before after) ≡ true
 
-abbrev pub ChangesAreTold : Type 0
-ChangesAreTold = ChangesAreToldBy changed_numbers
+abbrev pub ChangesAreReported : Type 0
+ChangesAreReported = ChangesAreReportedBy changed_numbers
 
--- and no other: of a number that is told there is a partition, of whose receivers one comes or goes
+-- and no other: of a number that is reported there is a partition, of whose receivers one comes or goes
 pub record HasChanged (ports : List SubnetPort) (before after : List PartitionGroups) (number : ℕ) : Type 0 where
   pub there : has_number number before ≡ true
   pub one : GroupReceiver
   pub differs : same_answer (is_among (receivers_of ports number before) one) (is_among (receivers_of ports number after) one) ≡ false
 
-abbrev pub OnlyChangesAreToldBy : NumberRule → Type 0
-OnlyChangesAreToldBy rule =
+abbrev pub OnlyChangesAreReportedBy : NumberRule → Type 0
+OnlyChangesAreReportedBy rule =
     (ports : List SubnetPort) (before after : List PartitionGroups) (number : ℕ)
-    → list_any (λ told. told == number) (rule ports before after) ≡ true → HasChanged ports before after number
+    → list_any (λ reported. reported == number) (rule ports before after) ≡ true → HasChanged ports before after number
 
-abbrev pub OnlyChangesAreTold : Type 0
-OnlyChangesAreTold = OnlyChangesAreToldBy changed_numbers
+abbrev pub OnlyChangesAreReported : Type 0
+OnlyChangesAreReported = OnlyChangesAreReportedBy changed_numbers
 
 -- a join changes the receivers of the partition of its base alone
 abbrev pub is_number_of : ℕ → List PartitionGroups → ℕ → Bool

@@ -11,7 +11,7 @@ use Rattle.sa_groups.specs.Joining.{Join, may_create, has_mgid, is_of, with_crea
 use Rattle.sa_groups.specs.Leaving.{Leave, left_group}
 use Rattle.sa_groups.specs.Sight.{Alike, seen}
 use Rattle.sa_groups.specs.Receivers.{is_among, receivers_of}
-use Rattle.sa_groups.specs.ReceiverLaws.{ReceiversAreReachedBy, ChangesAreToldBy, OnlyChangesAreToldBy}
+use Rattle.sa_groups.specs.ReceiverLaws.{ReceiversAreReachedBy, ChangesAreReportedBy, OnlyChangesAreReportedBy}
 
 -- ---- what a rule for joins, or for leaves, has to keep for a port p
 abbrev pub JoinRule : Type 0
@@ -82,7 +82,7 @@ group_members ports group = map (λ port. record { mlid = group.mlid; lid = port
 abbrev pub members_in : List SubnetPort → PartitionGroups → List GroupReceiver
 members_in ports partition = flat_map (group_members ports) partition.groups
 
--- ---- a partition that is told only where a receiver goes
+-- ---- a partition that is reported only where a receiver goes
 abbrev pub numbers_of_goers : List SubnetPort → List PartitionGroups → List PartitionGroups → List ℕ
 numbers_of_goers ports before after =
     filter (λ number. not (list_all (is_among (receivers_of ports number after)) (receivers_of ports number before)))
@@ -106,8 +106,8 @@ LimitedKeepersAreSeen = LeavesAreSeenAlikeBy left_to_any → ⊥
 abbrev pub SendersAreReached : Type 0
 SendersAreReached = ReceiversAreReachedBy members_in → ⊥
 
-abbrev pub ComersAreTold : Type 0
-ComersAreTold = ChangesAreToldBy numbers_of_goers → ⊥
+abbrev pub ComersAreReported : Type 0
+ComersAreReported = ChangesAreReportedBy numbers_of_goers → ⊥
 
-abbrev pub AllNumbersAreTold : Type 0
-AllNumbersAreTold = OnlyChangesAreToldBy numbers_of_all → ⊥
+abbrev pub AllNumbersAreReported : Type 0
+AllNumbersAreReported = OnlyChangesAreReportedBy numbers_of_all → ⊥

@@ -1,9 +1,9 @@
 //! The laws of multicast groups, over the definitions alone. Each function does nothing: its contract
 //! is the law.
 
-ghost use Rattle.sa_groups.specs.Laws.{FarJoinsAreNotSeen, FarLeavesAreNotSeen, GroupsDependOnNear, JoinsKeepSound, LeavesAreSeenAlike, LeavesKeepSound, MlidsTellPartitions, NearJoinsAreSeenAlike, PacketsReachAlike, PacketsReachThoseNear, PartitionsStay, StartsAreSound};
+ghost use Rattle.sa_groups.specs.Laws.{FarJoinsAreNotSeen, FarLeavesAreNotSeen, GroupsDependOnNear, JoinsKeepSound, LeavesAreSeenAlike, LeavesKeepSound, MlidsReportPartitions, NearJoinsAreSeenAlike, PacketsReachAlike, PacketsReachThoseNear, PartitionsStay, StartsAreSound};
 ghost use Rattle.sa_groups.specs.FreeMlid.{TheLeastFreeIsGiven};
-ghost use Rattle.sa_groups.specs.ReceiverLaws.{ChangesAreTold, JoinsChangeOne, NothingChangesAlone, OnlyChangesAreTold, ReceiversAreReached, ReceiversStandInOrder};
+ghost use Rattle.sa_groups.specs.ReceiverLaws.{ChangesAreReported, JoinsChangeOne, NothingChangesAlone, OnlyChangesAreReported, ReceiversAreReached, ReceiversStandInOrder};
 
 /// At the start the groups of every partition are sound.
 pub fn starts_are_sound()
@@ -21,8 +21,8 @@ pub fn leaves_keep_sound()
 {}
 
 /// No MLID is that of groups of two partitions.
-pub fn mlids_tell_partitions()
-    ensures { MlidsTellPartitions }
+pub fn mlids_report_partitions()
+    ensures { MlidsReportPartitions }
 {}
 
 /// Joins and leaves change neither the numbers nor the bases of partitions.
@@ -87,14 +87,14 @@ pub fn nothing_changes_alone()
     ensures { NothingChangesAlone }
 {}
 
-/// Where a receiver of a partition comes or goes, the partition's number is told.
-pub fn changes_are_told()
-    ensures { ChangesAreTold }
+/// Where a receiver of a partition comes or goes, the partition's number is reported.
+pub fn changes_are_reported()
+    ensures { ChangesAreReported }
 {}
 
-/// A number that is told is that of a partition of whose receivers one comes or goes.
-pub fn only_changes_are_told()
-    ensures { OnlyChangesAreTold }
+/// A number that is reported is that of a partition of whose receivers one comes or goes.
+pub fn only_changes_are_reported()
+    ensures { OnlyChangesAreReported }
 {}
 
 /// A join changes the receivers of the partition of its base alone.

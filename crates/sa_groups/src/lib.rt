@@ -12,10 +12,10 @@ mod wrong_rules;
 
 pub use crate::examples::{what_the_file_makes, which_mlids, who_joins, who_leaves, who_receives};
 pub use crate::laws::{
-    changes_are_told, far_joins_are_not_seen, far_leaves_are_not_seen, groups_depend_on_near,
+    changes_are_reported, far_joins_are_not_seen, far_leaves_are_not_seen, groups_depend_on_near,
     joins_change_one, joins_keep_sound, leaves_are_seen_alike, leaves_keep_sound,
-    mlids_tell_partitions, near_joins_are_seen_alike, nothing_changes_alone, only_changes_are_told,
-    packets_reach_alike, packets_reach_those_near, partitions_stay, receivers_are_reached,
-    receivers_stand_in_order, starts_are_sound, the_least_free_is_given,
+    mlids_report_partitions, near_joins_are_seen_alike, nothing_changes_alone,
+    only_changes_are_reported, packets_reach_alike, packets_reach_those_near, partitions_stay,
+    receivers_are_reached, receivers_stand_in_order, starts_are_sound, the_least_free_is_given,
 };
 pub use crate::wrong_rules::{limited_keepers_are_seen, mgids_alone_are_seen, one_pool_is_seen};

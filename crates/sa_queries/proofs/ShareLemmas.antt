@@ -18,7 +18,7 @@ use Rattle.sa_services.specs.ServiceSight.{shares_base_with}
 use Rattle.sa_services.proofs.KeyOrderLemmas.{stand_by_base}
 use Rattle.sa_queries.specs.Shares.{SharingIsOneThing, is_path_to}
 use Rattle.sa_queries.specs.Visible.{keys_to, may_know, paths_to, paths_under, visible_nodes}
-use Rattle.result_words.proofs.ListLemmas.{any_flat}
+use Rattle.step_results.proofs.ListLemmas.{any_flat}
 
 -- ---- tests of some element
 any_filter : {X : Type 0} (p t : X → Bool) (xs : List X) → list_any p (filter t xs) ≡ list_any (λ x. p x && t x) xs

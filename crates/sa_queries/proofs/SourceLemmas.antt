@@ -14,7 +14,7 @@ use Rattle.sa_queries.specs.NamedSources.{ComesFrom, SelectedSayTheirSource, is_
 use Rattle.sa_queries.specs.Selected.{Query, few_paths}
 use Rattle.sa_queries.specs.Shown.{Entry, group_entry, group_record_of, node_entry, node_record_of, path_entry, service_entry, service_record_of}
 use Rattle.sa_queries.specs.Visible.{GroupOfBase, Path, ServiceOfPort, groups_of, visible_groups, visible_nodes, visible_services}
-use Rattle.result_words.proofs.ElementLemmas.{each_always, each_weaker, each_joined}
+use Rattle.step_results.proofs.ElementLemmas.{each_always, each_weaker, each_joined}
 
 -- ---- of each element
 pub all_mapped : {X Y : Type 0} (P : Y → Type 0) (f : X → Y) (xs : List X) → AllByRecursion (λ x. P (f x)) xs → AllByRecursion P (map f xs)

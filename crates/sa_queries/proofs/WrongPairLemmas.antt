@@ -5,7 +5,7 @@ use Rattle.std.specs.List.{list_all}
 use Rattle.std.proofs.lemmas.Bool.{false≢true}
 use Rattle.std.proofs.lemmas.List.Elements.{All-from_recursion}
 use Rattle.std.proofs.lemmas.Map.Keys.{IsDistinct-cons}
-use Rattle.result_words.proofs.ListLemmas.{IsDistinct-nil}
+use Rattle.step_results.proofs.ListLemmas.{IsDistinct-nil}
 use Rattle.partition_file.specs.declared.heading.Heading.{Heading}
 use Rattle.pkey_rules.specs.KeyTable.{same_base}
 use Rattle.subnet_model.specs.Configuration.{ConfigurationState}

@@ -1,4 +1,4 @@
--- What holds of every request for records: what it tells a port depends only on the ports near it and the partition file.
+-- What holds of every request for records: what it shows to a port depends only on the ports near it and the partition file.
 use Rattle.std.specs.Prelude.{ℕ, ◌≡◌, Bool, true, List, Option, Some, map, IfOk}
 use Rattle.std.specs.List.{list_all}
 use Rattle.subnet_model.specs.declared.subnet_port.SubnetPort.{SubnetPort}

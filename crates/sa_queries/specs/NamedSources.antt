@@ -1,4 +1,4 @@
--- What a record comes from is told by the record itself, and of a group by what is remembered.
+-- What a record comes from is reported by the record itself, and of a group by what is remembered.
 use Rattle.std.specs.Prelude.{ℕ, ◌≡◌, ◌==◌, Bool, true, false, ◌&&◌, List, Option}
 use Rattle.std.specs.List.{AllByRecursion, list_any}
 use Rattle.pkey_rules.specs.PKey.{key_of}

@@ -1,4 +1,4 @@
--- Wrong rules for what a port is shown, most of which tell it too much, and what each of them breaks.
+-- Wrong rules for what a port is shown, most of which show it too much, and what each of them breaks.
 use Rattle.std.specs.Prelude.{◌≡◌, ◌==◌, true, not, List, ◌++◌, Some, None, filter, map}
 use Rattle.std.specs.List.{list_all, flat_map}
 use Rattle.pkey_rules.specs.PKey.{base_of}
@@ -38,8 +38,8 @@ PathsLeadToNear = LeadsToNear keys_to
 abbrev pub keys_of_common_bases : PathRule
 keys_of_common_bases own other = filter (λ key. has_base (base_of key) other.keys) (by_base own.keys)
 
-abbrev pub PathsByBaseTell : Type 0
-PathsByBaseTell = LeadsToNear keys_of_common_bases → ⊥
+abbrev pub PathsByBaseReport : Type 0
+PathsByBaseReport = LeadsToNear keys_of_common_bases → ⊥
 
 -- nor is such a base shared
 abbrev pub CommonBasesAreNotShared : Type 0
@@ -49,15 +49,15 @@ CommonBasesAreNotShared = SharesBases keys_of_common_bases → ⊥
 abbrev pub groups_of_all : SubnetPort → List PartitionGroups → List GroupOfBase
 groups_of_all own partitions = flat_map groups_of partitions
 
-abbrev pub GroupsOfAllTell : Type 0
-GroupsOfAllTell = ShowsAlike groups_of_all → ⊥
+abbrev pub GroupsOfAllReport : Type 0
+GroupsOfAllReport = ShowsAlike groups_of_all → ⊥
 
 -- ---- services of the ports near it, also of a partition in which both are limited members
 abbrev pub services_of_ports_near : ServiceRule
 services_of_ports_near ports own services = flat_map services_of (services_near ports own.guid services)
 
-abbrev pub ServicesOfPortsNearTell : Type 0
-ServicesOfPortsNearTell = ShowsServicesAlike services_of_ports_near → ⊥
+abbrev pub ServicesOfPortsNearReport : Type 0
+ServicesOfPortsNearReport = ShowsServicesAlike services_of_ports_near → ⊥
 
 -- ---- to say of each record that it comes from the partition file: then nothing comes from far
 abbrev pub selected_of_file : SelectRule

@@ -32,7 +32,7 @@ pub fn which_services()
     ensures { WhichServices }
 {}
 
-/// A record of each kind is spelt as outside examples spell it.
+/// A record of each kind is encoded as outside examples encode it.
 pub fn which_bytes()
     ensures { WhichBytes }
 {}

@@ -1,4 +1,4 @@
-//! What subnet administration tells a port that asks for records, and why it keeps partitions apart.
+//! What subnet administration shows to a port that asks for records, and why it keeps partitions apart.
 //!
 //! Here stand definitions, and laws over them: what a port can be shown (`specs/Visible.antt`), as which
 //! records (`specs/Shown.antt`), which of these a request selects (`specs/Selected.antt`), why it is refused
@@ -20,5 +20,5 @@ pub use crate::laws::{
     visible_comes_from_near, visible_stands_in_order,
 };
 pub use crate::wrong_rules::{
-    all_of_file_is_wrong, groups_of_all_tell, paths_by_base_tell, services_of_ports_near_tell,
+    all_of_file_is_wrong, groups_of_all_report, paths_by_base_report, services_of_ports_near_report,
 };

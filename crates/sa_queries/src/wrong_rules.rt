@@ -1,11 +1,11 @@
 //! Wrong rules for what is shown, and the law that each breaks, so that a reader sees that the laws say something. Each
 //! function does nothing: its contract is the law.
 
-ghost use Rattle.sa_queries.specs.WrongRules.{AllOfFileIsWrong, CommonBasesAreNotShared, GroupsOfAllTell, OwnFirstIsOutOfOrder, PathsByBaseTell, ServicesOfPortsNearTell};
+ghost use Rattle.sa_queries.specs.WrongRules.{AllOfFileIsWrong, CommonBasesAreNotShared, GroupsOfAllReport, OwnFirstIsOutOfOrder, PathsByBaseReport, ServicesOfPortsNearReport};
 
-/// With a path in each common partition, one limited member is told of another.
-pub fn paths_by_base_tell()
-    ensures { PathsByBaseTell }
+/// With a path in each common partition, one limited member is shown another.
+pub fn paths_by_base_report()
+    ensures { PathsByBaseReport }
 {}
 
 /// Two limited members share no base, so that a path in each common partition is one too many.
@@ -13,14 +13,14 @@ pub fn common_bases_are_not_shared()
     ensures { CommonBasesAreNotShared }
 {}
 
-/// Where groups of all partitions are shown, a port is told of what it has no part in.
-pub fn groups_of_all_tell()
-    ensures { GroupsOfAllTell }
+/// Where groups of all partitions are shown, a port is shown what it has no part in.
+pub fn groups_of_all_report()
+    ensures { GroupsOfAllReport }
 {}
 
-/// Where a port is shown all services of the ports near it, one limited member is told of another's services.
-pub fn services_of_ports_near_tell()
-    ensures { ServicesOfPortsNearTell }
+/// Where a port is shown all services of the ports near it, one limited member is shown another's services.
+pub fn services_of_ports_near_report()
+    ensures { ServicesOfPortsNearReport }
 {}
 
 /// To say of each record that it comes from the partition file is refused: a node comes from its port.

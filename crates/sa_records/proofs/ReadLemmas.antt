@@ -5,7 +5,7 @@ use Rattle.std.proofs.lemmas.List.{length-append, length-replicate}
 use Rattle.mad_layout.specs.Bits.{field, number}
 use Rattle.mad_layout.specs.Layout.{Field, Fits, Holds, is_layout, put_all}
 use Rattle.mad_layout.proofs.AlignedLemmas.{bytes_stand}
-use Rattle.mad_layout.proofs.LayoutLemmas.{length-put_all, spelled_below, spells_put_all}
+use Rattle.mad_layout.proofs.LayoutLemmas.{length-put_all, encoded_below, encodes_put_all}
 use Rattle.mad_layout.proofs.NumberLemmas.{below_append}
 use Rattle.mad_layout.proofs.ReadLemmas.{flag_is, holds_front}
 use Rattle.sa_records.specs.Laws.{AreBytes}
@@ -99,21 +99,21 @@ service_record_is one bytes h service_name_is service_data_is = λ place. record
 }
 
 -- ---- bytes that a record fills, and whatever follows
-pub spelled_long : (n : ℕ) (ps : List Field) → length (put_all (replicate n 0) ps) ≡ n
-spelled_long n ps = length-put_all (replicate n 0) ps ∙ length-replicate n 0
+pub encoded_long : (n : ℕ) (ps : List Field) → length (put_all (replicate n 0) ps) ≡ n
+encoded_long n ps = length-put_all (replicate n 0) ps ∙ length-replicate n 0
 
 pub front_holds : (n : ℕ) (ps : List Field) (rest : List ℕ) → is_layout (8 * n) ps ≡ true → Fits ps → AllBelowBase 256 rest
     → Holds (put_all (replicate n 0) ps ++ rest) ps
 front_holds n ps rest layout fits below =
-    holds_front (put_all (replicate n 0) ps) rest ps (spelled_below ps n) below
-    (ap (λ (m : ℕ). is_layout (8 * m) ps) (spelled_long n ps) ∙ layout) (spells_put_all ps n layout fits).fields
+    holds_front (put_all (replicate n 0) ps) rest ps (encoded_below ps n) below
+    (ap (λ (m : ℕ). is_layout (8 * m) ps) (encoded_long n ps) ∙ layout) (encodes_put_all ps n layout fits).fields
 
 -- bytes of a record that are no number
 pub front_part : (n : ℕ) (ps : List Field) (rest part : List ℕ) (first : ℕ) → AllBelowBase 256 rest → AreBytes 64 part
     → first + 64 ≤ n → number part ≡ field (put_all (replicate n 0) ps ++ rest) (8 * first) (8 * 64)
     → take 64 (drop first (put_all (replicate n 0) ps ++ rest)) ≡ part
 front_part n ps rest part first below bytes within e =
-    let size = spelled_long n ps in
+    let size = encoded_long n ps in
     let whole = length-append (put_all (replicate n 0) ps) rest in
-    bytes_stand (put_all (replicate n 0) ps ++ rest) part first 64 (below_append _ rest (spelled_below ps n) below)
+    bytes_stand (put_all (replicate n 0) ps ++ rest) part first 64 (below_append _ rest (encoded_below ps n) below)
     bytes.below (omega (arith, size, whole)) bytes.long e

@@ -1,7 +1,7 @@
 //! The records of subnet administration: what requests ask by, and what answers show.
 //!
 //! Each record is a struct of raw fields and one table of their places, as headers and attributes are (`mad_layout`):
-//! `read` gives each field its value, `write` spells the record and 0 elsewhere, and contracts compare both with the
+//! `read` gives each field its value, `write` encodes the record and 0 elsewhere, and contracts compare both with the
 //! list of places that stands in `specs/`. `selected_by` says whether a record agrees with a request on every
 //! component that the request's ComponentMask names; `specs/Component.antt` says what a component is, and each record
 //! lists its own. `ask_by` sets a field by its name in scripts and gives its bits of the mask, from the same table of
@@ -13,10 +13,14 @@ mod asked;
 mod component;
 mod laws;
 mod mc_member_record;
+pub mod member_mask;
+pub mod node_mask;
 mod node_record;
+pub mod path_mask;
 mod path_record;
 mod sa_attribute;
 mod sa_record;
+pub mod service_mask;
 mod service_record;
 
 pub use crate::component::{code_satisfies, rate_satisfies};

@@ -1,12 +1,13 @@
 //! MCMemberRecord.
 
 ghost use Rattle.std.specs.Prelude.{◌≡◌, replicate};
-ghost use Rattle.mad_layout.specs.Layout.{Holds, Fits, put_all, Spells};
+ghost use Rattle.mad_layout.specs.Layout.{Holds, Fits, put_all, Encodes};
 ghost use Rattle.sa_records.specs.Asked.{asked_by, bits_of, with_value};
 ghost use Rattle.sa_records.specs.McMemberRecord.{group_in, mc_member_record, mc_member_record_asked, mc_member_record_bytes, mc_member_record_selected};
 
 use crate::asked::{component_agrees, flag, is_word, selected, set_asked, set_field};
 use crate::component::{agrees, code_satisfies, rate_satisfies, same_base};
+use crate::member_mask as mask;
 use mad_layout::{JoinState, SA_DATA_BYTES, read_fields, write_fields};
 
 /// How many bytes an MCMemberRecord fills in a table: its 52, and zero bytes up to a multiple of 8.
@@ -89,24 +90,24 @@ macro_rules! mc_member_record_layout {
 macro_rules! mc_member_record_components {
     ($then:ident!($($context:tt)*)) => {
         $then!($($context)*;
-            b"mgid", 1 << 0, mgid: u128, 128, equal;
-            b"portgid", 1 << 1, port_gid: u128, 128, equal;
-            b"qkey", 1 << 2, q_key: u32, 32, equal;
-            b"mlid", 1 << 3, mlid: u16, 16, equal;
-            b"mtusel", 1 << 4, mtu_selector: u8, 2, alone;
-            b"mtu", 1 << 5, mtu: u8, 6, (code mtu_selector 0b11 << 4);
-            b"tclass", 1 << 6, t_class: u8, 8, equal;
-            b"pkey", 1 << 7, p_key: u16, 16, base;
-            b"ratesel", 1 << 8, rate_selector: u8, 2, alone;
-            b"rate", 1 << 9, rate: u8, 6, (rate rate_selector 0b11 << 8);
-            b"lifesel", 1 << 10, packet_life_time_selector: u8, 2, alone;
-            b"life", 1 << 11, packet_life_time: u8, 6, (code packet_life_time_selector 0b11 << 10);
-            b"sl", 1 << 12, sl: u8, 4, equal;
-            b"flow", 1 << 13, flow_label: u32, 20, equal;
-            b"hop", 1 << 14, hop_limit: u8, 8, equal;
-            b"scope", 1 << 15, scope: u8, 4, equal;
-            b"join", 1 << 16, join_state: u8, 4, equal;
-            b"proxy", 1 << 17, proxy_join: bool, 1, equal;
+            b"mgid", mask::MGID, mgid: u128, 128, equal;
+            b"portgid", mask::PORT_GID, port_gid: u128, 128, equal;
+            b"qkey", mask::Q_KEY, q_key: u32, 32, equal;
+            b"mlid", mask::MLID, mlid: u16, 16, equal;
+            b"mtusel", mask::MTU_SELECTOR, mtu_selector: u8, 2, alone;
+            b"mtu", mask::MTU, mtu: u8, 6, (code mtu_selector mask::SELECTED_MTU);
+            b"tclass", mask::T_CLASS, t_class: u8, 8, equal;
+            b"pkey", mask::P_KEY, p_key: u16, 16, base;
+            b"ratesel", mask::RATE_SELECTOR, rate_selector: u8, 2, alone;
+            b"rate", mask::RATE, rate: u8, 6, (rate rate_selector mask::SELECTED_RATE);
+            b"lifesel", mask::PACKET_LIFE_TIME_SELECTOR, packet_life_time_selector: u8, 2, alone;
+            b"life", mask::PACKET_LIFE_TIME, packet_life_time: u8, 6, (code packet_life_time_selector mask::SELECTED_LIFE_TIME);
+            b"sl", mask::SL, sl: u8, 4, equal;
+            b"flow", mask::FLOW_LABEL, flow_label: u32, 20, equal;
+            b"hop", mask::HOP_LIMIT, hop_limit: u8, 8, equal;
+            b"scope", mask::SCOPE, scope: u8, 4, equal;
+            b"join", mask::JOIN_STATE, join_state: u8, 4, equal;
+            b"proxy", mask::PROXY_JOIN, proxy_join: bool, 1, equal;
         )
     };
 }
@@ -133,7 +134,7 @@ impl McMemberRecord {
     /// Writes the record; every bit outside its fields is 0.
     pub fn write(&self, bytes: &mut [u8; MC_MEMBER_RECORD_BYTES])
         requires { Fits (mc_member_record self.now) }
-        ensures spells { Spells bytes.new (mc_member_record self.now) }
+        ensures encodes { Encodes bytes.new (mc_member_record self.now) }
         ensures bytes { bytes.new ≡ mc_member_record_bytes self.now }
     {
         self.put_over_zeros(bytes);

@@ -1,12 +1,13 @@
 //! NodeRecord.
 
 ghost use Rattle.std.specs.Prelude.{◌≡◌, replicate};
-ghost use Rattle.mad_layout.specs.Layout.{Holds, Fits, put_all, Spells};
+ghost use Rattle.mad_layout.specs.Layout.{Holds, Fits, put_all, Encodes};
 ghost use Rattle.sa_records.specs.Asked.{asked_by, bits_of, with_value};
 ghost use Rattle.sa_records.specs.NodeRecord.{node_in, node_record, node_record_asked, node_record_bytes, node_record_selected};
 
 use crate::asked::{component_agrees, is_word, selected, set_asked, set_field};
 use crate::component::agrees;
+use crate::node_mask as mask;
 use mad_layout::{SA_DATA_BYTES, read_fields, write_fields};
 
 /// How many bytes a NodeRecord fills in a table: its 108, and zero bytes up to a multiple of 8.
@@ -77,10 +78,10 @@ macro_rules! node_record_layout {
 macro_rules! node_record_components {
     ($then:ident!($($context:tt)*)) => {
         $then!($($context)*;
-            b"lid", 1 << 0, lid: u16, 16, equal;
-            b"base", 1 << 2, base_version: u8, 8, equal;
-            b"class", 1 << 3, class_version: u8, 8, equal;
-            b"kind", 1 << 4, node_type: u8, 8, equal;
+            b"lid", mask::LID, lid: u16, 16, equal;
+            b"base", mask::BASE_VERSION, base_version: u8, 8, equal;
+            b"class", mask::CLASS_VERSION, class_version: u8, 8, equal;
+            b"kind", mask::NODE_TYPE, node_type: u8, 8, equal;
         )
     };
 }
@@ -107,7 +108,7 @@ impl NodeRecord {
     /// Writes the record; every bit outside its fields is 0.
     pub fn write(&self, bytes: &mut [u8; NODE_RECORD_BYTES])
         requires { Fits (node_record self.now) }
-        ensures spells { Spells bytes.new (node_record self.now) }
+        ensures encodes { Encodes bytes.new (node_record self.now) }
         ensures bytes { bytes.new ≡ node_record_bytes self.now }
     {
         self.put_over_zeros(bytes);

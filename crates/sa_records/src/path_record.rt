@@ -1,12 +1,13 @@
 //! PathRecord.
 
 ghost use Rattle.std.specs.Prelude.{◌≡◌, replicate};
-ghost use Rattle.mad_layout.specs.Layout.{Holds, Fits, put_all, Spells};
+ghost use Rattle.mad_layout.specs.Layout.{Holds, Fits, put_all, Encodes};
 ghost use Rattle.sa_records.specs.Asked.{asked_by, bits_of, with_value};
 ghost use Rattle.sa_records.specs.PathRecord.{path_in, path_record, path_record_asked, path_record_bytes, path_record_selected};
 
 use crate::asked::{component_agrees, flag, is_word, selected, set_asked, set_field};
 use crate::component::{agrees, code_satisfies, rate_satisfies, same_base};
+use crate::path_mask as mask;
 use mad_layout::{SA_DATA_BYTES, read_fields, write_fields};
 
 /// How many bytes a PathRecord fills in a table.
@@ -98,26 +99,26 @@ macro_rules! path_record_layout {
 macro_rules! path_record_components {
     ($then:ident!($($context:tt)*)) => {
         $then!($($context)*;
-            b"sid", 0b11 << 0, service_id: u64, 64, alone;
-            b"dgid", 1 << 2, dgid: u128, 128, equal;
-            b"sgid", 1 << 3, sgid: u128, 128, equal;
-            b"dlid", 1 << 4, dlid: u16, 16, equal;
-            b"slid", 1 << 5, slid: u16, 16, equal;
-            b"raw", 1 << 6, raw_traffic: bool, 1, equal;
-            b"flow", 1 << 8, flow_label: u32, 20, equal;
-            b"hop", 1 << 9, hop_limit: u8, 8, equal;
-            b"tclass", 1 << 10, t_class: u8, 8, equal;
-            b"rev", 1 << 11, reversible: bool, 1, alone;
-            b"numb", 1 << 12, numb_path: u8, 7, alone;
-            b"pkey", 1 << 13, p_key: u16, 16, base;
-            b"qos", 1 << 14, qos_class: u16, 12, equal;
-            b"sl", 1 << 15, sl: u8, 4, equal;
-            b"mtusel", 1 << 16, mtu_selector: u8, 2, alone;
-            b"mtu", 1 << 17, mtu: u8, 6, (code mtu_selector 0b11 << 16);
-            b"ratesel", 1 << 18, rate_selector: u8, 2, alone;
-            b"rate", 1 << 19, rate: u8, 6, (rate rate_selector 0b11 << 18);
-            b"lifesel", 1 << 20, packet_life_time_selector: u8, 2, alone;
-            b"life", 1 << 21, packet_life_time: u8, 6, (code packet_life_time_selector 0b11 << 20);
+            b"sid", mask::SERVICE_ID, service_id: u64, 64, alone;
+            b"dgid", mask::DGID, dgid: u128, 128, equal;
+            b"sgid", mask::SGID, sgid: u128, 128, equal;
+            b"dlid", mask::DLID, dlid: u16, 16, equal;
+            b"slid", mask::SLID, slid: u16, 16, equal;
+            b"raw", mask::RAW_TRAFFIC, raw_traffic: bool, 1, equal;
+            b"flow", mask::FLOW_LABEL, flow_label: u32, 20, equal;
+            b"hop", mask::HOP_LIMIT, hop_limit: u8, 8, equal;
+            b"tclass", mask::T_CLASS, t_class: u8, 8, equal;
+            b"rev", mask::REVERSIBLE, reversible: bool, 1, alone;
+            b"numb", mask::NUMB_PATH, numb_path: u8, 7, alone;
+            b"pkey", mask::P_KEY, p_key: u16, 16, base;
+            b"qos", mask::QOS_CLASS, qos_class: u16, 12, equal;
+            b"sl", mask::SL, sl: u8, 4, equal;
+            b"mtusel", mask::MTU_SELECTOR, mtu_selector: u8, 2, alone;
+            b"mtu", mask::MTU, mtu: u8, 6, (code mtu_selector mask::SELECTED_MTU);
+            b"ratesel", mask::RATE_SELECTOR, rate_selector: u8, 2, alone;
+            b"rate", mask::RATE, rate: u8, 6, (rate rate_selector mask::SELECTED_RATE);
+            b"lifesel", mask::PACKET_LIFE_TIME_SELECTOR, packet_life_time_selector: u8, 2, alone;
+            b"life", mask::PACKET_LIFE_TIME, packet_life_time: u8, 6, (code packet_life_time_selector mask::SELECTED_LIFE_TIME);
         )
     };
 }
@@ -144,7 +145,7 @@ impl PathRecord {
     /// Writes the record; every bit outside its fields is 0.
     pub fn write(&self, bytes: &mut [u8; PATH_RECORD_BYTES])
         requires { Fits (path_record self.now) }
-        ensures spells { Spells bytes.new (path_record self.now) }
+        ensures encodes { Encodes bytes.new (path_record self.now) }
         ensures bytes { bytes.new ≡ path_record_bytes self.now }
     {
         self.put_over_zeros(bytes);

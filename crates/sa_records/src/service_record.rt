@@ -2,13 +2,14 @@
 
 ghost use Rattle.std.specs.Prelude.{◌≡◌, ◌≤◌, ◌+◌, filter, map, replicate};
 ghost use Rattle.mad_layout.specs.Bits.{field};
-ghost use Rattle.mad_layout.specs.Layout.{Holds, Fits, at, put_all, Spells};
+ghost use Rattle.mad_layout.specs.Layout.{Holds, Fits, at, put_all, Encodes};
 ghost use Rattle.std.specs.Option.{option_or};
 ghost use Rattle.sa_records.specs.Asked.{asked_by, bits_of, with_number, with_value};
 ghost use Rattle.sa_records.specs.ServiceRecord.{is_named, numbers_asked, with_number_named, service_in, service_record, service_fields, service_record_asked, service_data_asked, service_record_bytes, service_record_selected, names_selected, data8_front_selected, data8_back_selected, data16_selected, data32_selected, data64_selected};
 
 use crate::asked::{component_agrees, is_word, selected, set_asked, set_field, set_number};
 use crate::component::{agrees, same_base, same_part};
+use crate::service_mask as mask;
 use mad_layout::{SA_DATA_BYTES, get_bits, put_bits, read_fields, write_fields};
 
 /// How many bytes a ServiceRecord fills in a table.
@@ -58,17 +59,14 @@ macro_rules! service_record_layout {
 macro_rules! service_record_components {
     ($then:ident!($($context:tt)*)) => {
         $then!($($context)*;
-            b"sid", 1 << 0, service_id: u64, 64, equal;
-            b"gid", 1 << 1, service_gid: u128, 128, equal;
-            b"pkey", 1 << 2, service_p_key: u16, 16, base;
-            b"lease", 1 << 4, service_lease: u32, 32, equal;
-            b"key", 1 << 5, service_key: u128, 128, equal;
+            b"sid", mask::SERVICE_ID, service_id: u64, 64, equal;
+            b"gid", mask::SERVICE_GID, service_gid: u128, 128, equal;
+            b"pkey", mask::SERVICE_P_KEY, service_p_key: u16, 16, base;
+            b"lease", mask::SERVICE_LEASE, service_lease: u32, 32, equal;
+            b"key", mask::SERVICE_KEY, service_key: u128, 128, equal;
         )
     };
 }
-
-/// The bit of ServiceName.
-const NAME_BIT: u64 = 1 << 6;
 
 /// The numbers in ServiceData: word in scripts, bits of the ComponentMask, first bit, bits.
 macro_rules! service_data_components {
@@ -137,7 +135,7 @@ impl ServiceRecord {
 
     /// Writes the record; every bit outside its fields is 0.
     pub fn write(&self, bytes: &mut [u8; SERVICE_RECORD_BYTES])
-        ensures spells { Spells bytes.new (service_record self.now) }
+        ensures encodes { Encodes bytes.new (service_record self.now) }
         ensures bytes { bytes.new ≡ service_record_bytes self.now }
     {
         self.put_over_zeros(bytes);
@@ -162,7 +160,11 @@ impl ServiceRecord {
         ensures { result ≡ names_selected mask self.now asked.now }
     {
         service_record_components!(selected!(self asked mask))
-            && agrees(mask, NAME_BIT, self.service_name == asked.service_name)
+            && agrees(
+                mask,
+                mask::SERVICE_NAME,
+                self.service_name == asked.service_name,
+            )
     }
 
     /// Asks by the field or the number in ServiceData of this name: sets its value, and gives the bits of the
@@ -187,7 +189,7 @@ impl ServiceRecord {
         ensures set { self.new ≡ record self.old { service_name = name.now } }
     {
         self.service_name = *name;
-        NAME_BIT
+        mask::SERVICE_NAME
     }
 
     /// The numbers in ServiceData that the mask names; all others are 0.

@@ -4,7 +4,7 @@ use Rattle.std.proofs.Common.{◌≡◌, ◌∙◌, ap, refl, sym, inl, inr, if�
 use Rattle.std.specs.List.{list_all, list_any, flat_map}
 use Rattle.std.proofs.lemmas.Bool.{cases_Bool, both_ways, false_from_ne_true, and_parts, or_left, eqb-true, eq-eqb}
 use Rattle.std.proofs.lemmas.List.{map-append}
-use Rattle.result_words.proofs.ListLemmas.{none_passes}
+use Rattle.step_results.proofs.ListLemmas.{none_passes}
 use Rattle.mad_layout.specs.Bits.{field}
 use Rattle.mad_layout.specs.Method.{method_code}
 use Rattle.mad_layout.specs.declared.method.Method.TheVariants.{Get, Set, GetTable, Delete}
@@ -27,7 +27,7 @@ use Rattle.sa_groups.specs.Leaving.{Leave, is_left}
 use Rattle.sa_groups.specs.Sound.{is_sound_membership, is_sound_group, is_sound_partition, is_sound}
 use Rattle.sa_groups.specs.Sight.{group_seen, partition_seen, seen, Alike}
 use Rattle.sa_groups.proofs.SoundLemmas.{sound_parts, partition_parts}
-use Rattle.result_words.proofs.FilterLemmas.{any_within, any_map_same}
+use Rattle.step_results.proofs.FilterLemmas.{any_within, any_map_same}
 use Rattle.sa_groups.proofs.SightLemmas.{near_leave}
 use Rattle.sa_groups.proofs.JoinSightLemmas.{free_seen, near_join}
 use Rattle.sa_services.specs.Services.{PortServices}
@@ -222,7 +222,7 @@ same_if A false a b c d first second = second
 unless_same : (A : SaState → SaState → Type 0) (r q : Option MadStatus) (a b : Result Success MadStatus) → r ≡ q → Same A a b
     → Same A (unless_status r a) (unless_status q b)
 unless_same A None None a b e same = same
-unless_same A (Some x) (Some y) a b e same = let told : x ≡ y = cc in told
+unless_same A (Some x) (Some y) a b e same = let reported : x ≡ y = cc in reported
 unless_same A None (Some y) a b e same = absurd (cc)
 unless_same A (Some x) None a b e same = absurd (cc)
 
@@ -234,7 +234,7 @@ unless_then A (Some x) a b same = refl
 none_refused : (question : Question) (questions : List Question) → first_refusal (question ∷ questions) ≡ None
     → (question.is_so ≡ false) × (first_refusal questions ≡ None)
 none_refused question questions e = elim (cases_Bool question.is_so) [
-  | inl so ↦ let told : Some question.status ≡ None = rw so at e in absurd (cc)
+  | inl so ↦ let reported : Some question.status ≡ None = rw so at e in absurd (cc)
   | inr not_so ↦ (not_so, rw not_so at e)
 ]
 
@@ -255,13 +255,13 @@ unless_not false e = absurd (cc)
 
 one_same : (A : SaState → SaState → Type 0) (s t : SaState) (r q : Result Entry MadStatus) → r ≡ q → A s t → Same A (one_record s r) (one_record t q)
 one_same A s t (Ok x) (Ok y) e same = let entry : x ≡ y = cc in (ap (λ z. record_bytes z.shown) entry, same)
-one_same A s t (Err x) (Err y) e same = let told : x ≡ y = cc in told
+one_same A s t (Err x) (Err y) e same = let reported : x ≡ y = cc in reported
 one_same A s t (Ok x) (Err y) e same = absurd (cc)
 one_same A s t (Err x) (Ok y) e same = absurd (cc)
 
 all_same : (A : SaState → SaState → Type 0) (query : Query) (r q : Result (List Entry) MadStatus) → r ≡ q → Same A (all_records query r) (all_records query q)
 all_same A query (Ok xs) (Ok ys) e = let entries : xs ≡ ys = cc in (refl, ap (flat_map (λ entry. record_bytes entry.shown)) entries)
-all_same A query (Err x) (Err y) e = let told : x ≡ y = cc in told
+all_same A query (Err x) (Err y) e = let reported : x ≡ y = cc in reported
 all_same A query (Ok xs) (Err y) e = absurd (cc)
 all_same A query (Err x) (Ok ys) e = absurd (cc)
 
@@ -384,26 +384,26 @@ module _ (keeps : PlaceRule) (rule : KeepsShown keeps) where
       (same_if (SeesSame (kept_by keeps) ports own.guid) (request.header.method == method_code Delete) _ _ _ _ (delete_or_refused_same ports own s t request a) refl)))
 
   -- ---- and so is it answered
-  abbrev Told : List SubnetPort → ℕ → Answered → Answered → Type 0
-  Told ports p a b = (a.0 ≡ b.0) × SeesAlike (kept_by keeps) ports p a.1 b.1
+  abbrev Reported : List SubnetPort → ℕ → Answered → Answered → Type 0
+  Reported ports p a b = (a.0 ≡ b.0) × SeesAlike (kept_by keeps) ports p a.1 b.1
 
-  told_if : (ports : List SubnetPort) (p : ℕ) (test : Bool) (a b c d : Answered) → Told ports p a c → Told ports p b d
-      → Told ports p (if test then a else b) (if test then c else d)
-  told_if ports p true a b c d first second = first
-  told_if ports p false a b c d first second = second
+  reported_if : (ports : List SubnetPort) (p : ℕ) (test : Bool) (a b c d : Answered) → Reported ports p a c → Reported ports p b d
+      → Reported ports p (if test then a else b) (if test then c else d)
+  reported_if ports p true a b c d first second = first
+  reported_if ports p false a b c d first second = second
 
-  told_same : (ports : List SubnetPort) (own : SubnetPort) (request : Request) (s t : Administration) (r q : Result Success MadStatus) → SeesAlike (kept_by keeps) ports own.guid s t
-      → Same (SeesSame (kept_by keeps) ports own.guid) r q → Told ports own.guid (answered_with own request s r) (answered_with own request t q)
-  told_same ports own request s t (Err x) (Err y) same e = (ap (λ status. refusal_reply request status ∷ []) e, same)
-  told_same ports own request s t (Err x) (Ok (Success.one_reply c m)) same e = absurd e
-  told_same ports own request s t (Err x) (Ok (Success.whole_table o c)) same e = absurd e
-  told_same ports own request s t (Ok (Success.one_reply b n)) (Err y) same e = absurd e
-  told_same ports own request s t (Ok (Success.one_reply b n)) (Ok (Success.one_reply c m)) same e =
+  reported_same : (ports : List SubnetPort) (own : SubnetPort) (request : Request) (s t : Administration) (r q : Result Success MadStatus) → SeesAlike (kept_by keeps) ports own.guid s t
+      → Same (SeesSame (kept_by keeps) ports own.guid) r q → Reported ports own.guid (answered_with own request s r) (answered_with own request t q)
+  reported_same ports own request s t (Err x) (Err y) same e = (ap (λ status. refusal_reply request status ∷ []) e, same)
+  reported_same ports own request s t (Err x) (Ok (Success.one_reply c m)) same e = absurd e
+  reported_same ports own request s t (Err x) (Ok (Success.whole_table o c)) same e = absurd e
+  reported_same ports own request s t (Ok (Success.one_reply b n)) (Err y) same e = absurd e
+  reported_same ports own request s t (Ok (Success.one_reply b n)) (Ok (Success.one_reply c m)) same e =
       (ap (λ bytes. reply request bytes ∷ []) e.0, record { remembered = e.1; own_table = same.own_table })
-  told_same ports own request s t (Ok (Success.one_reply b n)) (Ok (Success.whole_table o c)) same e = absurd e
-  told_same ports own request s t (Ok (Success.whole_table o b)) (Err y) same e = absurd e
-  told_same ports own request s t (Ok (Success.whole_table o b)) (Ok (Success.one_reply c m)) same e = absurd e
-  told_same ports own request s t (Ok (Success.whole_table o b)) (Ok (Success.whole_table q c)) same e =
+  reported_same ports own request s t (Ok (Success.one_reply b n)) (Ok (Success.whole_table o c)) same e = absurd e
+  reported_same ports own request s t (Ok (Success.whole_table o b)) (Err y) same e = absurd e
+  reported_same ports own request s t (Ok (Success.whole_table o b)) (Ok (Success.one_reply c m)) same e = absurd e
+  reported_same ports own request s t (Ok (Success.whole_table o b)) (Ok (Success.whole_table q c)) same e =
       let opened_same : opened (table_header request o) b ≡ opened (table_header request q) c =
       ap (λ offset. opened (table_header request offset) b) e.0 ∙ ap (λ bytes. opened (table_header request q) bytes) e.1 in (
         ap (λ table. segment_mad table 1 ∷ []) opened_same,
@@ -415,7 +415,7 @@ module _ (keeps : PlaceRule) (rule : KeepsShown keeps) where
       )
 
   rmpp_same : (ports : List SubnetPort) (own : SubnetPort) (request : Request) (s t : Administration) → SeesAlike (kept_by keeps) ports own.guid s t
-      → Told ports own.guid (after_rmpp own s (on_rmpp request (table_of own.guid s.transfers))) (after_rmpp own t (on_rmpp request (table_of own.guid t.transfers)))
+      → Reported ports own.guid (after_rmpp own s (on_rmpp request (table_of own.guid s.transfers))) (after_rmpp own t (on_rmpp request (table_of own.guid t.transfers)))
   rmpp_same ports own request s t same =
       let answers : on_rmpp request (table_of own.guid s.transfers) ≡ on_rmpp request (table_of own.guid t.transfers) =
       ap (λ place. on_rmpp request (table_at place)) same.own_table in (
@@ -428,18 +428,18 @@ module _ (keeps : PlaceRule) (rule : KeepsShown keeps) where
       )
 
   answer_to_same : (ports : List SubnetPort) (own : SubnetPort) (request : Request) (s t : Administration) → SeesAlike (kept_by keeps) ports own.guid s t
-      → Alikes (kept_by keeps) ports own s.remembered t.remembered → Told ports own.guid (answer_to ports own request s) (answer_to ports own request t)
+      → Alikes (kept_by keeps) ports own s.remembered t.remembered → Reported ports own.guid (answer_to ports own request s) (answer_to ports own request t)
   answer_to_same ports own request s t same a =
-      told_if ports own.guid (not (has_versions request.header)) _ _ _ _ (refl, same)
-      (told_if ports own.guid (bit_and request.rmpp.flags 1 == 1) _ _ _ _ (rmpp_same ports own request s t same)
-      (told_if ports own.guid (is_response request.header) _ _ _ _ (refl, same)
-      (told_same ports own request s t (outcome ports own s.remembered request) (outcome ports own t.remembered request) same
+      reported_if ports own.guid (not (has_versions request.header)) _ _ _ _ (refl, same)
+      (reported_if ports own.guid (bit_and request.rmpp.flags 1 == 1) _ _ _ _ (rmpp_same ports own request s t same)
+      (reported_if ports own.guid (is_response request.header) _ _ _ _ (refl, same)
+      (reported_same ports own request s t (outcome ports own s.remembered request) (outcome ports own t.remembered request) same
       (outcome_same ports own s.remembered t.remembered request a))))
 
   answer_same : (ports : List SubnetPort) (own : SubnetPort) (payload : List ℕ) (s t : Administration) → SeesAlike (kept_by keeps) ports own.guid s t
-      → Alikes (kept_by keeps) ports own s.remembered t.remembered → Told ports own.guid (answer ports own payload s) (answer ports own payload t)
+      → Alikes (kept_by keeps) ports own s.remembered t.remembered → Reported ports own.guid (answer ports own payload s) (answer ports own payload t)
   answer_same ports own payload s t same a =
-      told_if ports own.guid ((length payload == 256) && (field payload 8 8 == 3)) _ _ _ _ (answer_to_same ports own (request_in payload) s t same a) (refl, same)
+      reported_if ports own.guid ((length payload == 256) && (field payload 8 8 == 3)) _ _ _ _ (answer_to_same ports own (request_in payload) s t same a) (refl, same)
 
   pub answered_alike : RequestersAreAnsweredAlikeBy (kept_by keeps)
   answered_alike ports own payload s t found left_sound right_sound same =

@@ -174,12 +174,12 @@ outcome_leaves P J C ports own state request asks kept =
 abbrev After : (Administration → Type 0) → Administration → SaState → Type 0
 After Q state next = Q (record state { remembered = next })
 
-told_leaves : (Q : Administration → Type 0) (own : SubnetPort) (request : Request) (state : Administration) (result : Result Success MadStatus) → Q state
+reported_leaves : (Q : Administration → Type 0) (own : SubnetPort) (request : Request) (state : Administration) (result : Result Success MadStatus) → Q state
     → ((table : Option Transfer) → Q (record state { transfers = with_table own.guid table state.transfers }))
     → Leaves (After Q state) result → Q (answered_with own request state result).1
-told_leaves Q own request state (Err status) same tables leaves = same
-told_leaves Q own request state (Ok (Success.one_reply bytes next)) same tables leaves = leaves
-told_leaves Q own request state (Ok (Success.whole_table offset bytes)) same tables leaves = tables _
+reported_leaves Q own request state (Err status) same tables leaves = same
+reported_leaves Q own request state (Ok (Success.one_reply bytes next)) same tables leaves = leaves
+reported_leaves Q own request state (Ok (Success.whole_table offset bytes)) same tables leaves = tables _
 
 pub second_if : {A B : Type 0} (Q : B → Type 0) (test : Bool) (a b : A × B) → Q a.1 → Q b.1 → Q (if test then a else b).1
 second_if Q true a b first second = first
@@ -192,7 +192,7 @@ answer_to_leaves Q J C ports own request state tables same asks kept =
     second_if Q (not (has_versions request.header)) (version_refused request, state) _ same
     (second_if Q (bit_and request.rmpp.flags 1 == 1) _ _ (tables (on_rmpp request (table_of own.guid state.transfers)).1)
     (second_if Q (is_response request.header) ([], state) _ same
-    (told_leaves Q own request state (outcome ports own state.remembered request) same tables
+    (reported_leaves Q own request state (outcome ports own state.remembered request) same tables
     (outcome_leaves (After Q state) J C ports own state.remembered request asks kept))))
 
 pub answer_leaves_by : (Q : Administration → Type 0) (J : Join → Type 0) (C : ServiceChange → Type 0) (ports : List SubnetPort) (own : SubnetPort) (payload : List ℕ) (state : Administration)

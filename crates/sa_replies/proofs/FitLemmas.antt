@@ -1,7 +1,7 @@
 -- What is selected fits its fields, where all that is visible does.
 use Rattle.std.proofs.Common.{ℕ, zero, suc, Bool, List, [], ◌∷◌, ◌++◌, Option, Some, None, map, take, filter}
 use Rattle.std.specs.List.{AllByRecursion, flat_map}
-use Rattle.result_words.proofs.ElementLemmas.{each_joined}
+use Rattle.step_results.proofs.ElementLemmas.{each_joined}
 use Rattle.sa_records.specs.McMemberRecord.{mc_member_record_selected}
 use Rattle.sa_records.specs.NodeRecord.{node_record_selected}
 use Rattle.sa_records.specs.PathRecord.{path_record_selected}

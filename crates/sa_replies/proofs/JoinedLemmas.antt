@@ -4,7 +4,7 @@ use Rattle.std.specs.List.{list_all, list_any}
 use Rattle.std.proofs.lemmas.Bool.{cases_Bool, both_ways, and_from, and_parts, or_cases, or_parts, or_left, or_right, eq-eqb}
 use Rattle.std.proofs.lemmas.Bool.Decides.{nat_tests}
 use Rattle.std.proofs.lemmas.List.Folds.{list_all-append, list_any-append}
-use Rattle.result_words.proofs.ListLemmas.{found_passes}
+use Rattle.step_results.proofs.ListLemmas.{found_passes}
 use Rattle.pkey_rules.specs.PKey.{base_of}
 use Rattle.sa_groups.proofs.JoinSoundLemmas.{all_with_group, joined_mgid}
 use Rattle.sa_groups.proofs.InPlaceLemmas.{higher_ones, lower_ones, none_lower}

@@ -31,7 +31,7 @@ use Rattle.sa_replies.specs.Success.{Success}
 use Rattle.sa_replies.specs.Transfers.{on_rmpp, table_of}
 use Rattle.sa_replies.proofs.FitLemmas.{selected_fit}
 use Rattle.sa_replies.proofs.ReplySourceLemmas.{state_in}
-use Rattle.result_words.proofs.ElementLemmas.{each_always}
+use Rattle.step_results.proofs.ElementLemmas.{each_always}
 
 module _ (ports : List SubnetPort) (own : SubnetPort) (state : SaState) (notes : Notes) where
   abbrev StaysOrNamed : (ℕ → List Entry) → ℕ → Type 0
@@ -64,13 +64,13 @@ module _ (ports : List SubnetPort) (own : SubnetPort) (state : SaState) (notes :
 
   -- ---- the reply to a Get
   nothing_named : AreOfNamed ports own state []
-  nothing_named = record { entries = []; named = record { each = tt; fit = λ visible. tt }; spelt = refl }
+  nothing_named = record { entries = []; named = record { each = tt; fit = λ visible. tt }; encoded = refl }
 
   by_only : (entries : List Entry) → AreNamed ports own state entries → (refused : Option MadStatus)
       → AreOfNamed ports own state (noted_if_got (unless_status refused (the_only_one entries)))
   by_only entries named (Some status) = nothing_named
   by_only [] named None = nothing_named
-  by_only (entry ∷ []) named None = record { entries = entry ∷ []; named = named; spelt = sym (append-nil (noted_record entry)) }
+  by_only (entry ∷ []) named None = record { entries = entry ∷ []; named = named; encoded = sym (append-nil (noted_record entry)) }
   by_only (entry ∷ other ∷ more) named None = nothing_named
 
   of_get : (query : Option Query) → AreOfNamed ports own state (noted_get ports own state query)

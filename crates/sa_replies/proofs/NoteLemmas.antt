@@ -1,4 +1,4 @@
--- What is noted beside an answer: it spells open tables, and comes from ports near.
+-- What is noted beside an answer: it encodes open tables, and comes from ports near.
 use Rattle.std.proofs.Common.{ℕ, zero, suc, ◌-◌, ◌*◌, ◌==◌, ◌&&◌, not, Bool, true, false, if◌then◌else◌, bit_and, length, List, [], ◌∷◌, map, take, drop, Option, Some, None, Result, Ok, Err}
 use Rattle.std.proofs.Common.{◌≡◌, ◌∙◌, ap, refl, sym, subst, inl, inr}
 use Rattle.std.specs.List.{list_all, flat_map}
@@ -42,7 +42,7 @@ use Rattle.sa_records.specs.SaRecord.{record_bytes}
 use Rattle.sa_replies.specs.Answer.{set_or_refused, delete_or_refused, outcome, answered_with, version_refused, after_rmpp, answer}
 use Rattle.sa_replies.specs.Notes.{NotedByte, NotedMad, Notes, from_source, noted_record, noted_records, in_segment, with_notes, is_request, noted_if_ok, noted_table, noted_request, notes_after}
 use Rattle.sa_replies.specs.Notes.{noted_if_got, noted_get, noted_member, noted_join, noted_set, noted_success, noted_reply, noted_bytes}
-use Rattle.sa_replies.specs.Sources.{IsJoined, NotesStandBeside, Spell, SpellTables, NotesSpellTables, bytes_from_near, NotesFromNear, AnswersTellFromNear}
+use Rattle.sa_replies.specs.Sources.{IsJoined, NotesStandBeside, Encode, EncodeTables, NotesEncodeTables, bytes_from_near, NotesFromNear, AnswersReportFromNear}
 use Rattle.sa_replies.proofs.RefusalLemmas.{Ends, IsGot, IsOneReply, IsReply, cases_if, delete_is_one, ended, ends_if, ends_more, get_ends, reply_is_one, set_or_refused_ends}
 use Rattle.sa_replies.proofs.ReplySourceLemmas.{join_replies_come_from_near}
 
@@ -58,87 +58,87 @@ notes_stand_beside ports own payload state notes = record {
 }
 
 -- ---- an answer and what is noted then, by what the payload is
-pub by_payload : {X Y : Type 0} (Q : X → Y → Type 0) (ours versions active response : Bool) (none refused moved ignored told : X) (same later : Y)
-    → Q none same → Q refused same → (active ≡ true → Q moved same) → Q ignored same → (response ≡ false → Q told later)
-    → Q (if ours then if not versions then refused else if active then moved else if response then ignored else told else none)
+pub by_payload : {X Y : Type 0} (Q : X → Y → Type 0) (ours versions active response : Bool) (none refused moved ignored reported : X) (same later : Y)
+    → Q none same → Q refused same → (active ≡ true → Q moved same) → Q ignored same → (response ≡ false → Q reported later)
+    → Q (if ours then if not versions then refused else if active then moved else if response then ignored else reported else none)
     (if ours && (versions && (not active && not response)) then later else same)
-by_payload Q true true true response none refused moved ignored told same later n d m i t = m refl
-by_payload Q true true false true none refused moved ignored told same later n d m i t = i
-by_payload Q true true false false none refused moved ignored told same later n d m i t = t refl
-by_payload Q true false active response none refused moved ignored told same later n d m i t = d
-by_payload Q false versions active response none refused moved ignored told same later n d m i t = n
+by_payload Q true true true response none refused moved ignored reported same later n d m i t = m refl
+by_payload Q true true false true none refused moved ignored reported same later n d m i t = i
+by_payload Q true true false false none refused moved ignored reported same later n d m i t = t refl
+by_payload Q true false active response none refused moved ignored reported same later n d m i t = d
+by_payload Q false versions active response none refused moved ignored reported same later n d m i t = n
 
--- ---- tables are spelt: one that takes the place of another, with the same notes and with its own
-with_table_spelt : (p : ℕ) (open_table : Option Transfer) (notes : Notes) (places : List PortTransfer) → Spell (notes p) open_table
-    → SpellTables notes places → SpellTables notes (with_table p open_table places)
-with_table_spelt p open_table notes [] own all = tt
-with_table_spelt p open_table notes (x ∷ xs) own all = elim (cases_Bool (x.port == p)) [
-  | inl this ↦ rw this (own, with_table_spelt p open_table notes xs own all.1)
-  | inr other ↦ rw other (all.0, with_table_spelt p open_table notes xs own all.1)
+-- ---- tables are encoded: one that takes the place of another, with the same notes and with its own
+with_table_encoded : (p : ℕ) (open_table : Option Transfer) (notes : Notes) (places : List PortTransfer) → Encode (notes p) open_table
+    → EncodeTables notes places → EncodeTables notes (with_table p open_table places)
+with_table_encoded p open_table notes [] own all = tt
+with_table_encoded p open_table notes (x ∷ xs) own all = elim (cases_Bool (x.port == p)) [
+  | inl this ↦ rw this (own, with_table_encoded p open_table notes xs own all.1)
+  | inr other ↦ rw other (all.0, with_table_encoded p open_table notes xs own all.1)
 ]
 
-opened_spelt : (p : ℕ) (open_table : Option Transfer) (entries : List Entry) (notes : Notes) (places : List PortTransfer) → Spell entries open_table
-    → SpellTables notes places → SpellTables (with_notes p entries notes) (with_table p open_table places)
-opened_spelt p open_table entries notes [] own all = tt
-opened_spelt p open_table entries notes (x ∷ xs) own all = elim (cases_Bool (x.port == p)) [
-  | inl this ↦ rw (this, eq-eqb p p refl) (own, opened_spelt p open_table entries notes xs own all.1)
-  | inr other ↦ rw (other, other) (all.0, opened_spelt p open_table entries notes xs own all.1)
+opened_encoded : (p : ℕ) (open_table : Option Transfer) (entries : List Entry) (notes : Notes) (places : List PortTransfer) → Encode entries open_table
+    → EncodeTables notes places → EncodeTables (with_notes p entries notes) (with_table p open_table places)
+opened_encoded p open_table entries notes [] own all = tt
+opened_encoded p open_table entries notes (x ∷ xs) own all = elim (cases_Bool (x.port == p)) [
+  | inl this ↦ rw (this, eq-eqb p p refl) (own, opened_encoded p open_table entries notes xs own all.1)
+  | inr other ↦ rw (other, other) (all.0, opened_encoded p open_table entries notes xs own all.1)
 ]
 
-pub table_of_spelt : (p : ℕ) (notes : Notes) (places : List PortTransfer) → SpellTables notes places → Spell (notes p) (table_of p places)
-table_of_spelt p notes [] all = tt
-table_of_spelt p notes (x ∷ xs) all = elim (cases_Bool (x.port == p)) [
-  | inl this ↦ rw this (subst (λ q. Spell (notes q) x.open_table) (eqb-true x.port p this) all.0)
-  | inr other ↦ rw other (table_of_spelt p notes xs all.1)
+pub table_of_encoded : (p : ℕ) (notes : Notes) (places : List PortTransfer) → EncodeTables notes places → Encode (notes p) (table_of p places)
+table_of_encoded p notes [] all = tt
+table_of_encoded p notes (x ∷ xs) all = elim (cases_Bool (x.port == p)) [
+  | inl this ↦ rw this (subst (λ q. Encode (notes q) x.open_table) (eqb-true x.port p this) all.0)
+  | inr other ↦ rw other (table_of_encoded p notes xs all.1)
 ]
 
 -- ---- a MAD of a transfer leaves the records of its table, or ends it
-spelt_if : {A : Type 0} (entries : List Entry) (test : Bool) (a b : A × Option Transfer) → Spell entries a.1 → Spell entries b.1
-    → Spell entries (if test then a else b).1
-spelt_if entries true a b first second = first
-spelt_if entries false a b first second = second
+encoded_if : {A : Type 0} (entries : List Entry) (test : Bool) (a b : A × Option Transfer) → Encode entries a.1 → Encode entries b.1
+    → Encode entries (if test then a else b).1
+encoded_if entries true a b first second = first
+encoded_if entries false a b first second = second
 
-spelt_unless : (entries : List Entry) (test : Bool) (transfer : Transfer) → Spell entries (Some transfer) → Spell entries (if test then None else Some transfer)
-spelt_unless entries true transfer spelt = tt
-spelt_unless entries false transfer spelt = spelt
+encoded_unless : (entries : List Entry) (test : Bool) (transfer : Transfer) → Encode entries (Some transfer) → Encode entries (if test then None else Some transfer)
+encoded_unless entries true transfer encoded = tt
+encoded_unless entries false transfer encoded = encoded
 
-acknowledged_spelt : (entries : List Entry) (transfer : Transfer) (window : ℕ) (result : Result Acknowledged AbortCause) → Spell entries (Some transfer)
-    → Spell entries (acknowledged transfer window result).1
-acknowledged_spelt entries transfer window (Err cause) spelt = tt
-acknowledged_spelt entries transfer window (Ok acked) spelt = spelt_unless entries acked.is_complete _ spelt
+acknowledged_encoded : (entries : List Entry) (transfer : Transfer) (window : ℕ) (result : Result Acknowledged AbortCause) → Encode entries (Some transfer)
+    → Encode entries (acknowledged transfer window result).1
+acknowledged_encoded entries transfer window (Err cause) encoded = tt
+acknowledged_encoded entries transfer window (Ok acked) encoded = encoded_unless entries acked.is_complete _ encoded
 
-by_kind_spelt : (entries : List Entry) (transfer : Transfer) (rmpp : RmppHeader) → Spell entries (Some transfer) → Spell entries (by_kind transfer rmpp).1
-by_kind_spelt entries transfer rmpp spelt =
-    spelt_if entries (rmpp.kind == rmpp_kind_code Ack) (on_ack transfer rmpp) _
-    (acknowledged_spelt entries transfer rmpp.payload_length_or_new_window_last
-    (after_ack transfer.window (segment_count transfer.bytes) rmpp.segment_number rmpp.payload_length_or_new_window_last) spelt)
-    (spelt_if entries (rmpp.kind == rmpp_kind_code Stop) ([], None) _ tt
-    (spelt_if entries (rmpp.kind == rmpp_kind_code Abort) ([], None) ([], Some transfer) tt spelt))
+by_kind_encoded : (entries : List Entry) (transfer : Transfer) (rmpp : RmppHeader) → Encode entries (Some transfer) → Encode entries (by_kind transfer rmpp).1
+by_kind_encoded entries transfer rmpp encoded =
+    encoded_if entries (rmpp.kind == rmpp_kind_code Ack) (on_ack transfer rmpp) _
+    (acknowledged_encoded entries transfer rmpp.payload_length_or_new_window_last
+    (after_ack transfer.window (segment_count transfer.bytes) rmpp.segment_number rmpp.payload_length_or_new_window_last) encoded)
+    (encoded_if entries (rmpp.kind == rmpp_kind_code Stop) ([], None) _ tt
+    (encoded_if entries (rmpp.kind == rmpp_kind_code Abort) ([], None) ([], Some transfer) tt encoded))
 
-on_rmpp_spelt : (entries : List Entry) (request : Request) (open_table : Option Transfer) → Spell entries open_table → Spell entries (on_rmpp request open_table).1
-on_rmpp_spelt entries request None spelt = tt
-on_rmpp_spelt entries request (Some transfer) spelt =
-    spelt_if entries (is_of_table transfer request) (by_kind transfer request.rmpp) ([], Some transfer) (by_kind_spelt entries transfer request.rmpp spelt) spelt
+on_rmpp_encoded : (entries : List Entry) (request : Request) (open_table : Option Transfer) → Encode entries open_table → Encode entries (on_rmpp request open_table).1
+on_rmpp_encoded entries request None encoded = tt
+on_rmpp_encoded entries request (Some transfer) encoded =
+    encoded_if entries (is_of_table transfer request) (by_kind transfer request.rmpp) ([], Some transfer) (by_kind_encoded entries transfer request.rmpp encoded) encoded
 
 -- ---- a request: only a GetTable opens a table, with the records that are noted then
 module _ (own : SubnetPort) (request : Request) (transfers : List PortTransfer) where
   abbrev pub Leaves : Notes → Result Success MadStatus → Type 0
-  Leaves notes (Err status) = SpellTables notes transfers
-  Leaves notes (Ok (Success.one_reply bytes next)) = SpellTables notes transfers
-  Leaves notes (Ok (Success.whole_table offset bytes)) = SpellTables notes (with_table own.guid (Some (opened (table_header request offset) bytes)) transfers)
+  Leaves notes (Err status) = EncodeTables notes transfers
+  Leaves notes (Ok (Success.one_reply bytes next)) = EncodeTables notes transfers
+  Leaves notes (Ok (Success.whole_table offset bytes)) = EncodeTables notes (with_table own.guid (Some (opened (table_header request offset) bytes)) transfers)
 
-  one_leaves : (notes : Notes) (result : Result Success MadStatus) → SpellTables notes transfers → Ends IsOneReply result → Leaves notes result
+  one_leaves : (notes : Notes) (result : Result Success MadStatus) → EncodeTables notes transfers → Ends IsOneReply result → Leaves notes result
   one_leaves notes (Err status) all one = all
   one_leaves notes (Ok (Success.one_reply bytes next)) all one = all
   one_leaves notes (Ok (Success.whole_table offset bytes)) all one = absurd one
 
-  all_leave : (query : Query) (notes : Notes) (result : Result (List Entry) MadStatus) → SpellTables notes transfers
+  all_leave : (query : Query) (notes : Notes) (result : Result (List Entry) MadStatus) → EncodeTables notes transfers
       → Leaves (noted_if_ok own.guid result notes) (all_records query result)
   all_leave query notes (Ok entries) all =
-      opened_spelt own.guid (Some (opened (table_header request (offset_of query)) (flat_map (λ entry. record_bytes entry.shown) entries))) entries notes transfers refl all
+      opened_encoded own.guid (Some (opened (table_header request (offset_of query)) (flat_map (λ entry. record_bytes entry.shown) entries))) entries notes transfers refl all
   all_leave query notes (Err status) all = all
 
-  table_leaves : (ports : List SubnetPort) (state : SaState) (query : Option Query) (notes : Notes) → SpellTables notes transfers
+  table_leaves : (ports : List SubnetPort) (state : SaState) (query : Option Query) (notes : Notes) → EncodeTables notes transfers
       → Leaves (noted_table ports own state query notes) (table_outcome ports own state query)
   table_leaves ports state (Some query) notes all = all_leave query notes (table ports own state query) all
   table_leaves ports state None notes all = all
@@ -147,7 +147,7 @@ module _ (own : SubnetPort) (request : Request) (transfers : List PortTransfer) 
   got_is_one state (Success.one_reply bytes next) is = tt
   got_is_one state (Success.whole_table offset bytes) is = absurd is
 
-  pub outcome_leaves : (ports : List SubnetPort) (state : SaState) (notes : Notes) → SpellTables notes transfers
+  pub outcome_leaves : (ports : List SubnetPort) (state : SaState) (notes : Notes) → EncodeTables notes transfers
       → Leaves (noted_request ports own state request notes) (outcome ports own state request)
   outcome_leaves ports state notes all =
       let method = request.header.method in
@@ -176,22 +176,22 @@ module _ (own : SubnetPort) (request : Request) (transfers : List PortTransfer) 
           (ends_if IsOneReply (request.header.method == method_code Delete) (delete_or_refused ports own state request) (Err MethodNotSupported)
           (delete_is_one ports own state request) tt)
 
-told_spells : (own : SubnetPort) (request : Request) (state : Administration) (notes : Notes) (result : Result Success MadStatus)
-    → Leaves own request state.transfers notes result → SpellTables notes (answered_with own request state result).1.transfers
-told_spells own request state notes (Err status) leaves = leaves
-told_spells own request state notes (Ok (Success.one_reply bytes next)) leaves = leaves
-told_spells own request state notes (Ok (Success.whole_table offset bytes)) leaves = leaves
+reported_encodes : (own : SubnetPort) (request : Request) (state : Administration) (notes : Notes) (result : Result Success MadStatus)
+    → Leaves own request state.transfers notes result → EncodeTables notes (answered_with own request state result).1.transfers
+reported_encodes own request state notes (Err status) leaves = leaves
+reported_encodes own request state notes (Ok (Success.one_reply bytes next)) leaves = leaves
+reported_encodes own request state notes (Ok (Success.whole_table offset bytes)) leaves = leaves
 
-pub notes_spell_tables : NotesSpellTables
-notes_spell_tables ports own payload state notes all =
-    by_payload (λ (answered : Answered) (later : Notes). SpellTables later answered.1.transfers) ((length payload == 256) && (field payload 8 8 == 3))
+pub notes_encode_tables : NotesEncodeTables
+notes_encode_tables ports own payload state notes all =
+    by_payload (λ (answered : Answered) (later : Notes). EncodeTables later answered.1.transfers) ((length payload == 256) && (field payload 8 8 == 3))
     (has_versions request.header) (bit_and request.rmpp.flags 1 == 1) (is_response request.header) ([], state) (version_refused request, state)
     (after_rmpp own state (on_rmpp request (table_of own.guid state.transfers))) ([], state) (answered_with own request state (outcome ports own state.remembered request))
     notes (noted_request ports own state.remembered request notes) all all
-    (λ active. with_table_spelt own.guid (on_rmpp request (table_of own.guid state.transfers)).1 notes state.transfers
-    (on_rmpp_spelt (notes own.guid) request (table_of own.guid state.transfers) (table_of_spelt own.guid notes state.transfers all)) all)
+    (λ active. with_table_encoded own.guid (on_rmpp request (table_of own.guid state.transfers)).1 notes state.transfers
+    (on_rmpp_encoded (notes own.guid) request (table_of own.guid state.transfers) (table_of_encoded own.guid notes state.transfers all)) all)
     all
-    (λ asks. told_spells own request state (noted_request ports own state.remembered request notes) (outcome ports own state.remembered request)
+    (λ asks. reported_encodes own request state (noted_request ports own state.remembered request notes) (outcome ports own state.remembered request)
     (outcome_leaves own request state.transfers ports state.remembered notes all))
   where
     request : Request
@@ -295,8 +295,8 @@ all_so : {X : Type 0} (test : X → Bool) → ((x : X) → test x ≡ true) → 
 all_so test so [] = refl
 all_so test so (x ∷ xs) = and_from (test x) (list_all test xs) (so x) (all_so test so xs)
 
-pub answers_tell_from_near : AnswersTellFromNear
-answers_tell_from_near ports own payload state notes found sound all = record {
+pub answers_report_from_near : AnswersReportFromNear
+answers_report_from_near ports own payload state notes found sound all = record {
   mads = list_all-map (λ (one : NotedMad). bytes_from_near ports own.guid one.bytes)
       (λ mad. record { mad = mad; bytes = noted_bytes ports own payload state notes mad }) (answer ports own payload state).0
       ∙ all_so (λ mad. bytes_from_near ports own.guid (noted_bytes ports own payload state notes mad)) of_mad (answer ports own payload state).0;

@@ -13,7 +13,7 @@ use Rattle.rmpp_core.specs.Laws.{IsTransfer}
 use Rattle.rmpp_core.specs.Reply.{reply_bytes, reply_fields}
 use Rattle.rmpp_core.specs.Segments.{opened, segment_mad, segment_rmpp, segment_sa}
 use Rattle.rmpp_core.proofs.ReadBackLemmas.{reply_long, segment_held}
-use Rattle.rmpp_core.proofs.ReplyLemmas.{reply_fits, reply_spelled}
+use Rattle.rmpp_core.proofs.ReplyLemmas.{reply_fits, reply_encoded}
 use Rattle.subnet_model.specs.declared.subnet_port.SubnetPort.{SubnetPort}
 use Rattle.sa_replies.specs.Answer.{Administration, Answered, after_rmpp, answered_with, outcome, version_refused}
 use Rattle.sa_replies.specs.OneReply.{IsAnsweredOnce, IsResponseTo, OthersAreIgnored, RequestsAreAnsweredOnce}
@@ -61,7 +61,7 @@ reply_says payload status bytes copied low are empty =
     (omega arith, (omega arith, (omega arith, (omega arith, (omega arith, (omega arith, (omega arith, tt)))))))
     (omega arith, (omega arith, (copied.mask, (padded_number bytes are, tt)))) in
     says payload (reply_bytes header no_rmpp fields) status no_rmpp fields (reply_long header no_rmpp fields)
-    (reply_spelled header no_rmpp fields fits).fields refl refl (λ e. refl)
+    (reply_encoded header no_rmpp fields fits).fields refl refl (λ e. refl)
     (λ e. (reply_reads request status bytes copied low are).content
     ∙ ap (λ (some : List ℕ). some ++ replicate (200 - length some) 0) (empty e))
 
@@ -75,15 +75,15 @@ first_says payload offset bytes is =
     (reply_long (reply_header request 0) (segment_rmpp bytes 1) (segment_sa transfer 1))
     (segment_held transfer 1 is (omega arith) (omega arith)) refl refl (λ e. absurd (cc)) (λ e. absurd (cc))
 
--- ---- a request that is told, or whose version is refused
-told_once : (own : SubnetPort) (payload : List ℕ) (state : Administration) (result : Result Success MadStatus) → IsCopied (request_in payload)
+-- ---- a request that is reported, or whose version is refused
+reported_once : (own : SubnetPort) (payload : List ℕ) (state : Administration) (result : Result Success MadStatus) → IsCopied (request_in payload)
     → Ends AreBytes result → Ends TableLow result → IsAnsweredOnce payload (answered_with own (request_in payload) state result).0
-told_once own payload state (Err status) copied are low =
+reported_once own payload state (Err status) copied are low =
     reply_says payload (mad_status_code status) [] copied (code_low status) no_data (λ e. refl)
-told_once own payload state (Ok (Success.one_reply bytes next)) copied are low =
+reported_once own payload state (Ok (Success.one_reply bytes next)) copied are low =
     let zero_is : (0 == 0) ≡ true = refl in
     reply_says payload 0 bytes copied (omega arith) are (λ e. absurd (cc))
-told_once own payload state (Ok (Success.whole_table offset bytes)) copied are low =
+reported_once own payload state (Ok (Success.whole_table offset bytes)) copied are low =
     first_says payload offset bytes
     (record { header = copied.header 0 (omega arith); attribute_offset = low.0; component_mask = copied.mask; bytes = low.1; size = low.2 })
 
@@ -109,7 +109,7 @@ requests_are_answered_once configuration own payload state configured found is b
     (has_versions request.header) (bit_and request.rmpp.flags 1 == 1) (is_response request.header) ([], state) (version_refused request, state)
     (after_rmpp own state (on_rmpp request (table_of own.guid state.transfers))) ([], state)
     (answered_with own request state (outcome ports own state.remembered request)) asks (λ no_response. version_once payload no_response)
-    (λ no_response. told_once own payload state (outcome ports own state.remembered request) (is_copied payload no_response)
+    (λ no_response. reported_once own payload state (outcome ports own state.remembered request) (is_copied payload no_response)
     (outcome_ends ports own state.remembered request (content_is_data payload below))
     (outcome_low configuration own state.remembered request configured found is.remembered))
 

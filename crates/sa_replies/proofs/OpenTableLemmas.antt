@@ -4,7 +4,7 @@ use Rattle.std.proofs.Common.{List, [], ◌∷◌, length, map, filter, Option, 
 use Rattle.std.specs.Int.Digits.{AllBelowBase}
 use Rattle.std.specs.List.{AllByRecursion, flat_map, list_all}
 use Rattle.std.proofs.lemmas.Bool.{and_from, and_parts, cases_Bool, eqb-true, le-leb, leb-true, ltb-true}
-use Rattle.result_words.proofs.ListLemmas.{list_all_weaker}
+use Rattle.step_results.proofs.ListLemmas.{list_all_weaker}
 use Rattle.pkey_rules.specs.KeyTable.{accepts}
 use Rattle.pkey_rules.specs.PKey.{base_of}
 use Rattle.sa_queries.proofs.SourceLemmas.{all_filtered}
@@ -279,7 +279,7 @@ selected_most most configuration own state (Query.for_services mask asked) confi
     let ports = configured.few in
     services_most configuration.ports own state.services mask asked is.services (omega arith)
 
--- ---- so its length can be told
+-- ---- so its length can be reported
 bytes_few : (entries : List Entry) → length (flat_map (λ entry. record_bytes entry.shown) entries) ≤ 200 * length entries
 bytes_few entries =
     flat_few (λ entry. record_bytes entry.shown) 200 entries
@@ -404,11 +404,11 @@ outcome_low configuration own state request configured found is =
     ports : List SubnetPort
     ports = configuration.ports
 
-told_can : (own : SubnetPort) (request : Request) (state : Administration) (result : Result Success MadStatus) → IsCopied request → Ends TableLow result
+reported_can : (own : SubnetPort) (request : Request) (state : Administration) (result : Result Success MadStatus) → IsCopied request → Ends TableLow result
     → AllCanBeSent state.transfers → AllCanBeSent (answered_with own request state result).1.transfers
-told_can own request state (Err status) copied low all = all
-told_can own request state (Ok (Success.one_reply bytes next)) copied low all = all
-told_can own request state (Ok (Success.whole_table offset bytes)) copied low all =
+reported_can own request state (Err status) copied low all = all
+reported_can own request state (Ok (Success.one_reply bytes next)) copied low all = all
+reported_can own request state (Ok (Success.whole_table offset bytes)) copied low all =
     placed_can own.guid (Some (opened (table_header request offset) bytes)) state.transfers
     (record { header = copied.header 0 (omega arith); attribute_offset = low.0; component_mask = copied.mask; bytes = low.1; size = low.2 }) all
 
@@ -433,7 +433,7 @@ answers_can configuration own payload state configured found is all =
       | inl response ↦ rw response all
       | inr asks ↦
           rw asks
-          (told_can own request state (outcome configuration.ports own state.remembered request) (is_copied payload asks)
+          (reported_can own request state (outcome configuration.ports own state.remembered request) (is_copied payload asks)
           (outcome_low configuration own state.remembered request configured found is) all)
     ]
 

@@ -24,7 +24,7 @@ use Rattle.sa_groups.specs.Leaving.{Leave, is_left, less_joined, without_member,
 use Rattle.sa_groups.specs.Sound.{is_sound_membership, is_sound_group, is_sound_partition, is_sound}
 use Rattle.sa_groups.specs.Sight.{partition_seen, seen, Alike}
 use Rattle.sa_groups.proofs.SoundLemmas.{sound_parts, partition_parts}
-use Rattle.result_words.proofs.FilterLemmas.{filter_map_idle}
+use Rattle.step_results.proofs.FilterLemmas.{filter_map_idle}
 use Rattle.sa_groups.proofs.SightLemmas.{seen_absorbs, near_leave}
 use Rattle.sa_groups.proofs.JoinSightLemmas.{near_join, far_join}
 use Rattle.sa_services.specs.Services.{Service}
@@ -340,11 +340,11 @@ module _ (keeps : PlaceRule) (rule : KeepsShown keeps) where
       (delete_or_refused ports own t request) (Err MethodNotSupported) (delete_or_refused_end ports p own s t request o) o.same)))
 
   -- ---- and another port's table is as it was
-  told_end : (ports : List SubnetPort) (p : ℕ) (own : SubnetPort) (request : Request) (s t : Administration) (r q : Result Success MadStatus) → (own.guid == p) ≡ false
+  reported_end : (ports : List SubnetPort) (p : ℕ) (own : SubnetPort) (request : Request) (s t : Administration) (r q : Result Success MadStatus) → (own.guid == p) ≡ false
       → SeesAlike (kept_by keeps) ports p s t → End ports p s.remembered t.remembered r q → SeesAlike (kept_by keeps) ports p (answered_with own request s r).1 (answered_with own request t q).1
-  told_end ports p own request s t r q other same ends = record {
+  reported_end ports p own request s t r q other same ends = record {
     remembered = same_by ports p (left_by s.remembered r) (left_by t.remembered q) _ _ (left_of s r) (left_of t q) ends;
-    own_table = place_of_told s r ∙ (same.own_table ∙ sym (place_of_told t q));
+    own_table = place_of_reported s r ∙ (same.own_table ∙ sym (place_of_reported t q));
   }
     where
       left_of : (state : Administration) (result : Result Success MadStatus) → (answered_with own request state result).1.remembered ≡ left_by state.remembered result
@@ -352,10 +352,10 @@ module _ (keeps : PlaceRule) (rule : KeepsShown keeps) where
       left_of state (Ok (Success.one_reply bytes next)) = refl
       left_of state (Ok (Success.whole_table offset bytes)) = refl
 
-      place_of_told : (state : Administration) (result : Result Success MadStatus) → table_place p (answered_with own request state result).1.transfers ≡ table_place p state.transfers
-      place_of_told state (Err status) = refl
-      place_of_told state (Ok (Success.one_reply bytes next)) = refl
-      place_of_told state (Ok (Success.whole_table offset bytes)) = other_table p own.guid _ state.transfers other
+      place_of_reported : (state : Administration) (result : Result Success MadStatus) → table_place p (answered_with own request state result).1.transfers ≡ table_place p state.transfers
+      place_of_reported state (Err status) = refl
+      place_of_reported state (Ok (Success.one_reply bytes next)) = refl
+      place_of_reported state (Ok (Success.whole_table offset bytes)) = other_table p own.guid _ state.transfers other
 
   rmpp_end : (ports : List SubnetPort) (p : ℕ) (own : SubnetPort) (request : Request) (s t : Administration) → (own.guid == p) ≡ false → SeesAlike (kept_by keeps) ports p s t
       → SeesAlike (kept_by keeps) ports p (after_rmpp own s (on_rmpp request (table_of own.guid s.transfers))).1 (after_rmpp own t (on_rmpp request (table_of own.guid t.transfers))).1
@@ -378,7 +378,7 @@ module _ (keeps : PlaceRule) (rule : KeepsShown keeps) where
       (after_rmpp own t (on_rmpp request (table_of own.guid t.transfers))) _ (rmpp_end ports p own request s t other same)
       (alike_if ports p (is_response request.header) ([], s) (answered_with own request s (outcome ports own s.remembered request)) ([], t)
       (answered_with own request t (outcome ports own t.remembered request)) same
-      (told_end ports p own request s t (outcome ports own s.remembered request) (outcome ports own t.remembered request) other same
+      (reported_end ports p own request s t (outcome ports own s.remembered request) (outcome ports own t.remembered request) other same
       (outcome_end ports p own s.remembered t.remembered request o))))
 
   pub answers_seen : AnswersAreSeenAlikeBy (kept_by keeps)

@@ -34,7 +34,7 @@ use Rattle.sa_replies.specs.Success.{Success}
 use Rattle.sa_replies.specs.Joins.{join_asked, leave_asked, join_questions, join_refusal, join_done, join_outcome, after_join, group_named, member_bytes, member_record, leave_questions, leave_outcome}
 use Rattle.sa_replies.specs.ServiceRequests.{owner_questions, service_asked, change_asked, services_at, shown_bytes, set_outcome, service_set, delete_outcome, service_deleted, after_change}
 use Rattle.sa_replies.specs.Answer.{Administration, Answered, query_of, offset_of, one_record, all_records, get_outcome, table_outcome, set_or_refused, delete_or_refused, outcome, answered_with, after_rmpp, version_refused, answer_to, answer}
-use Rattle.sa_replies.specs.Laws.{is_of_transfer, asks_by, are_refusals, CanBeTold, RefusedChangeNothing, RequestsLeaveTheRest}
+use Rattle.sa_replies.specs.Laws.{is_of_transfer, asks_by, are_refusals, CanBeReported, RefusedChangeNothing, RequestsLeaveTheRest}
 use Rattle.sa_replies.proofs.StatusLemmas.{AreData, no_data, content_is_data, record_is_data, records_below, IsCopied, is_copied, reply_status, first_status, refusal_status}
 
 -- ---- what a request ends in that is not refused
@@ -167,31 +167,31 @@ outcome_ends ports own state request are =
     (ends_more IsReply AreBytes reply_bytes_are (delete_or_refused ports own state request) (delete_or_refused_ends ports own state request are)) tt)))
 
 -- ---- a table that is opened takes a place, or there is none for it and all is as it was
-abbrev IsTold : List PortTransfer → ℕ → Transfer → Type 0
-IsTold transfers port transfer = (with_table port (Some transfer) transfers ≡ transfers) ⊎ (payload_size transfer.bytes < 2 ^ 32)
+abbrev IsReported : List PortTransfer → ℕ → Transfer → Type 0
+IsReported transfers port transfer = (with_table port (Some transfer) transfers ≡ transfers) ⊎ (payload_size transfer.bytes < 2 ^ 32)
 
-is_told : (port : ℕ) (transfer : Transfer) (transfers : List PortTransfer) → CanBeTold (table_of port (with_table port (Some transfer) transfers))
-    → IsTold transfers port transfer
-is_told port transfer [] can = inl refl
-is_told port transfer (x ∷ xs) can = elim (cases_Bool (x.port == port)) [
+is_reported : (port : ℕ) (transfer : Transfer) (transfers : List PortTransfer) → CanBeReported (table_of port (with_table port (Some transfer) transfers))
+    → IsReported transfers port transfer
+is_reported port transfer [] can = inl refl
+is_reported port transfer (x ∷ xs) can = elim (cases_Bool (x.port == port)) [
   | inl this ↦ inr (rw (this, eq-eqb port port refl) at can)
-  | inr other ↦ elim (is_told port transfer xs (rw (other, other) at can)) [
+  | inr other ↦ elim (is_reported port transfer xs (rw (other, other) at can)) [
     | inl same ↦ inl (rw other (ap (λ rest. x ∷ rest) same))
     | inr low ↦ inr low
   ]
 ]
 
 -- ---- a request that is no MAD of a transfer
-told_refused : (own : SubnetPort) (request : Request) (state : Administration) (result : Result Success MadStatus) → IsCopied request → Ends AreBytes result
-    → CanBeTold (table_of own.guid (answered_with own request state result).1.transfers) → are_refusals (answered_with own request state result).0 ≡ true
+reported_refused : (own : SubnetPort) (request : Request) (state : Administration) (result : Result Success MadStatus) → IsCopied request → Ends AreBytes result
+    → CanBeReported (table_of own.guid (answered_with own request state result).1.transfers) → are_refusals (answered_with own request state result).0 ≡ true
     → (answered_with own request state result).1 ≡ state
-told_refused own request state (Err status) copied are can refused = refl
-told_refused own request state (Ok (Success.one_reply bytes next)) copied are can refused =
+reported_refused own request state (Err status) copied are can refused = refl
+reported_refused own request state (Ok (Success.one_reply bytes next)) copied are can refused =
     let zero_status : are_refusals (reply request bytes ∷ []) ≡ false = rw (reply_status request bytes copied are) refl in
     absurd (both_ways (are_refusals (reply request bytes ∷ [])) zero_status refused)
-told_refused own request state (Ok (Success.whole_table offset bytes)) copied are can refused =
+reported_refused own request state (Ok (Success.whole_table offset bytes)) copied are can refused =
     let transfer = opened (table_header request offset) bytes in
-    elim (is_told own.guid transfer state.transfers can) [
+    elim (is_reported own.guid transfer state.transfers can) [
       | inl same ↦ ap (λ transfers. record state { transfers = transfers }) same
       | inr low ↦
           let zero_status : not (field (segment_mad transfer 1) 32 16 == 0) && true ≡ false = rw (first_status request offset bytes copied are.0 are.1 low) refl in
@@ -204,28 +204,28 @@ cases_if Q true a b first second = first refl
 cases_if Q false a b first second = second refl
 
 -- ---- what each leaves
-told_got : (own : SubnetPort) (request : Request) (state : Administration) (result : Result Success MadStatus) → Ends (IsGot state.remembered) result
+reported_got : (own : SubnetPort) (request : Request) (state : Administration) (result : Result Success MadStatus) → Ends (IsGot state.remembered) result
     → (answered_with own request state result).1 ≡ state
-told_got own request state (Err status) is = refl
-told_got own request state (Ok (Success.one_reply bytes next)) is = ap (λ remembered. record state { remembered = remembered }) is.1
-told_got own request state (Ok (Success.whole_table offset bytes)) is = absurd is
+reported_got own request state (Err status) is = refl
+reported_got own request state (Ok (Success.one_reply bytes next)) is = ap (λ remembered. record state { remembered = remembered }) is.1
+reported_got own request state (Ok (Success.whole_table offset bytes)) is = absurd is
 
-told_table : (own : SubnetPort) (request : Request) (state : Administration) (result : Result Success MadStatus) → Ends IsTable result
+reported_table : (own : SubnetPort) (request : Request) (state : Administration) (result : Result Success MadStatus) → Ends IsTable result
     → (answered_with own request state result).1.remembered ≡ state.remembered
-told_table own request state (Err status) is = refl
-told_table own request state (Ok (Success.one_reply bytes next)) is = absurd is
-told_table own request state (Ok (Success.whole_table offset bytes)) is = refl
+reported_table own request state (Err status) is = refl
+reported_table own request state (Ok (Success.one_reply bytes next)) is = absurd is
+reported_table own request state (Ok (Success.whole_table offset bytes)) is = refl
 
 -- a reply is one whatever its bytes are
 abbrev pub IsOneReply : Success → Type 0
 IsOneReply (Success.one_reply bytes next) = Unit {0}
 IsOneReply (Success.whole_table offset bytes) = ⊥
 
-told_reply : (own : SubnetPort) (request : Request) (state : Administration) (result : Result Success MadStatus) → Ends IsOneReply result
+reported_reply : (own : SubnetPort) (request : Request) (state : Administration) (result : Result Success MadStatus) → Ends IsOneReply result
     → (answered_with own request state result).1.transfers ≡ state.transfers
-told_reply own request state (Err status) is = refl
-told_reply own request state (Ok (Success.one_reply bytes next)) is = refl
-told_reply own request state (Ok (Success.whole_table offset bytes)) is = absurd is
+reported_reply own request state (Err status) is = refl
+reported_reply own request state (Ok (Success.one_reply bytes next)) is = refl
+reported_reply own request state (Ok (Success.whole_table offset bytes)) is = absurd is
 
 pub reply_is_one : (success : Success) → IsReply success → IsOneReply success
 reply_is_one (Success.one_reply bytes next) is = tt
@@ -244,13 +244,13 @@ delete_is_one ports own state request =
     (ends_unless IsOneReply (first_refusal (refused_if (not (list_any (has_id asked.service_id) (services_at change state.services))) NoRecords ∷ []))
     (Ok (Success.one_reply request.content (after_change state change))) tt)) tt)
 
--- a request that is no MAD of a transfer leaves what is left where it is told
+-- a request that is no MAD of a transfer leaves what is left where it is reported
 module _ (ports : List SubnetPort) (own : SubnetPort) (payload : List ℕ) (state : Administration) where
   abbrev is_ours : Bool
   is_ours = (length payload == 256) && (field payload 8 8 == 3)
 
-  abbrev told_here : Answered
-  told_here = answered_with own (request_in payload) state (outcome ports own state.remembered (request_in payload))
+  abbrev reported_here : Answered
+  reported_here = answered_with own (request_in payload) state (outcome ports own state.remembered (request_in payload))
 
   not_false : (b : Bool) → not b ≡ false → b ≡ true
   not_false true e = refl
@@ -271,19 +271,19 @@ module _ (ports : List SubnetPort) (own : SubnetPort) (payload : List ℕ) (stat
   ]
 
   pub by_request : (Q : Answered → Type 0) → is_of_transfer payload ≡ false → ((mads : List (List ℕ)) → are_refusals mads ≡ true → Q (mads, state))
-      → (is_response (request_in payload).header ≡ false → Q told_here) → Q (answer ports own payload state)
+      → (is_response (request_in payload).header ≡ false → Q reported_here) → Q (answer ports own payload state)
   by_request Q apart same here =
       let request = request_in payload in
       cases_if Q is_ours (answer_to ports own request state) ([], state)
       (λ ours. cases_if Q (not (has_versions request.header)) (version_refused request, state) _ (λ e. same (version_refused request) versions_refused)
       (λ versions. cases_if Q (bit_and request.rmpp.flags 1 == 1) (after_rmpp own state (on_rmpp request (table_of own.guid state.transfers))) _
       (λ active. absurd (both_ways (is_of_transfer payload) apart (of_transfer ours versions active)))
-      (λ inactive. cases_if Q (is_response request.header) ([], state) told_here (λ e. same [] refl) here)))
+      (λ inactive. cases_if Q (is_response request.header) ([], state) reported_here (λ e. same [] refl) here)))
       (λ e. same [] refl)
 
   pub by_method : (method : Method) (Q : Answered → Type 0) → asks_by method payload ≡ true
       → ((mads : List (List ℕ)) → are_refusals mads ≡ true → Q (mads, state))
-      → (is_response (request_in payload).header ≡ false → (request_in payload).header.method ≡ method_code method → Q told_here) → Q (answer ports own payload state)
+      → (is_response (request_in payload).header ≡ false → (request_in payload).header.method ≡ method_code method → Q reported_here) → Q (answer ports own payload state)
   by_method method Q asks same here =
       let parts = and_parts (not (is_of_transfer payload)) ((request_in payload).header.method == method_code method) asks in
       by_request Q (was_not (is_of_transfer payload) parts.0) same (λ request. here request (eqb-true (request_in payload).header.method (method_code method) parts.1))
@@ -301,9 +301,9 @@ module _ (ports : List SubnetPort) (own : SubnetPort) (payload : List ℕ) (stat
 pub refused_change_nothing : RefusedChangeNothing
 refused_change_nothing ports own payload state below apart =
     by_request ports own payload state
-    (λ answered. CanBeTold (table_of own.guid answered.1.transfers) → are_refusals answered.0 ≡ true → answered.1 ≡ state) apart
+    (λ answered. CanBeReported (table_of own.guid answered.1.transfers) → are_refusals answered.0 ≡ true → answered.1 ≡ state) apart
     (λ mads are can refused. refl)
-    (λ asks. told_refused own (request_in payload) state (outcome ports own state.remembered (request_in payload)) (is_copied payload asks)
+    (λ asks. reported_refused own (request_in payload) state (outcome ports own state.remembered (request_in payload)) (is_copied payload asks)
     (outcome_ends ports own state.remembered (request_in payload) (content_is_data payload below)))
 
 -- what a request ends in, by its method
@@ -326,13 +326,13 @@ requests_leave_the_rest ports own payload state =
     let result = outcome ports own s request in
     record {
       by_get = λ asks. by_method ports own payload state Get (λ answered. answered.1 ≡ state) asks (λ mads are. refl)
-          (λ request_is method. told_got own request state result (ends_by (IsGot s) (method_code Get) ports own s request method (get_ends ports own s (query_of request))));
+          (λ request_is method. reported_got own request state result (ends_by (IsGot s) (method_code Get) ports own s request method (get_ends ports own s (query_of request))));
       by_get_table = λ asks. by_method ports own payload state GetTable (λ answered. answered.1.remembered ≡ state.remembered) asks (λ mads are. refl)
-          (λ request_is method. told_table own request state result (ends_by IsTable (method_code GetTable) ports own s request method (table_ends ports own s (query_of request))));
+          (λ request_is method. reported_table own request state result (ends_by IsTable (method_code GetTable) ports own s request method (table_ends ports own s (query_of request))));
       by_set = λ asks. by_method ports own payload state Set (λ answered. answered.1.transfers ≡ state.transfers) asks (λ mads are. refl)
-          (λ request_is method. told_reply own request state result (ends_by IsOneReply (method_code Set) ports own s request method
+          (λ request_is method. reported_reply own request state result (ends_by IsOneReply (method_code Set) ports own s request method
           (ends_more IsReply IsOneReply reply_is_one (set_or_refused ports own s request) (set_or_refused_ends ports own s request))));
       by_delete = λ asks. by_method ports own payload state Delete (λ answered. answered.1.transfers ≡ state.transfers) asks (λ mads are. refl)
-          (λ request_is method. told_reply own request state result (ends_by IsOneReply (method_code Delete) ports own s request method (delete_is_one ports own s request)));
+          (λ request_is method. reported_reply own request state result (ends_by IsOneReply (method_code Delete) ports own s request method (delete_is_one ports own s request)));
       by_transfer = by_transfer ports own payload state;
     }

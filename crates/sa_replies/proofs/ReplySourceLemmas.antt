@@ -106,7 +106,7 @@ join_replies_come_from_near ports own state next mask asked bytes found sound is
     let after = after_join ports join state in
     let one = not_refused (first_refusal (join_questions own mask asked)) _ (Success.one_reply bytes next) is in
     let two = not_refused (join_refusal ports own mask asked state.partitions) _ (Success.one_reply bytes next) one.1 in
-    let told : member_bytes own join.base (group_named join.base join.mgid after.partitions) ≡ bytes = ap bytes_in two.1 in
+    let reported : member_bytes own join.base (group_named join.base join.mgid after.partitions) ≡ bytes = ap bytes_in two.1 in
     let then_is : after ≡ next = ap (state_in state) two.1 in
     let there = join_is_there ports own mask asked state.partitions found one.0 two.0 in
     let kept = joined_sound ports join state.partitions sound in
@@ -115,7 +115,7 @@ join_replies_come_from_near ports own state next mask asked bytes found sound is
       group = there.group;
       there = ap (λ (s : SaState). group_named join.base join.mgid s.partitions) (sym then_is) ∙ there.found;
       takes_part = there.takes_part;
-      spelt = sym told ∙ ap (member_bytes own join.base) there.found;
+      encoded = sym reported ∙ ap (member_bytes own join.base) there.found;
       source = found_near ports own (has_mgid join.mgid) (groups_in join.base after.partitions) there.group
           (named_near ports own join.base after.partitions (join_is_in own mask asked one.0) all) there.found;
     }
@@ -129,6 +129,6 @@ service_replies_come_from_near ports own state next mask asked bytes is =
     (Success.one_reply bytes next) one.1 in
     record {
       service = record { port = own.guid; base = base_of asked.service_p_key; service = service };
-      spelt = sym (ap bytes_in two.1);
+      encoded = sym (ap bytes_in two.1);
       source = or_left (own.guid == own.guid) (ports_share ports own.guid own.guid) (eq-eqb own.guid own.guid refl);
     }

@@ -42,14 +42,14 @@ unless_so P None result ends = ends refl
 unless_so P (Some status) result ends = tt
 
 -- what is answered by a status 0 is not refused
-told_leaves : (P : SaState → Type 0) (own : SubnetPort) (request : Request) (state : Administration) (result : Result Success MadStatus) → IsCopied request
+reported_leaves : (P : SaState → Type 0) (own : SubnetPort) (request : Request) (state : Administration) (result : Result Success MadStatus) → IsCopied request
     → Ends (ReplyLeaves P) result → are_refusals (answered_with own request state result).0 ≡ false → P (answered_with own request state result).1.remembered
-told_leaves P own request state (Err status) copied ends answered =
+reported_leaves P own request state (Err status) copied ends answered =
     let refused : are_refusals (refusal_reply request status ∷ []) ≡ true =
     and_from (not (field (refusal_reply request status) 32 16 == 0)) true (refusal_status request status copied) refl in
     absurd (both_ways (are_refusals (refusal_reply request status ∷ [])) answered refused)
-told_leaves P own request state (Ok (Success.one_reply bytes next)) copied ends answered = ends
-told_leaves P own request state (Ok (Success.whole_table offset bytes)) copied ends answered = absurd ends
+reported_leaves P own request state (Ok (Success.one_reply bytes next)) copied ends answered = ends
+reported_leaves P own request state (Ok (Success.whole_table offset bytes)) copied ends answered = absurd ends
 
 -- ---- a Set
 service_there : (own : SubnetPort) (state : SaState) (request : Request) (place : PortServices)
@@ -91,7 +91,7 @@ services_set_are_there ports own payload state place asks one =
     let attribute : request.header.attribute_id ≡ 49 = eqb-true request.header.attribute_id 49 parts.1 in
     by_method ports own payload state Set (λ answered. are_refusals answered.0 ≡ false → IsServiceSet own request s answered.1.remembered) parts.0
     (λ mads refused answered. absurd (both_ways (are_refusals mads) answered refused))
-    (λ request_is method. told_leaves (IsServiceSet own request s) own request state (outcome ports own s request) (is_copied payload request_is)
+    (λ request_is method. reported_leaves (IsServiceSet own request s) own request state (outcome ports own s request) (is_copied payload request_is)
     (ends_by (ReplyLeaves (IsServiceSet own request s)) (method_code Set) ports own s request method
     (subst (λ (n : ℕ). Ends (ReplyLeaves (IsServiceSet own request s)) (set_ended n ports own s request)) (sym attribute)
     (service_there own s request place one))))
@@ -116,6 +116,6 @@ services_deleted_are_gone ports own payload state asks =
     let attribute : request.header.attribute_id ≡ 49 = eqb-true request.header.attribute_id 49 parts.1 in
     by_method ports own payload state Delete (λ answered. are_refusals answered.0 ≡ false → IsServiceDeleted own request s answered.1.remembered) parts.0
     (λ mads refused answered. absurd (both_ways (are_refusals mads) answered refused))
-    (λ request_is method. told_leaves (IsServiceDeleted own request s) own request state (outcome ports own s request) (is_copied payload request_is)
+    (λ request_is method. reported_leaves (IsServiceDeleted own request s) own request state (outcome ports own s request) (is_copied payload request_is)
     (ends_by (ReplyLeaves (IsServiceDeleted own request s)) (method_code Delete) ports own s request method
     (subst (λ (n : ℕ). Ends (ReplyLeaves (IsServiceDeleted own request s)) (delete_ended n ports own s request)) (sym attribute) (none_there own s request))))

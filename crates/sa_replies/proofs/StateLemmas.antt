@@ -8,7 +8,7 @@ use Rattle.mad_layout.specs.Bits.{field}
 use Rattle.mad_layout.proofs.LayoutLemmas.{field_narrow, length-put_all}
 use Rattle.mad_layout.specs.Layout.{at}
 use Rattle.pkey_rules.specs.PKey.{base_of}
-use Rattle.result_words.proofs.ListLemmas.{all_joined}
+use Rattle.step_results.proofs.ListLemmas.{all_joined}
 use Rattle.partition_file.specs.declared.broadcast_group.BroadcastGroup.{BroadcastGroup}
 use Rattle.partition_file.specs.declared.heading.Heading.{Heading}
 use Rattle.partition_file.specs.Sound.{has_fit_group}

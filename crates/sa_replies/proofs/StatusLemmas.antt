@@ -10,7 +10,7 @@ use Rattle.mad_layout.specs.Layout.{Fits}
 use Rattle.mad_layout.specs.MadHeader.{mad_header}
 use Rattle.mad_layout.specs.Method.{method_code}
 use Rattle.mad_layout.specs.declared.method.Method.TheVariants.{Set}
-use Rattle.mad_layout.proofs.LayoutLemmas.{field_narrow, length-put_all, spelled_below, zeros_below, below_taken, below_dropped}
+use Rattle.mad_layout.proofs.LayoutLemmas.{field_narrow, length-put_all, encoded_below, zeros_below, below_taken, below_dropped}
 use Rattle.mad_layout.proofs.NumberLemmas.{below_append, number_below}
 use Rattle.mad_layout.specs.declared.status.MadStatus.{MadStatus}
 use Rattle.mad_layout.specs.declared.status.MadStatus.TheVariants.{BadVersion, MethodNotSupported, AttributeNotSupported, InvalidField, NoResources}
@@ -20,7 +20,7 @@ use Rattle.rmpp_core.specs.Laws.{IsTransfer}
 use Rattle.rmpp_core.specs.Segments.{opened, payload_size, segment_mad}
 use Rattle.rmpp_core.specs.Reply.{reply_bytes}
 use Rattle.rmpp_core.proofs.ReadBackLemmas.{segment_held}
-use Rattle.rmpp_core.proofs.ReplyLemmas.{reply_fits, reply_spelled}
+use Rattle.rmpp_core.proofs.ReplyLemmas.{reply_fits, reply_encoded}
 use Rattle.sa_records.specs.declared.sa_record.SaRecord.{SaRecord}
 use Rattle.sa_records.specs.declared.sa_record.SaRecord.TheVariants as sa_record
 use Rattle.sa_records.specs.NodeRecord.{node_record, node_record_bytes}
@@ -53,16 +53,16 @@ pub record_is_data : (one : SaRecord) → AreData (record_bytes one)
 unfolding node_record_bytes path_record_bytes mc_member_record_bytes service_record_bytes
 record_is_data (sa_record.Node one) =
     let size = length-put_all (replicate 112 0) (node_record one) ∙ length-replicate {A = ℕ} 112 0 in
-    record { below = spelled_below (node_record one) 112; short = omega (arith, size) }
+    record { below = encoded_below (node_record one) 112; short = omega (arith, size) }
 record_is_data (sa_record.Path one) =
     let size = length-put_all (replicate 64 0) (path_record one) ∙ length-replicate {A = ℕ} 64 0 in
-    record { below = spelled_below (path_record one) 64; short = omega (arith, size) }
+    record { below = encoded_below (path_record one) 64; short = omega (arith, size) }
 record_is_data (sa_record.Group one) =
     let size = length-put_all (replicate 56 0) (mc_member_record one) ∙ length-replicate {A = ℕ} 56 0 in
-    record { below = spelled_below (mc_member_record one) 56; short = omega (arith, size) }
+    record { below = encoded_below (mc_member_record one) 56; short = omega (arith, size) }
 record_is_data (sa_record.Service one) =
     let size = length-put_all (replicate 176 0) (service_record one) ∙ length-replicate {A = ℕ} 176 0 in
-    record { below = spelled_below (service_record one) 176; short = omega (arith, size) }
+    record { below = encoded_below (service_record one) 176; short = omega (arith, size) }
 
 pub records_below : (entries : List Entry) → AllBelowBase 256 (flat_map (λ entry. record_bytes entry.shown) entries)
 records_below [] = tt
@@ -107,7 +107,7 @@ status_reads request status bytes copied low are =
     let fits = reply_fits (reply_header request status) no_rmpp (with_content request bytes) (copied.header status low)
     (omega arith, (omega arith, (omega arith, (omega arith, (omega arith, (omega arith, (omega arith, tt)))))))
     (omega arith, (omega arith, (copied.mask, (padded_number bytes are, tt)))) in
-    sym (reply_spelled (reply_header request status) no_rmpp (with_content request bytes) fits).fields.1.1.1.1.0
+    sym (reply_encoded (reply_header request status) no_rmpp (with_content request bytes) fits).fields.1.1.1.1.0
 
 pub reply_status : (request : Request) (bytes : List ℕ) → IsCopied request → AreData bytes → field (reply request bytes) 32 16 ≡ 0
 reply_status request bytes copied are = status_reads request 0 bytes copied (omega arith) are

@@ -1,4 +1,4 @@
--- A table that one limited member opens, and that another could see, or that tells of the other; and notes that name no source.
+-- A table that one limited member opens, and that another could see, or that shows the other; and notes that name no source.
 use Rattle.std.proofs.Common.{Bool, true, false, ◌==◌, List, [], ◌∷◌, Option, Some, None, ◌≡◌, ap, refl, arith, inl, inr}
 use Rattle.std.specs.Int.Digits.{AllBelowBase}
 use Rattle.mad_layout.specs.Bits.{field, number, put_field}
@@ -19,21 +19,21 @@ use Rattle.sa_replies.specs.Transfers.{table_at}
 use Rattle.sa_replies.specs.Examples.{after, at_first, by, joining, making, nodes_wanted, path_wanted, service_asked_by, with_services}
 use Rattle.rmpp_core.proofs.ReadBackLemmas.{reply_below}
 use Rattle.sa_replies.specs.Notes.{no_notes}
-use Rattle.sa_replies.specs.WrongRules.{AllNodesTell, DeletesAreNotOfFile, JoinsAreOfTheMaker, NothingNotedIsLess, OneTableTells, SetsAreNotOfFile, TheFileIsNoSource}
+use Rattle.sa_replies.specs.WrongRules.{AllNodesReport, DeletesAreNotOfFile, JoinsAreOfTheMaker, NothingNotedIsLess, OneTableReports, SetsAreNotOfFile, TheFileIsNoSource}
 
 abbrev is_there : Option Transfer → Bool
 is_there None = false
 is_there (Some transfer) = true
 
-pub one_table_tells : OneTableTells
+pub one_table_reports : OneTableReports
 unfolding field put_field reply_bytes request_in node_in node_record_bytes node_record_selected
-one_table_tells law =
-    let told : true ≡ false = ap (λ place. is_there (table_at place)) (law ports 0x131 limited (nodes_wanted 5) at_first refl refl).own_table in
+one_table_reports law =
+    let reported : true ≡ false = ap (λ place. is_there (table_at place)) (law ports 0x131 limited (nodes_wanted 5) at_first refl refl).own_table in
     absurd (cc)
 
-pub all_nodes_tell : AllNodesTell
+pub all_nodes_report : AllNodesReport
 unfolding field put_field reply_bytes request_in node_in node_record_bytes node_record_selected
-all_nodes_tell law =
+all_nodes_report law =
     let near : false ≡ true = (law ports limited (nodes_wanted 5) at_first no_notes refl refl (λ p. refl)).notes 0x121 in
     absurd (cc)
 

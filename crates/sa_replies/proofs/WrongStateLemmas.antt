@@ -4,7 +4,7 @@ use Rattle.std.specs.Int.Digits.{AllBelowBase}
 use Rattle.std.proofs.lemmas.Bool.{false≢true}
 use Rattle.std.proofs.lemmas.List.Elements.{All-from_recursion}
 use Rattle.std.proofs.lemmas.Map.Keys.{IsDistinct-cons}
-use Rattle.result_words.proofs.ListLemmas.{IsDistinct-nil}
+use Rattle.step_results.proofs.ListLemmas.{IsDistinct-nil}
 use Rattle.mad_layout.specs.Bits.{field, number, put_field}
 use Rattle.rmpp_core.specs.Reply.{reply_bytes}
 use Rattle.pkey_rules.specs.KeyTable.{same_base}

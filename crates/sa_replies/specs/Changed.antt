@@ -7,7 +7,7 @@ use Rattle.sa_records.specs.declared.sa_attribute.SaAttribute.TheVariants as sa_
 use Rattle.subnet_model.specs.declared.subnet_port.SubnetPort.{SubnetPort}
 use Rattle.sa_groups.specs.Receivers.{changed_numbers}
 use Rattle.sa_replies.specs.Answer.{Administration, answer}
-use Rattle.sa_replies.specs.Laws.{CanBeTold, are_refusals, asks_by, is_of_transfer}
+use Rattle.sa_replies.specs.Laws.{CanBeReported, are_refusals, asks_by, is_of_transfer}
 use Rattle.sa_replies.specs.Request.{request_in, is_about}
 use Rattle.sa_replies.specs.Transfers.{table_of}
 
@@ -33,5 +33,5 @@ OthersChangeNoReceivers =
 abbrev pub RefusedChangeNoReceivers : Type 0
 RefusedChangeNoReceivers =
     (ports : List SubnetPort) (own : SubnetPort) (payload : List ℕ) (state : Administration) → AllBelowBase 256 payload
-    → is_of_transfer payload ≡ false → CanBeTold (table_of own.guid (answer ports own payload state).1.transfers)
+    → is_of_transfer payload ≡ false → CanBeReported (table_of own.guid (answer ports own payload state).1.transfers)
     → are_refusals (answer ports own payload state).0 ≡ true → changed_by ports own payload state ≡ []

@@ -49,16 +49,16 @@ asks_by method payload = not (is_of_transfer payload) && ((request_in payload).h
 abbrev pub are_refusals : List (List ℕ) → Bool
 are_refusals mads = list_all (λ mad. not (field mad 32 16 == 0)) mads
 
--- the length of the table can be told in the 32 bits that its first segment has for it
-abbrev pub CanBeTold : Option Transfer → Type 0
-CanBeTold None = Unit {0}
-CanBeTold (Some transfer) = payload_size transfer.bytes < 2 ^ 32
+-- the length of the table can be reported in the 32 bits that its first segment has for it
+abbrev pub CanBeReported : Option Transfer → Type 0
+CanBeReported None = Unit {0}
+CanBeReported (Some transfer) = payload_size transfer.bytes < 2 ^ 32
 
 -- whatever bytes come, but a MAD of a transfer: where they are refused, or not answered, all is as it was
 abbrev pub RefusedChangeNothing : Type 0
 RefusedChangeNothing =
     (ports : List SubnetPort) (own : SubnetPort) (payload : List ℕ) (state : Administration) → AllBelowBase 256 payload
-    → is_of_transfer payload ≡ false → CanBeTold (table_of own.guid (answer ports own payload state).1.transfers)
+    → is_of_transfer payload ≡ false → CanBeReported (table_of own.guid (answer ports own payload state).1.transfers)
     → are_refusals (answer ports own payload state).0 ≡ true → (answer ports own payload state).1 ≡ state
 
 -- ---- what each leaves as it was: a Get all, a GetTable groups and services, a Set and a Delete open tables, and a MAD of a

@@ -28,8 +28,8 @@ use Rattle.sa_replies.specs.Request.{request_in}
 use Rattle.sa_replies.specs.Sources.{NotedRule}
 
 -- the bytes of records, each with the source of its record
-abbrev pub spelled : List Entry → List NotedByte
-spelled entries = flat_map (λ entry. map (λ byte. record { byte = byte; source = entry.source }) (record_bytes entry.shown)) entries
+abbrev pub encoded : List Entry → List NotedByte
+encoded entries = flat_map (λ entry. map (λ byte. record { byte = byte; source = entry.source }) (record_bytes entry.shown)) entries
 
 -- each value of a record is narrow enough for its field
 abbrev pub IsFit : SaRecord → Type 0
@@ -56,11 +56,11 @@ pub record AreNamed (ports : List SubnetPort) (own : SubnetPort) (state : SaStat
 pub record AreOfNamed (ports : List SubnetPort) (own : SubnetPort) (state : SaState) (bytes : List NotedByte) : Type 0 where
   pub entries : List Entry
   pub named : AreNamed ports own state entries
-  pub spelt : bytes ≡ spelled entries
+  pub encoded : bytes ≡ encoded entries
 
 -- a segment has its part of the records that are noted for the port then
 abbrev pub IsSegmentOf : List Entry → NotedMad → Type 0
-IsSegmentOf entries one = is_data (rmpp_in one.mad) ≡ true → one.bytes ≡ in_segment (rmpp_in one.mad).segment_number (spelled entries)
+IsSegmentOf entries one = is_data (rmpp_in one.mad) ≡ true → one.bytes ≡ in_segment (rmpp_in one.mad).segment_number (encoded entries)
 
 abbrev pub IsReplyOf : List SubnetPort → SubnetPort → SaState → NotedMad → Type 0
 IsReplyOf ports own state one = is_data (rmpp_in one.mad) ≡ false → AreOfNamed ports own state one.bytes

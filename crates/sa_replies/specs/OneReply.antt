@@ -22,7 +22,7 @@ asks_something payload =
 abbrev pub response_method : ℕ → ℕ
 response_method method = if method == 2 then 0x81 else method + 0x80
 
--- a MAD of our versions and class that repeats what tells the request. ClassSpecific and SM_Key are 0; where its status is
+-- a MAD of our versions and class that repeats what identifies the request. ClassSpecific and SM_Key are 0; where its status is
 -- not 0 it has no data, and AttributeOffset is 0 too
 pub record IsResponseTo (payload mad : List ℕ) : Type 0 where
   pub size : length mad ≡ 256

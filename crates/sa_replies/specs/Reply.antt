@@ -7,7 +7,7 @@ use Rattle.mad_layout.specs.declared.sa_mad.SaMad.{SaMad}
 use Rattle.mad_layout.specs.declared.status.MadStatus.{MadStatus}
 use Rattle.mad_layout.specs.Method.{method_code}
 use Rattle.mad_layout.specs.MadStatus.{mad_status_code}
-use Rattle.rmpp_core.specs.declared.reply.ReplyHeader.{ReplyHeader}
+use Rattle.rmpp_core.specs.declared.mads.ReplyHeader.{ReplyHeader}
 use Rattle.rmpp_core.specs.Reply.{reply_bytes}
 use Rattle.sa_replies.specs.Request.{Request}
 

@@ -38,21 +38,21 @@ NotesStandBeside =
     (ports : List SubnetPort) (own : SubnetPort) (payload : List ℕ) (state : Administration) (notes : Notes)
     → StandsBeside (answer_noted ports own payload state notes) (answer ports own payload state)
 
--- ---- the records that are noted for a port spell the table that is open to it
-abbrev pub Spell : List Entry → Option Transfer → Type 0
-Spell entries None = Unit {0}
-Spell entries (Some transfer) = transfer.bytes ≡ flat_map (λ entry. record_bytes entry.shown) entries
+-- ---- the records that are noted for a port encode the table that is open to it
+abbrev pub Encode : List Entry → Option Transfer → Type 0
+Encode entries None = Unit {0}
+Encode entries (Some transfer) = transfer.bytes ≡ flat_map (λ entry. record_bytes entry.shown) entries
 
-abbrev pub SpellTables : Notes → List PortTransfer → Type 0
-SpellTables notes [] = Unit {0}
-SpellTables notes (place ∷ places) = Spell (notes place.port) place.open_table × SpellTables notes places
+abbrev pub EncodeTables : Notes → List PortTransfer → Type 0
+EncodeTables notes [] = Unit {0}
+EncodeTables notes (place ∷ places) = Encode (notes place.port) place.open_table × EncodeTables notes places
 
 -- every answer leaves it so
-abbrev pub NotesSpellTables : Type 0
-NotesSpellTables =
+abbrev pub NotesEncodeTables : Type 0
+NotesEncodeTables =
     (ports : List SubnetPort) (own : SubnetPort) (payload : List ℕ) (state : Administration) (notes : Notes)
-    → SpellTables notes state.transfers
-    → SpellTables (answer_noted ports own payload state notes).notes (answer_noted ports own payload state notes).state.transfers
+    → EncodeTables notes state.transfers
+    → EncodeTables (answer_noted ports own payload state notes).notes (answer_noted ports own payload state notes).state.transfers
 
 -- ---- the bytes that are noted of a MAD are its data, whose rest is 0
 abbrev pub filled : List ℕ → List ℕ
@@ -62,22 +62,22 @@ abbrev pub HoldsNoted : NotedMad → Type 0
 HoldsNoted one = data_in one.mad ≡ filled (map (λ one. one.byte) one.bytes)
 
 -- what a rule for answers with notes owes: so it is with each MAD that answers a MAD, where the numbers of the table that is
--- open to the port fit their fields, and the length of the records that are noted for it then can be told in 32 bits
+-- open to the port fit their fields, and the length of the records that are noted for it then can be reported in 32 bits
 abbrev pub NotedRule : Type 0
 NotedRule = List SubnetPort → SubnetPort → List ℕ → Administration → Notes → NotedAnswer
 
 abbrev pub NotesItsData : NotedRule → Type 0
 NotesItsData rule =
     (ports : List SubnetPort) (own : SubnetPort) (payload : List ℕ) (state : Administration) (notes : Notes)
-    → AllBelowBase 256 payload → CanBeSent (table_of own.guid state.transfers) → SpellTables notes state.transfers
+    → AllBelowBase 256 payload → CanBeSent (table_of own.guid state.transfers) → EncodeTables notes state.transfers
     → payload_size (flat_map (λ entry. record_bytes entry.shown) ((rule ports own payload state notes).notes own.guid)) < 2 ^ 32
     → AllByRecursion HoldsNoted (rule ports own payload state notes).mads
 
 -- ours pays it
-abbrev pub DataIsNoted : Type 0
-DataIsNoted = NotesItsData answer_noted
+abbrev pub AnswersNoteTheirData : Type 0
+AnswersNoteTheirData = NotesItsData answer_noted
 
--- ---- and it owes to the port that asks: all that it is told comes from near it or from the partition file, now and as its
+-- ---- and it owes to the port that asks: all that it is reported comes from near it or from the partition file, now and as its
 -- table is sent
 abbrev pub bytes_from_near : List SubnetPort → ℕ → List NotedByte → Bool
 bytes_from_near ports p bytes = list_all (λ one. is_source_near ports p one.source) bytes
@@ -89,15 +89,15 @@ pub record IsFromNear (ports : List SubnetPort) (own : SubnetPort) (noted : Note
   pub mads : list_all (λ one. bytes_from_near ports own.guid one.bytes) noted.mads ≡ true
   pub notes : NotesFromNear ports noted.notes
 
-abbrev pub TellsFromNear : NotedRule → Type 0
-TellsFromNear rule =
+abbrev pub ReportsFromNear : NotedRule → Type 0
+ReportsFromNear rule =
     (ports : List SubnetPort) (own : SubnetPort) (payload : List ℕ) (state : Administration) (notes : Notes)
     → port_with_guid ports own.guid ≡ Some own → is_sound ports state.remembered.partitions ≡ true → NotesFromNear ports notes
     → IsFromNear ports own (rule ports own payload state notes)
 
 -- ours pays it
-abbrev pub AnswersTellFromNear : Type 0
-AnswersTellFromNear = TellsFromNear answer_noted
+abbrev pub AnswersReportFromNear : Type 0
+AnswersReportFromNear = ReportsFromNear answer_noted
 
 -- ---- joins
 -- each bit that is asked is held
@@ -117,7 +117,7 @@ pub record IsJoined (ports : List SubnetPort) (own : SubnetPort) (asked : McMemb
   pub group : MulticastGroup
   pub there : group_named (base_of asked.p_key) asked.mgid next.partitions ≡ Some group
   pub takes_part : takes_part_with (join_state_of asked.join_state) (find (is_of own.guid) group.memberships) ≡ true
-  pub spelt : bytes ≡ mc_member_record_bytes (member_record own (base_of asked.p_key) group)
+  pub encoded : bytes ≡ mc_member_record_bytes (member_record own (base_of asked.p_key) group)
   pub source : is_source_near ports own.guid group.creator ≡ true
 
 -- so it is with the reply to a join
@@ -131,7 +131,7 @@ JoinRepliesComeFromNear =
 -- these bytes are the record of a service of a port near this one
 pub record IsOfServiceFromNear (ports : List SubnetPort) (p : ℕ) (bytes : List ℕ) : Type 0 where
   pub service : ServiceOfPort
-  pub spelt : bytes ≡ service_record_bytes (service_record_of service)
+  pub encoded : bytes ≡ service_record_bytes (service_record_of service)
   pub source : is_near ports p service.port ≡ true
 
 -- so it is with the reply to the Set of a service

@@ -34,7 +34,7 @@ table_at None = None
 abbrev pub table_of : ℕ → List PortTransfer → Option Transfer
 table_of port transfers = table_at (table_place port transfers)
 
--- a table that is open can be sent: its header fits, its bytes are bytes, and its length can be told in 32 bits
+-- a table that is open can be sent: its header fits, its bytes are bytes, and its length can be reported in 32 bits
 abbrev pub CanBeSent : Option Transfer → Type 0
 CanBeSent None = Unit {0}
 CanBeSent (Some transfer) = IsTransfer transfer

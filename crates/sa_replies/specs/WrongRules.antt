@@ -21,7 +21,7 @@ use Rattle.sa_groups.specs.Groups.{Creator}
 use Rattle.sa_replies.specs.NamedNotes.{NamesSources}
 use Rattle.sa_replies.specs.State.{KeepsStates}
 use Rattle.sa_replies.specs.OneReply.{AnswersOnce, IgnoresOthers, asks_something}
-use Rattle.sa_replies.specs.Sources.{NotedRule, NotesItsData, TellsFromNear}
+use Rattle.sa_replies.specs.Sources.{NotedRule, NotesItsData, ReportsFromNear}
 
 -- one table for all: each that is opened takes the place of the one before, whose ever it was
 abbrev pub shared_by_all : SubnetPort → Administration → Administration
@@ -33,23 +33,23 @@ abbrev pub answer_by_one_table : AnswerRule
 answer_by_one_table ports own payload state =
     ((answer ports own payload state).0, shared_by_all own (answer ports own payload state).1)
 
-abbrev pub OneTableTells : Type 0
-OneTableTells = HidesFarRequests answer_by_one_table → ⊥
+abbrev pub OneTableReports : Type 0
+OneTableReports = HidesFarRequests answer_by_one_table → ⊥
 
--- ---- a table of all nodes: whoever asks for a table of nodes is told the node of each port, and what it comes from is noted
+-- ---- a table of all nodes: whoever asks for a table of nodes is reported the node of each port, and what it comes from is noted
 abbrev pub all_nodes : List SubnetPort → List Entry
 all_nodes ports = map node_entry ports
 
-abbrev pub all_nodes_told : List SubnetPort → SubnetPort → List ℕ → Administration → Answered
-all_nodes_told ports own payload state =
+abbrev pub all_nodes_reported : List SubnetPort → SubnetPort → List ℕ → Administration → Answered
+all_nodes_reported ports own payload state =
     answered_with own (request_in payload) state
     (Ok (Success.whole_table NODE_RECORD_OFFSET (flat_map (λ entry. record_bytes entry.shown) (all_nodes ports))))
 
 abbrev pub all_nodes_noted : List SubnetPort → SubnetPort → List ℕ → Administration → Notes → NotedAnswer
 all_nodes_noted ports own payload state notes = record {
   mads = map (λ mad. record { mad = mad; bytes = in_segment 1 (noted_records (all_nodes ports)) })
-      (all_nodes_told ports own payload state).0;
-  state = (all_nodes_told ports own payload state).1;
+      (all_nodes_reported ports own payload state).0;
+  state = (all_nodes_reported ports own payload state).1;
   notes = with_notes own.guid (all_nodes ports) notes;
 }
 
@@ -62,8 +62,8 @@ answer_with_all_nodes ports own payload state notes =
     then all_nodes_noted ports own payload state notes
     else answer_noted ports own payload state notes
 
-abbrev pub AllNodesTell : Type 0
-AllNodesTell = TellsFromNear answer_with_all_nodes → ⊥
+abbrev pub AllNodesReport : Type 0
+AllNodesReport = ReportsFromNear answer_with_all_nodes → ⊥
 
 -- ---- to note nothing: then nothing comes from far
 abbrev pub answer_noting_nothing : NotedRule

@@ -2,7 +2,7 @@
 
 ghost use Rattle.sa_replies.specs.Changed.{OthersChangeNoReceivers, RefusedChangeNoReceivers};
 ghost use Rattle.sa_replies.specs.Laws.{AnswersAreSeenAlike, AnswersKeepSound, FarRequestsAreNotSeen, RefusedChangeNothing, RequestersAreAnsweredAlike, RequestsLeaveTheRest, ServicesDeletedAreGone, ServicesSetAreThere};
-ghost use Rattle.sa_replies.specs.Sources.{AnswersTellFromNear, DataIsNoted, JoinRepliesComeFromNear, NotesSpellTables, NotesStandBeside, ServiceRepliesComeFromNear};
+ghost use Rattle.sa_replies.specs.Sources.{AnswersReportFromNear, AnswersNoteTheirData, JoinRepliesComeFromNear, NotesEncodeTables, NotesStandBeside, ServiceRepliesComeFromNear};
 ghost use Rattle.sa_replies.specs.OneReply.{OthersAreIgnored, RequestsAreAnsweredOnce};
 ghost use Rattle.sa_replies.specs.NamedNotes.{NotesNameSources};
 ghost use Rattle.sa_replies.specs.Numbers.{NumbersAreAsAsked};
@@ -104,16 +104,16 @@ pub fn notes_stand_beside()
     ensures { NotesStandBeside }
 {}
 
-/// Where the records that are noted for each port spell the table that is open to it, so it is after whatever a port
+/// Where the records that are noted for each port encode the table that is open to it, so it is after whatever a port
 /// sends.
-pub fn notes_spell_tables()
-    ensures { NotesSpellTables }
+pub fn notes_encode_tables()
+    ensures { NotesEncodeTables }
 {}
 
 /// The bytes that are noted of a MAD which answers a port are its data, whose rest is 0, where the table that is open to
-/// the port can be sent, and the length of the records that are noted for it then can be told.
+/// the port can be sent, and the length of the records that are noted for it then can be reported.
 pub fn data_is_noted()
-    ensures { DataIsNoted }
+    ensures { AnswersNoteTheirData }
 {}
 
 /// The records that are noted of a table come from the sources that they themselves name, when it is opened, and fit their
@@ -126,8 +126,8 @@ pub fn notes_name_sources()
 
 /// Each byte of a record by which a port is answered, whole or in a segment, comes from a port near it or from the
 /// partition file; so do the records that are noted for its table.
-pub fn answers_tell_from_near()
-    ensures { AnswersTellFromNear }
+pub fn answers_report_from_near()
+    ensures { AnswersReportFromNear }
 {}
 
 /// After a join that is answered by a record its group is there, and the port takes part in it with each bit that it

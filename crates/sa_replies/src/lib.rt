@@ -16,13 +16,13 @@ pub use crate::examples::{
     which_speeds, who_is_in_groups, who_is_refused, who_only_sends,
 };
 pub use crate::laws::{
-    answers_are_seen_alike, answers_keep_sound, answers_keep_states, answers_tell_from_near,
-    data_is_noted, far_requests_are_not_seen, join_replies_come_from_near, notes_spell_tables,
+    answers_are_seen_alike, answers_keep_sound, answers_keep_states, answers_report_from_near,
+    data_is_noted, far_requests_are_not_seen, join_replies_come_from_near, notes_encode_tables,
     notes_stand_beside, numbers_are_as_asked, others_change_no_receivers,
     refused_change_no_receivers, refused_change_nothing, requesters_are_answered_alike,
     requests_leave_the_rest, service_replies_come_from_near, services_deleted_are_gone,
     services_set_are_there, starts_are_states, the_greatest_is_taken,
 };
 pub use crate::wrong_rules::{
-    all_nodes_tell, lost_places_are_missed, nothing_noted_is_less, one_table_tells,
+    all_nodes_report, lost_places_are_missed, nothing_noted_is_less, one_table_reports,
 };

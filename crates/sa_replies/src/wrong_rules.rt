@@ -1,16 +1,16 @@
 //! Wrong rules for answers, and the law that each breaks, so that a reader sees that the laws say something. Each
 //! function does nothing: its contract is the law.
 
-ghost use Rattle.sa_replies.specs.WrongRules.{AllNodesTell, DeletesAreNotOfFile, JoinsAreOfTheMaker, KeysAreNotSentBack, LostPlacesAreMissed, NothingNotedIsLess, OneTableTells, OthersAreAnswered, RefusalsKeepNoData, SetsAreNotOfFile, TheFileIsNoSource, TwiceIsNotOnce};
+ghost use Rattle.sa_replies.specs.WrongRules.{AllNodesReport, DeletesAreNotOfFile, JoinsAreOfTheMaker, KeysAreNotSentBack, LostPlacesAreMissed, NothingNotedIsLess, OneTableReports, OthersAreAnswered, RefusalsKeepNoData, SetsAreNotOfFile, TheFileIsNoSource, TwiceIsNotOnce};
 
-/// With one open table for all ports, a port is told that a port far from it asked for one.
-pub fn one_table_tells()
-    ensures { OneTableTells }
+/// With one open table for all ports, a port learns that a port far from it asked for one.
+pub fn one_table_reports()
+    ensures { OneTableReports }
 {}
 
-/// With a table of all nodes for whoever asks for one, a port is told of nodes that are far from it.
-pub fn all_nodes_tell()
-    ensures { AllNodesTell }
+/// With a table of all nodes for whoever asks for one, a port is shown nodes that are far from it.
+pub fn all_nodes_report()
+    ensures { AllNodesReport }
 {}
 
 /// Where nothing is noted, the bytes that are noted are not those of the data that a port is sent.

@@ -18,7 +18,7 @@ use Rattle.sa_services.specs.ServiceSight.{services_near}
 use Rattle.sa_replies.specs.Laws.{SeesAlike}
 use Rattle.sa_replies.specs.Request.{request_in}
 use Rattle.sa_runs.proofs.AckReadLemmas.{ack_held}
-use Rattle.sa_runs.specs.Asking.{ack_header, ack_mad, ack_rmpp, ack_sa, acknowledgements, is_first_segment, segments_told}
+use Rattle.sa_runs.specs.Asking.{ack_header, ack_mad, ack_rmpp, ack_sa, acknowledgements, is_first_segment, segments_reported}
 
 -- ---- an ACK is of a transfer
 header_narrow : (mad : List ℕ) → Fits (mad_header (header_in mad))
@@ -57,7 +57,7 @@ acks_unseen configuration p own mad count first (suc left) s other low =
     (acks_unseen configuration p own mad count (first + 1) left after other (omega (arith, low)))
     (transfers_are_unseen configuration.ports p own (ack_mad (header_in mad) count first) s other (is_active mad count first (omega (arith, low))))
 
-few : (length : ℕ) → length < 2 ^ 32 → 1 + segments_told length < 2 ^ 32
+few : (length : ℕ) → length < 2 ^ 32 → 1 + segments_reported length < 2 ^ 32
 few length low = omega (arith, low)
 
 pub acknowledged_unseen : (configuration : ConfigurationState) (p : ℕ) (own : SubnetPort) (mads : List (List ℕ)) (s : Administration) → (own.guid == p) ≡ false
@@ -66,10 +66,10 @@ acknowledged_unseen configuration p own [] s other = nothing_changed configurati
 acknowledged_unseen configuration p own (mad ∷ mads) s other = by (is_first_segment (rmpp_in mad))
   where
     count : ℕ
-    count = segments_told (field mad 256 32)
+    count = segments_reported (field mad 256 32)
 
-    by : (told : Bool)
+    by : (reported : Bool)
         → SeesAlike services_near configuration.ports p
-        (answered_in_turn (λ sent state. answer configuration.ports own sent state) (if told then map (ack_mad (header_in mad) count) (range_with_len 1 count) else []) s).1 s
+        (answered_in_turn (λ sent state. answer configuration.ports own sent state) (if reported then map (ack_mad (header_in mad) count) (range_with_len 1 count) else []) s).1 s
     by true = acks_unseen configuration p own mad count 1 count s other (few (field mad 256 32) (field_narrow mad 256 32))
     by false = nothing_changed configuration.ports p s

@@ -7,7 +7,7 @@ use Rattle.mad_layout.specs.MadHeader.{mad_header, header_in}
 use Rattle.mad_layout.specs.declared.mad_header.Header.{Header}
 use Rattle.mad_layout.specs.declared.rmpp_header.RmppHeader.{RmppHeader}
 use Rattle.mad_layout.specs.declared.sa_mad.SaMad.{SaMad}
-use Rattle.rmpp_core.proofs.ReplyLemmas.{reply_fits, reply_spelled}
+use Rattle.rmpp_core.proofs.ReplyLemmas.{reply_fits, reply_encoded}
 use Rattle.rmpp_core.specs.Reply.{reply_fields}
 use Rattle.sa_runs.specs.Asking.{ack_header, ack_mad, ack_rmpp, ack_sa}
 
@@ -33,7 +33,7 @@ zeros_fit = subst (λ (n : ℕ). n < 2 ^ 1600) (sym (number_zeros 200)) (omega a
 
 pub ack_held : (header : Header) (count number : ℕ) → Fits (mad_header header) → number + 1 < 2 ^ 32
     → Holds (ack_mad header count number) (reply_fields (ack_header header) (ack_rmpp count number) ack_sa)
-ack_held header count number narrow low = (reply_spelled (ack_header header) (ack_rmpp count number) ack_sa fits).fields
+ack_held header count number narrow low = (reply_encoded (ack_header header) (ack_rmpp count number) ack_sa fits).fields
   where
     fits : Fits (reply_fields (ack_header header) (ack_rmpp count number) ack_sa)
     fits = reply_fits (ack_header header) (ack_rmpp count number) ack_sa

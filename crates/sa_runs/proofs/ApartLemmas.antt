@@ -50,25 +50,31 @@ seen_whole configuration p s t alike = λ place. record {
 -- ---- the law
 pub administration_keeps_apart : AdministrationKeepsApart
 administration_keeps_apart configuration = record {
-  begins = and_from (is_sound configuration.ports (start_of configuration)) (are_sound_services configuration.ports (no_services configuration.ports))
-      (groups_start_sound configuration.ports configuration) (start_sound configuration.ports);
-  stays_sound = λ own mad s sound. stays own mad s sound;
-  far_unseen = λ p own mad s far sound.
-      seen_whole configuration p (answer configuration.ports own mad s).1 s (far_requests configuration.ports p own mad s far (sound_parts configuration s sound).groups);
-  same_answers = λ own mad s t found alike.
-      (requesters_alike.near configuration.ports own mad s t found (left own.guid s t alike).groups (right own.guid s t alike).groups
-      (seen_parts configuration own.guid s t alike.same)).mads;
-  same_after = λ p own mad s t found alike.
-      seen_whole configuration p (answer configuration.ports own mad s).1 (answer configuration.ports own mad t).1
-      (answers_alike.near configuration.ports p own mad s t found (left p s t alike).groups (right p s t alike).groups (seen_parts configuration p s t alike.same));
-  same_groups = λ p mlid s t alike.
-      receives_alike configuration.ports p mlid s.remembered.partitions t.remembered.partitions
-      (record {
-        left_sound = (left p s t alike).groups;
-        right_sound = (right p s t alike).groups;
-        same = (seen_parts configuration p s t alike.same).remembered.groups;
-      });
-  acknowledged_unseen = λ p own mads s other sound. seen_whole configuration p _ s (acknowledged_unseen configuration p own mads s other);
+  sound = record {
+    begins = and_from (is_sound configuration.ports (start_of configuration)) (are_sound_services configuration.ports (no_services configuration.ports))
+        (groups_start_sound configuration.ports configuration) (start_sound configuration.ports);
+    stays = λ own mad s sound. stays own mad s sound;
+  };
+  unseen = record {
+    sent = λ p own mad s far sound.
+        seen_whole configuration p (answer configuration.ports own mad s).1 s (far_requests configuration.ports p own mad s far (sound_parts configuration s sound).groups);
+    acknowledged = λ p own mads s other sound. seen_whole configuration p _ s (acknowledged_unseen configuration p own mads s other);
+  };
+  alike = record {
+    replies = λ own mad s t found alike.
+        (requesters_alike.near configuration.ports own mad s t found (left own.guid s t alike).groups (right own.guid s t alike).groups
+        (seen_parts configuration own.guid s t alike.same)).mads;
+    after = λ p own mad s t found alike.
+        seen_whole configuration p (answer configuration.ports own mad s).1 (answer configuration.ports own mad t).1
+        (answers_alike.near configuration.ports p own mad s t found (left p s t alike).groups (right p s t alike).groups (seen_parts configuration p s t alike.same));
+    groups = λ p mlid s t alike.
+        receives_alike configuration.ports p mlid s.remembered.partitions t.remembered.partitions
+        (record {
+          left_sound = (left p s t alike).groups;
+          right_sound = (right p s t alike).groups;
+          same = (seen_parts configuration p s t alike.same).remembered.groups;
+        });
+  };
 }
   where
     stays : (own : SubnetPort) (mad : List ℕ) (s : Administration) → is_sound_state configuration s ≡ true → is_sound_state configuration (answer configuration.ports own mad s).1 ≡ true

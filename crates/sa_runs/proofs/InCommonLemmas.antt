@@ -1,4 +1,4 @@
--- What two states have in common for a port is told by what it sees of them.
+-- What two states have in common for a port follows from what it sees of them.
 use Rattle.std.proofs.Common.{ℕ, Bool, true, List, [], ◌∷◌, ◌++◌, filter, map}
 use Rattle.std.proofs.Common.{◌≡◌, ◌∙◌, ap, refl, sym, inl, inr}
 use Rattle.std.specs.List.{flat_map}

@@ -27,22 +27,22 @@ use Rattle.sa_queries.specs.Outcome.{unless_status}
 use Rattle.sa_queries.specs.Refusals.{refusal}
 use Rattle.sa_queries.specs.Selected.{Query, paths_wanted, selected}
 use Rattle.sa_queries.specs.Shown.{Entry}
-use Rattle.sa_replies.proofs.NoteLemmas.{notes_spell_tables}
+use Rattle.sa_replies.proofs.NoteLemmas.{notes_encode_tables}
 use Rattle.rmpp_core.proofs.ReadBackLemmas.{reply_below}
 use Rattle.sa_replies.proofs.NotedDataLemmas.{data_is_noted}
 use Rattle.sa_replies.proofs.OpenTableLemmas.{answers_keep_states, found_can, most_entries, selected_most, size_low, starts_are_states}
 use Rattle.sa_replies.specs.Answer.{query_of}
 use Rattle.sa_replies.specs.Notes.{NotedMad, Notes, is_request, noted_if_ok, noted_request, noted_table, notes_after, with_notes}
 use Rattle.sa_replies.specs.Request.{request_in}
-use Rattle.sa_replies.specs.Sources.{HoldsNoted, SpellTables}
+use Rattle.sa_replies.specs.Sources.{HoldsNoted, EncodeTables}
 use Rattle.sa_replies.specs.State.{IsStateOf}
 use Rattle.sa_replies.specs.Transfers.{CanBeSent, PortTransfer}
 use Rattle.sa_runs.proofs.SourceLemmas.{none_open}
-use Rattle.sa_runs.specs.Asking.{ack_header, ack_mad, ack_rmpp, ack_sa, acknowledgements, is_first_segment, segments_told}
+use Rattle.sa_runs.specs.Asking.{ack_header, ack_mad, ack_rmpp, ack_sa, acknowledgements, is_first_segment, segments_reported}
 use Rattle.sa_runs.specs.RunData.{CarriesBytes, DataOfRunsIsNoted, HasItsData}
 use Rattle.sa_runs.specs.Sources.{NotedEvents, NotedMads, NotedState, acknowledging, noted_after, noted_asked, noted_conversation, noted_delivered}
 use Rattle.sa_runs.specs.Sources.{noted_in_turn, noted_mad, noted_replied, noted_reply_to, noted_sent, noted_start, noted_step, noted_unless_refused, noted_whole, without_record}
-use Rattle.result_words.proofs.ElementLemmas.{each_joined}
+use Rattle.step_results.proofs.ElementLemmas.{each_joined}
 
 -- ---- not many records are noted for a port
 abbrev AreFew : Notes → Type 0
@@ -66,17 +66,17 @@ few_if false a b first second = second
 -- ---- what is so of each state of a run
 record IsReady (configuration : ConfigurationState) (noted : NotedState) : Type 0 where
   state : IsStateOf configuration noted.state
-  spelt : SpellTables noted.notes noted.state.transfers
+  encoded : EncodeTables noted.notes noted.state.transfers
   few : AreFew noted.notes
 
 -- what comes of MADs, and of a command: what is noted is held, where bytes are brought
-record AreHeld (configuration : ConfigurationState) (Brought : Type 0) (told : NotedMads) : Type 0 where
-  mads : Brought → AllByRecursion HoldsNoted told.0
-  state : IsReady configuration told.1
+record AreHeld (configuration : ConfigurationState) (Brought : Type 0) (reported : NotedMads) : Type 0 where
+  mads : Brought → AllByRecursion HoldsNoted reported.0
+  state : IsReady configuration reported.1
 
-record Held (configuration : ConfigurationState) (command : Command) (Brought : Type 0) (told : NotedEvents) : Type 0 where
-  events : Brought → AllByRecursion (HasItsData command) told.0
-  state : IsReady configuration told.1
+record Held (configuration : ConfigurationState) (command : Command) (Brought : Type 0) (reported : NotedEvents) : Type 0 where
+  events : Brought → AllByRecursion (HasItsData command) reported.0
+  state : IsReady configuration reported.1
 
 abbrev AreBytes : List ℕ → Type 0
 AreBytes mad = AllBelowBase 256 mad
@@ -85,7 +85,7 @@ AreBytes mad = AllBelowBase 256 mad
 acks_below : (mads : List (List ℕ)) → AllByRecursion AreBytes (acknowledgements mads)
 acks_below [] = tt
 acks_below (mad ∷ mads) = elim (cases_Bool (is_first_segment (rmpp_in mad))) [
-  | inl first ↦ rw first (each (segments_told (rmpp_in mad).payload_length_or_new_window_last) (range_with_len 1 (segments_told (rmpp_in mad).payload_length_or_new_window_last)))
+  | inl first ↦ rw first (each (segments_reported (rmpp_in mad).payload_length_or_new_window_last) (range_with_len 1 (segments_reported (rmpp_in mad).payload_length_or_new_window_last)))
   | inr other ↦ rw other tt
 ]
   where
@@ -115,11 +115,11 @@ module _ (configuration : ConfigurationState) (configured : IsConfigured configu
         let few = notes_few own mad noted found ready in
         let all = recursion_from_All (λ (place : PortTransfer). CanBeSent place.open_table) noted.state.transfers ready.state.tables in
         record {
-          mads = λ below. data_is_noted configuration.ports own mad noted.state noted.notes below (found_can own.guid noted.state.transfers all) ready.spelt
+          mads = λ below. data_is_noted configuration.ports own mad noted.state noted.notes below (found_can own.guid noted.state.transfers all) ready.encoded
               (size_low (notes_after configuration.ports own mad noted.state noted.notes own.guid) (few own.guid));
           state = record {
             state = answers_keep_states configuration own mad noted.state configured found ready.state;
-            spelt = notes_spell_tables configuration.ports own mad noted.state noted.notes ready.spelt;
+            encoded = notes_encode_tables configuration.ports own mad noted.state noted.notes ready.encoded;
             few = few;
           };
         }
@@ -129,10 +129,10 @@ module _ (configuration : ConfigurationState) (configured : IsConfigured configu
     turns_held [] noted ready = record { mads = λ below. tt; state = ready }
     turns_held (mad ∷ mads) noted ready =
         let first = mad_held mad noted ready in
-        let told = noted_mad configuration.ports own mad noted in
-        let next = turns_held mads told.1 first.state in
+        let reported = noted_mad configuration.ports own mad noted in
+        let next = turns_held mads reported.1 first.state in
         record {
-          mads = λ below. each_joined HoldsNoted told.0 (noted_in_turn configuration.ports own mads told.1).0 (first.mads below.0) (next.mads below.1);
+          mads = λ below. each_joined HoldsNoted reported.0 (noted_in_turn configuration.ports own mads reported.1).0 (first.mads below.0) (next.mads below.1);
           state = next.state;
         }
 
@@ -140,12 +140,12 @@ module _ (configuration : ConfigurationState) (configured : IsConfigured configu
         → AreHeld configuration (AreBytes mad) (noted_whole configuration.ports own mad noted)
     whole_held mad noted ready =
         let first = mad_held mad noted ready in
-        let told = noted_mad configuration.ports own mad noted in
-        let acks = acknowledging told.0 in
-        let next = turns_held acks told.1 first.state in
+        let reported = noted_mad configuration.ports own mad noted in
+        let acks = acknowledging reported.0 in
+        let next = turns_held acks reported.1 first.state in
         record {
-          mads = λ below. each_joined HoldsNoted told.0 (noted_in_turn configuration.ports own acks told.1).0 (first.mads below)
-              (next.mads (acks_below (map (λ one. one.mad) told.0)));
+          mads = λ below. each_joined HoldsNoted reported.0 (noted_in_turn configuration.ports own acks reported.1).0 (first.mads below)
+              (next.mads (acks_below (map (λ one. one.mad) reported.0)));
           state = next.state;
         }
 
@@ -154,11 +154,11 @@ module _ (configuration : ConfigurationState) (configured : IsConfigured configu
     replies_held command key [] all = tt
     replies_held command key (one ∷ mads) all = (all.0, replies_held command key mads all.1)
 
-    replied_held : (command : Command) (Brought : Type 0) (key : Option ℕ) (noted : NotedState) (told : NotedMads) → IsReady configuration noted
-        → AreHeld configuration Brought told → Held configuration command Brought (noted_replied own key noted told)
-    replied_held command Brought (Some key) noted told before are =
-        record { events = λ below. replies_held command key told.0 (are.mads below); state = are.state }
-    replied_held command Brought None noted told before are = record { events = λ below. tt; state = before }
+    replied_held : (command : Command) (Brought : Type 0) (key : Option ℕ) (noted : NotedState) (reported : NotedMads) → IsReady configuration noted
+        → AreHeld configuration Brought reported → Held configuration command Brought (noted_replied own key noted reported)
+    replied_held command Brought (Some key) noted reported before are =
+        record { events = λ below. replies_held command key reported.0 (are.mads below); state = are.state }
+    replied_held command Brought None noted reported before are = record { events = λ below. tt; state = before }
 
   packets_held : (command : SendCommand) (sender : SubnetPort) (ports : List SubnetPort) → is_for_sa command ≡ false
       → AllByRecursion (HasItsData (Send command))
@@ -171,10 +171,10 @@ module _ (configuration : ConfigurationState) (configured : IsConfigured configu
   held_if command Brought true a b first second = first
   held_if command Brought false a b first second = second refl
 
-  unless_held : (command : Command) (Brought : Type 0) (refused : Option Refusal) (guid : ℕ) (noted : NotedState) (told : NotedEvents) → IsReady configuration noted
-      → Held configuration command Brought told → Held configuration command Brought (noted_unless_refused refused guid noted told)
-  unless_held command Brought (Some refused) guid noted told before are = record { events = λ below. (tt, tt); state = before }
-  unless_held command Brought None guid noted told before are = are
+  unless_held : (command : Command) (Brought : Type 0) (refused : Option Refusal) (guid : ℕ) (noted : NotedState) (reported : NotedEvents) → IsReady configuration noted
+      → Held configuration command Brought reported → Held configuration command Brought (noted_unless_refused refused guid noted reported)
+  unless_held command Brought (Some refused) guid noted reported before are = record { events = λ below. (tt, tt); state = before }
+  unless_held command Brought None guid noted reported before are = are
 
   sent_held : (command : SendCommand) (sender : Option SubnetPort) (noted : NotedState) → port_with_guid configuration.ports command.port_guid ≡ sender
       → IsReady configuration noted → Held configuration (Send command) (AreBytes command.payload) (noted_sent configuration sender command noted)
@@ -216,7 +216,7 @@ module _ (configuration : ConfigurationState) (configured : IsConfigured configu
   start_ready : IsReady configuration (noted_start configuration)
   start_ready = record {
     state = starts_are_states configuration configured;
-    spelt = none_open configuration configuration.ports;
+    encoded = none_open configuration configuration.ports;
     few = λ p. omega arith;
   }
 

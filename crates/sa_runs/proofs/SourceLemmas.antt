@@ -16,12 +16,12 @@ use Rattle.subnet_model.specs.declared.command.SendCommand.{SendCommand}
 use Rattle.subnet_model.specs.declared.event.PortEvent.{PortEvent}
 use Rattle.subnet_model.specs.declared.subnet_port.SubnetPort.{SubnetPort}
 use Rattle.sa_groups.specs.Delivery.{is_receiver_of}
-use Rattle.sa_replies.proofs.NoteLemmas.{answers_tell_from_near, notes_spell_tables, notes_stand_beside}
+use Rattle.sa_replies.proofs.NoteLemmas.{answers_report_from_near, notes_encode_tables, notes_stand_beside}
 use Rattle.sa_replies.proofs.SightLemmas.{answers_keep_sound}
 use Rattle.sa_replies.specs.Answer.{Administration, Answered, answer}
 use Rattle.sa_replies.specs.Laws.{IsSound}
 use Rattle.sa_replies.specs.Notes.{NotedMad, no_notes}
-use Rattle.sa_replies.specs.Sources.{NotesFromNear, SpellTables, bytes_from_near}
+use Rattle.sa_replies.specs.Sources.{NotesFromNear, EncodeTables, bytes_from_near}
 use Rattle.sa_replies.specs.Transfers.{no_transfers}
 use Rattle.sa_runs.proofs.ApartLemmas.{administration_keeps_apart, sound_parts}
 use Rattle.sa_runs.specs.Administration.{subnet_administration}
@@ -29,16 +29,16 @@ use Rattle.sa_replies.specs.State.{at_start}
 use Rattle.sa_runs.specs.Asking.{acknowledgements}
 use Rattle.sa_runs.specs.Sources.{noted_in, NotedState, NotedEvent, NotedMads, NotedEvents, noted_mad, noted_in_turn, acknowledging, noted_whole, noted_reply_to, without_record, noted_replied}
 use Rattle.sa_runs.specs.Sources.{noted_unless_refused, noted_delivered, noted_sent, noted_conversation, noted_asked, noted_step, noted_start, noted_after}
-use Rattle.sa_runs.specs.Sources.{NotesStandBesideRuns, OpenTablesAreNoted, RecordsComeFromNear}
+use Rattle.sa_runs.specs.Sources.{NotesStandBesideRuns, OpenTablesAreNoted, RunRecordsComeFromNear}
 
 -- ---- without what is noted
-record AreBeside (told : NotedMads) (answered : Answered) : Type 0 where
-  mads : map (λ one. one.mad) told.0 ≡ answered.0
-  state : told.1.state ≡ answered.1
+record AreBeside (reported : NotedMads) (answered : Answered) : Type 0 where
+  mads : map (λ one. one.mad) reported.0 ≡ answered.0
+  state : reported.1.state ≡ answered.1
 
-record Beside (told : NotedEvents) (happens : List PortEvent × Administration) : Type 0 where
-  events : map (λ one. one.event) told.0 ≡ happens.0
-  state : told.1.state ≡ happens.1
+record Beside (reported : NotedEvents) (happens : List PortEvent × Administration) : Type 0 where
+  events : map (λ one. one.event) reported.0 ≡ happens.0
+  state : reported.1.state ≡ happens.1
 
 mad_beside : (ports : List SubnetPort) (own : SubnetPort) (mad : List ℕ) (noted : NotedState)
     → AreBeside (noted_mad ports own mad noted) (answer ports own mad noted.state)
@@ -79,11 +79,11 @@ replies_beside : (own : SubnetPort) (key : ℕ) (mads : List NotedMad)
 replies_beside own key [] = refl
 replies_beside own key (one ∷ mads) = ap (λ rest. reply_to own key one.mad ∷ rest) (replies_beside own key mads)
 
-replied_beside : (own : SubnetPort) (key : Option ℕ) (noted : NotedState) (told : NotedMads) (answered : Answered) → AreBeside told answered
-    → Beside (noted_replied own key noted told) (replied own key noted.state answered)
-replied_beside own (Some key) noted told answered are =
-    record { events = replies_beside own key told.0 ∙ ap (map (reply_to own key)) are.mads; state = are.state }
-replied_beside own None noted told answered are = record { events = refl; state = refl }
+replied_beside : (own : SubnetPort) (key : Option ℕ) (noted : NotedState) (reported : NotedMads) (answered : Answered) → AreBeside reported answered
+    → Beside (noted_replied own key noted reported) (replied own key noted.state answered)
+replied_beside own (Some key) noted reported answered are =
+    record { events = replies_beside own key reported.0 ∙ ap (map (reply_to own key)) are.mads; state = are.state }
+replied_beside own None noted reported answered are = record { events = refl; state = refl }
 
 packets_beside : (events : List PortEvent) → map (λ one. one.event) (map without_record events) ≡ events
 packets_beside [] = refl
@@ -93,10 +93,10 @@ beside_if : (test : Bool) (a b : NotedEvents) (x y : List PortEvent × Administr
 beside_if true a b x y first second = first
 beside_if false a b x y first second = second
 
-unless_beside : (refusal : Option Refusal) (guid : ℕ) (noted : NotedState) (told : NotedEvents) (happens : List PortEvent × Administration) → Beside told happens
-    → Beside (noted_unless_refused refusal guid noted told) (unless_refused refusal guid noted.state happens)
-unless_beside (Some refusal) guid noted told happens are = record { events = refl; state = refl }
-unless_beside None guid noted told happens are = are
+unless_beside : (refusal : Option Refusal) (guid : ℕ) (noted : NotedState) (reported : NotedEvents) (happens : List PortEvent × Administration) → Beside reported happens
+    → Beside (noted_unless_refused refusal guid noted reported) (unless_refused refusal guid noted.state happens)
+unless_beside (Some refusal) guid noted reported happens are = record { events = refl; state = refl }
+unless_beside None guid noted reported happens are = are
 
 module _ (configuration : ConfigurationState) where
   sent_beside : (sender : Option SubnetPort) (command : SendCommand) (noted : NotedState)
@@ -105,12 +105,12 @@ module _ (configuration : ConfigurationState) where
   sent_beside (Some sender) command noted =
       let packets = received_by (reaches_joined (is_receiver_of noted.state.remembered.partitions command.dlid) command) configuration.ports sender command in
       let key = manager_key configuration.ports command.p_key in
-      let told = noted_mad configuration.ports sender command.payload noted in
+      let reported = noted_mad configuration.ports sender command.payload noted in
       let answered = answer configuration.ports sender command.payload noted.state in
       unless_beside (refusal_of sender command) command.port_guid noted (noted_delivered configuration sender command noted)
       (delivered subnet_administration configuration sender command noted.state)
-      (beside_if (is_for_sa command) (noted_replied sender key noted told) (map without_record packets, noted) (replied sender key noted.state answered) (packets, noted.state)
-      (replied_beside sender key noted told answered (mad_beside configuration.ports sender command.payload noted))
+      (beside_if (is_for_sa command) (noted_replied sender key noted reported) (map without_record packets, noted) (replied sender key noted.state answered) (packets, noted.state)
+      (replied_beside sender key noted reported answered (mad_beside configuration.ports sender command.payload noted))
       (record { events = packets_beside packets; state = refl }))
 
   conversation_beside : (own : SubnetPort) (key : Option ℕ) (mad : List ℕ) (noted : NotedState)
@@ -135,11 +135,11 @@ module _ (configuration : ConfigurationState) where
   events_beside [] noted state same = refl
   events_beside (command ∷ commands) noted state same =
       let one = step_beside noted command in
-      let told = noted_step configuration noted command in
+      let reported = noted_step configuration noted command in
       let step : Administration → List PortEvent × Administration = λ s. step_by subnet_administration configuration s command in
-      map-append (λ one. one.event) told.0 (events_from (noted_step configuration) told.1 commands)
-      ∙ (ap (λ first. first ++ map (λ one. one.event) (events_from (noted_step configuration) told.1 commands)) (one.events ∙ ap (λ s. (step s).0) same)
-      ∙ ap (λ rest. (step state).0 ++ rest) (events_beside commands told.1 (step state).1 (one.state ∙ ap (λ s. (step s).1) same)))
+      map-append (λ one. one.event) reported.0 (events_from (noted_step configuration) reported.1 commands)
+      ∙ (ap (λ first. first ++ map (λ one. one.event) (events_from (noted_step configuration) reported.1 commands)) (one.events ∙ ap (λ s. (step s).0) same)
+      ∙ ap (λ rest. (step state).0 ++ rest) (events_beside commands reported.1 (step state).1 (one.state ∙ ap (λ s. (step s).1) same)))
 
   pub states_beside : (commands : List Command) (noted : NotedState) (state : Administration) → noted.state ≡ state
       → (state_from (noted_step configuration) noted commands).state ≡ state_from (step_by subnet_administration configuration) state commands
@@ -157,7 +157,7 @@ notes_stand_beside_runs configuration commands = record {
 -- ---- what is so of each state of a run, and of what each command brings
 record IsGood (ports : List SubnetPort) (noted : NotedState) : Type 0 where
   sound : IsSound ports noted.state
-  spelt : SpellTables noted.notes noted.state.transfers
+  encoded : EncodeTables noted.notes noted.state.transfers
   near : NotesFromNear ports noted.notes
 
 abbrev near_mads : List SubnetPort → SubnetPort → List NotedMad → Bool
@@ -166,23 +166,23 @@ near_mads ports own mads = list_all (λ one. bytes_from_near ports own.guid one.
 abbrev near_events : List SubnetPort → List NotedEvent → Bool
 near_events ports events = list_all (λ one. bytes_from_near ports one.event.port_guid (noted_in one.noted)) events
 
-record AreGood (ports : List SubnetPort) (own : SubnetPort) (told : NotedMads) : Type 0 where
-  mads : near_mads ports own told.0 ≡ true
-  state : IsGood ports told.1
+record AreGood (ports : List SubnetPort) (own : SubnetPort) (reported : NotedMads) : Type 0 where
+  mads : near_mads ports own reported.0 ≡ true
+  state : IsGood ports reported.1
 
-record Good (ports : List SubnetPort) (told : NotedEvents) : Type 0 where
-  events : near_events ports told.0 ≡ true
-  state : IsGood ports told.1
+record Good (ports : List SubnetPort) (reported : NotedEvents) : Type 0 where
+  events : near_events ports reported.0 ≡ true
+  state : IsGood ports reported.1
 
 module _ (ports : List SubnetPort) (own : SubnetPort) (found : port_with_guid ports own.guid ≡ Some own) where
   mad_good : (mad : List ℕ) (noted : NotedState) → IsGood ports noted → AreGood ports own (noted_mad ports own mad noted)
   mad_good mad noted good =
-      let from = answers_tell_from_near ports own mad noted.state noted.notes found good.sound.groups good.near in
+      let from = answers_report_from_near ports own mad noted.state noted.notes found good.sound.groups good.near in
       record {
         mads = from.mads;
         state = record {
           sound = answers_keep_sound ports own mad noted.state good.sound;
-          spelt = notes_spell_tables ports own mad noted.state noted.notes good.spelt;
+          encoded = notes_encode_tables ports own mad noted.state noted.notes good.encoded;
           near = from.notes;
         };
       }
@@ -217,9 +217,9 @@ module _ (ports : List SubnetPort) (own : SubnetPort) (found : port_with_guid po
       let parts = and_parts (bytes_from_near ports own.guid one.bytes) (near_mads ports own mads) near in
       and_from (bytes_from_near ports own.guid one.bytes) (near_events ports (map (noted_reply_to own key) mads)) parts.0 (replies_near key mads parts.1)
 
-  replied_good : (key : Option ℕ) (noted : NotedState) (told : NotedMads) → IsGood ports noted → AreGood ports own told → Good ports (noted_replied own key noted told)
-  replied_good (Some key) noted told before are = record { events = replies_near key told.0 are.mads; state = are.state }
-  replied_good None noted told before are = record { events = refl; state = before }
+  replied_good : (key : Option ℕ) (noted : NotedState) (reported : NotedMads) → IsGood ports noted → AreGood ports own reported → Good ports (noted_replied own key noted reported)
+  replied_good (Some key) noted reported before are = record { events = replies_near key reported.0 are.mads; state = are.state }
+  replied_good None noted reported before are = record { events = refl; state = before }
 
 packets_near : (ports : List SubnetPort) (events : List PortEvent) → near_events ports (map without_record events) ≡ true
 packets_near ports [] = refl
@@ -229,10 +229,10 @@ good_if : (ports : List SubnetPort) (test : Bool) (a b : NotedEvents) → Good p
 good_if ports true a b first second = first
 good_if ports false a b first second = second
 
-unless_good : (ports : List SubnetPort) (refusal : Option Refusal) (guid : ℕ) (noted : NotedState) (told : NotedEvents) → IsGood ports noted → Good ports told
-    → Good ports (noted_unless_refused refusal guid noted told)
-unless_good ports (Some refusal) guid noted told before are = record { events = refl; state = before }
-unless_good ports None guid noted told before are = are
+unless_good : (ports : List SubnetPort) (refusal : Option Refusal) (guid : ℕ) (noted : NotedState) (reported : NotedEvents) → IsGood ports noted → Good ports reported
+    → Good ports (noted_unless_refused refusal guid noted reported)
+unless_good ports (Some refusal) guid noted reported before are = record { events = refl; state = before }
+unless_good ports None guid noted reported before are = are
 
 module _ (configuration : ConfigurationState) where
   sent_good : (command : SendCommand) (sender : Option SubnetPort) (noted : NotedState) → port_with_guid configuration.ports command.port_guid ≡ sender
@@ -270,33 +270,33 @@ module _ (configuration : ConfigurationState) where
       → Good configuration.ports (events_from (noted_step configuration) noted commands, state_from (noted_step configuration) noted commands)
   run_good [] noted good = record { events = refl; state = good }
   run_good (command ∷ commands) noted good =
-      let told = noted_step configuration noted command in
+      let reported = noted_step configuration noted command in
       let first = step_good noted command good in
-      let next = run_good commands told.1 first.state in
+      let next = run_good commands reported.1 first.state in
       record {
-        events = list_all-append (λ (one : NotedEvent). bytes_from_near configuration.ports one.event.port_guid (noted_in one.noted)) told.0 (events_from (noted_step configuration) told.1 commands)
-            ∙ and_from (near_events configuration.ports told.0) (near_events configuration.ports (events_from (noted_step configuration) told.1 commands)) first.events next.events;
+        events = list_all-append (λ (one : NotedEvent). bytes_from_near configuration.ports one.event.port_guid (noted_in one.noted)) reported.0 (events_from (noted_step configuration) reported.1 commands)
+            ∙ and_from (near_events configuration.ports reported.0) (near_events configuration.ports (events_from (noted_step configuration) reported.1 commands)) first.events next.events;
         state = next.state;
       }
 
-  pub none_open : (all : List SubnetPort) → SpellTables no_notes (no_transfers all)
+  pub none_open : (all : List SubnetPort) → EncodeTables no_notes (no_transfers all)
   none_open [] = tt
   none_open (port ∷ all) = (tt, none_open all)
 
   start_good : IsGood configuration.ports (noted_start configuration)
   start_good = record {
-    sound = sound_parts configuration (at_start configuration) (administration_keeps_apart configuration).begins;
-    spelt = none_open configuration.ports;
+    sound = sound_parts configuration (at_start configuration) (administration_keeps_apart configuration).sound.begins;
+    encoded = none_open configuration.ports;
     near = λ p. refl;
   }
 
 pub open_tables_are_noted : OpenTablesAreNoted
 open_tables_are_noted configuration commands =
-    subst (λ (state : Administration). SpellTables (noted_after configuration commands).notes state.transfers)
+    subst (λ (state : Administration). EncodeTables (noted_after configuration commands).notes state.transfers)
     (states_beside configuration commands (noted_start configuration) (at_start configuration) refl)
-    (run_good configuration commands (noted_start configuration) (start_good configuration)).state.spelt
+    (run_good configuration commands (noted_start configuration) (start_good configuration)).state.encoded
 
-pub records_come_from_near : RecordsComeFromNear
+pub records_come_from_near : RunRecordsComeFromNear
 records_come_from_near configuration commands =
     let all = run_good configuration commands (noted_start configuration) (start_good configuration) in
     record { events = all.events; tables = all.state.near }

@@ -33,7 +33,7 @@ use Rattle.sa_replies.specs.Transfers.{CanBeSent, PortTransfer, on_ack, table_pl
 use Rattle.sa_runs.proofs.AckReadLemmas.{ack_held, header_held}
 use Rattle.sa_runs.specs.Administration.{subnet_administration}
 use Rattle.sa_replies.specs.State.{IsStateOf, at_start}
-use Rattle.sa_runs.specs.Asking.{ack_header, ack_mad, ack_rmpp, ack_sa, acknowledgements, acks_of, is_first_segment, segments_told}
+use Rattle.sa_runs.specs.Asking.{ack_header, ack_mad, ack_rmpp, ack_sa, acknowledgements, acks_of, is_first_segment, segments_reported}
 use Rattle.sa_runs.specs.Laws.{RunsAreStates, RunsShowInOrder, remembered_after}
 use Rattle.sa_runs.specs.WholeTables.{TablesAreBroughtWhole, table_asked}
 
@@ -150,8 +150,8 @@ bring_the_rest ports own request spacing bytes number (suc left) state narrow lo
     (map (segment_mad (at_window request spacing bytes 1)) (range_with_len (number + 1 + 1) left), record state { transfers = transfers }))
     (twice own.guid next None state.transfers))
 
--- ---- the first segment tells how many there are
-as_many : (bytes : List ℕ) → segments_told (payload_size bytes) ≡ segment_count bytes
+-- ---- the first segment reports how many there are
+as_many : (bytes : List ℕ) → segments_reported (payload_size bytes) ≡ segment_count bytes
 as_many bytes = omega arith
 
 first_acknowledged : (transfer : Transfer) → IsTransfer transfer
@@ -164,10 +164,10 @@ first_acknowledged transfer is =
     let header : header_in mad ≡ transfer.header.header = header_held mad transfer.header.header (segment_rmpp bytes 1) (segment_sa transfer 1) held in
     let rmpp : rmpp_in mad ≡ segment_rmpp bytes 1 = rmpp_held mad transfer.header.header (segment_rmpp bytes 1) (segment_sa transfer 1) held in
     let first : is_first_segment (segment_rmpp bytes 1) ≡ true = and_from _ _ (active_set (1 == 1) (1 == count)) (first_set (1 == 1) (1 == count)) in
-    let told : (if is_first_segment (segment_rmpp bytes 1) then acks_of transfer.header.header (segments_told (payload_size bytes)) else [])
+    let reported : (if is_first_segment (segment_rmpp bytes 1) then acks_of transfer.header.header (segments_reported (payload_size bytes)) else [])
     ≡ acks_of transfer.header.header count = rw first (ap (acks_of transfer.header.header) (as_many bytes)) in
-    (λ place. if is_first_segment (rmpp place) then acks_of (header place) (segments_told (rmpp place).payload_length_or_new_window_last) else [])
-    ∙ told
+    (λ place. if is_first_segment (rmpp place) then acks_of (header place) (segments_reported (rmpp place).payload_length_or_new_window_last) else [])
+    ∙ reported
 
 -- ---- from the request to the last segment
 brought : (ports : List SubnetPort) (own : SubnetPort) (request : Request) (spacing : ℕ) (bytes : List ℕ) (state : Administration) (place : PortTransfer)

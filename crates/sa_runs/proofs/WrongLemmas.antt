@@ -22,5 +22,5 @@ are_there (place ∷ places) = true
 
 pub what_is_shown_is_less : WhatIsShownIsLess
 what_is_shown_is_less law =
-    let told : false ≡ true = ap are_there (law near_by_another 0x111 without with_place refl).services in
+    let reported : false ≡ true = ap are_there (law near_by_another 0x111 without with_place refl).services in
     absurd (cc)

@@ -13,9 +13,9 @@ use Rattle.mad_layout.specs.RmppHeader.{rmpp_in}
 use Rattle.rmpp_core.specs.Reply.{reply_bytes}
 use Rattle.mad_layout.specs.MadHeader.{header_in}
 
--- the segments of the table whose first one tells this length: each has 200 bytes, and counts for 20 more
-abbrev pub segments_told : ℕ → ℕ
-segments_told length = max 1 ((length + 219) / 220)
+-- the segments of the table whose first one reports this length: each has 200 bytes, and counts for 20 more
+abbrev pub segments_reported : ℕ → ℕ
+segments_reported length = max 1 ((length + 219) / 220)
 
 -- ---- an ACK: of a segment, with the window up to the next one, and at the last one up to that
 abbrev pub ack_header : Header → Header
@@ -39,7 +39,7 @@ ack_sa = record { sm_key = 0; attribute_offset = 0; component_mask = 0; «data»
 abbrev pub ack_mad : Header → ℕ → ℕ → List ℕ
 ack_mad segment count number = reply_bytes (ack_header segment) (ack_rmpp count number) ack_sa
 
--- ---- the first segment of a table tells how many there are; each of them is acknowledged, in order
+-- ---- the first segment of a table reports how many there are; each of them is acknowledged, in order
 abbrev pub is_first_segment : RmppHeader → Bool
 is_first_segment rmpp = is_data rmpp && is_first rmpp
 
@@ -50,5 +50,5 @@ abbrev pub acknowledgements : List (List ℕ) → List (List ℕ)
 acknowledgements [] = []
 acknowledgements (mad ∷ mads) =
     if is_first_segment (rmpp_in mad)
-    then acks_of (header_in mad) (segments_told (rmpp_in mad).payload_length_or_new_window_last)
+    then acks_of (header_in mad) (segments_reported (rmpp_in mad).payload_length_or_new_window_last)
     else []

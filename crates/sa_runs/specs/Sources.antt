@@ -15,7 +15,7 @@ use Rattle.subnet_model.specs.declared.subnet_port.SubnetPort.{SubnetPort}
 use Rattle.sa_groups.specs.Delivery.{is_receiver_of}
 use Rattle.sa_replies.specs.Answer.{Administration}
 use Rattle.sa_replies.specs.Notes.{NotedByte, NotedMad, Notes, answer_noted, no_notes}
-use Rattle.sa_replies.specs.Sources.{NotesFromNear, SpellTables, bytes_from_near}
+use Rattle.sa_replies.specs.Sources.{NotesFromNear, EncodeTables, bytes_from_near}
 use Rattle.sa_runs.specs.Administration.{subnet_administration}
 use Rattle.sa_replies.specs.State.{at_start}
 use Rattle.sa_runs.specs.Asking.{acknowledgements}
@@ -77,8 +77,8 @@ abbrev pub without_record : PortEvent → NotedEvent
 without_record event = record { event = event; noted = None }
 
 abbrev pub noted_replied : SubnetPort → Option ℕ → NotedState → NotedMads → NotedEvents
-noted_replied own (Some key) noted told = (map (noted_reply_to own key) told.0, told.1)
-noted_replied own None noted told = ([], noted)
+noted_replied own (Some key) noted reported = (map (noted_reply_to own key) reported.0, reported.1)
+noted_replied own None noted reported = ([], noted)
 
 abbrev pub noted_unless_refused : Option Refusal → ℕ → NotedState → NotedEvents → NotedEvents
 noted_unless_refused (Some refusal) guid noted happens =
@@ -138,11 +138,11 @@ pub record IsBesideRun (configuration : ConfigurationState) (commands : List Com
 abbrev pub NotesStandBesideRuns : Type 0
 NotesStandBesideRuns = (configuration : ConfigurationState) (commands : List Command) → IsBesideRun configuration commands
 
--- ---- at any time the records that are noted for a port spell the table that is open to it
+-- ---- at any time the records that are noted for a port encode the table that is open to it
 abbrev pub OpenTablesAreNoted : Type 0
 OpenTablesAreNoted =
     (configuration : ConfigurationState) (commands : List Command)
-    → SpellTables (noted_after configuration commands).notes (remembered_after configuration commands).transfers
+    → EncodeTables (noted_after configuration commands).notes (remembered_after configuration commands).transfers
 
 -- ---- each byte of a record that a port receives comes from a port near it or from the partition file
 abbrev pub BringFromNear : List SubnetPort → List NotedEvent → Type 0
@@ -153,5 +153,5 @@ pub record IsRunFromNear (configuration : ConfigurationState) (commands : List C
   pub events : BringFromNear configuration.ports (noted_report configuration commands)
   pub tables : NotesFromNear configuration.ports (noted_after configuration commands).notes
 
-abbrev pub RecordsComeFromNear : Type 0
-RecordsComeFromNear = (configuration : ConfigurationState) (commands : List Command) → IsRunFromNear configuration commands
+abbrev pub RunRecordsComeFromNear : Type 0
+RunRecordsComeFromNear = (configuration : ConfigurationState) (commands : List Command) → IsRunFromNear configuration commands

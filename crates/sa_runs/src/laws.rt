@@ -3,7 +3,7 @@
 ghost use Rattle.sa_runs.specs.Laws.{AdministrationKeepsApart, RunsAreIsolated, RunsAreStates, RunsShowInOrder, RunsStaySound};
 ghost use Rattle.sa_runs.specs.InCommon.{SightShowsAll, StatesDependOnNear};
 ghost use Rattle.sa_runs.specs.RunData.{DataOfRunsIsNoted};
-ghost use Rattle.sa_runs.specs.Sources.{NotesStandBesideRuns, OpenTablesAreNoted, RecordsComeFromNear};
+ghost use Rattle.sa_runs.specs.Sources.{NotesStandBesideRuns, OpenTablesAreNoted, RunRecordsComeFromNear};
 ghost use Rattle.sa_runs.specs.WholeTables.{TablesAreBroughtWhole};
 
 /// Subnet administration keeps ports apart: what a port far from another sends changes nothing that the other sees, and
@@ -51,7 +51,7 @@ pub fn notes_stand_beside_runs()
 {}
 
 /// Whatever ports sent and asked, the records that are noted for a port, as they were selected when its table was
-/// opened, spell the table that is open to it.
+/// opened, encode the table that is open to it.
 pub fn open_tables_are_noted()
     ensures { OpenTablesAreNoted }
 {}
@@ -59,7 +59,7 @@ pub fn open_tables_are_noted()
 /// Whatever ports send and ask, each byte of a record that a port receives comes from a port near it or from the
 /// partition file; so do the records of the table that is open to it.
 pub fn records_come_from_near()
-    ensures { RecordsComeFromNear }
+    ensures { RunRecordsComeFromNear }
 {}
 
 /// Whatever the ports of a subnet sent and asked, the bytes that are noted of each MAD by which a command is answered are

@@ -6,7 +6,7 @@ use Rattle.std.proofs.lemmas.Bool.{cases_Bool, both_ways, and_from, and_parts, f
 use Rattle.std.proofs.lemmas.Bool.Decides.{nat_tests}
 use Rattle.std.proofs.lemmas.List.{append-nil}
 use Rattle.std.proofs.lemmas.List.Elements.{filter-append}
-use Rattle.result_words.proofs.FilterLemmas.{filter_map_same}
+use Rattle.step_results.proofs.FilterLemmas.{filter_map_same}
 use Rattle.sa_services.specs.Services.{Service, PortServices}
 use Rattle.sa_services.specs.ServiceChange.{Deed, ServiceChange, is_place, has_id, has_room, lower_id, with_service, without_service, after_deed, changed_in, services_changed}
 use Rattle.sa_services.specs.ServiceLaws.{is_of, offered, is_same, AreAsBeforeBut, SetServicesAreThere, DeletedServicesAreGone}

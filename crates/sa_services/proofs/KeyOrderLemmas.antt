@@ -4,8 +4,8 @@ use Rattle.std.proofs.Common.{◌≡◌, ◌∙◌, ap, refl, inl, inr, arith}
 use Rattle.std.specs.List.{list_all, list_any}
 use Rattle.std.proofs.lemmas.Bool.{cases_Bool, and_from, and_parts}
 use Rattle.std.proofs.lemmas.Bool.Decides.{nat_tests}
-use Rattle.result_words.proofs.TestLemmas.{or_turned}
-use Rattle.result_words.proofs.ListLemmas.{list_all_weaker}
+use Rattle.step_results.proofs.TestLemmas.{or_turned}
+use Rattle.step_results.proofs.ListLemmas.{list_all_weaker}
 use Rattle.pkey_rules.specs.PKey.{base_of}
 use Rattle.sa_groups.specs.Sound.{pairwise}
 use Rattle.sa_services.specs.KeyOrder.{with_key, by_base, is_lower_base, KeysStandByBase}

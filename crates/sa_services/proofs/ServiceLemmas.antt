@@ -3,12 +3,12 @@ use Rattle.std.proofs.Common.{ℕ, Bool, true, false, ◌==◌, ◌&&◌, ◌||�
 use Rattle.std.proofs.Common.{◌≡◌, ◌∙◌, ap, refl, sym, inl, inr}
 use Rattle.std.specs.List.{list_any}
 use Rattle.std.proofs.lemmas.Bool.{cases_Bool, both_ways, and_from, and_parts, or_cases, or_left, or_right, eq-eqb, eqb-true}
-use Rattle.result_words.proofs.ListLemmas.{list_any_weaker}
+use Rattle.step_results.proofs.ListLemmas.{list_any_weaker}
 use Rattle.pkey_rules.specs.PKey.{base_of, matches}
 use Rattle.pkey_rules.specs.KeyTable.{accepts, shares, shares_base}
 use Rattle.subnet_model.specs.declared.subnet_port.SubnetPort.{SubnetPort}
 use Rattle.subnet_model.specs.Near.{is_near, ports_share, shares_with}
-use Rattle.result_words.proofs.FilterLemmas.{filter_map_same, filter_map_absorbs}
+use Rattle.step_results.proofs.FilterLemmas.{filter_map_same, filter_map_absorbs}
 use Rattle.sa_services.specs.Services.{PortServices}
 use Rattle.sa_services.specs.ServiceChange.{ServiceChange, is_place, changed_in, services_changed, services_after, service_changes_near, port_and_base}
 use Rattle.sa_services.proofs.DeedLemmas.{filter_within}
@@ -110,7 +110,7 @@ pub far_not_near : (ports : List SubnetPort) (p : ℕ) (services : List PortServ
     → services_near ports p (services_changed services change) ≡ services_near ports p services
 far_not_near ports p services change far = unkept_change near_place ports p services change far
 
--- what is shown is told by them
+-- what is shown is reported by them
 pub shown_of_near : (ports : List SubnetPort) (p : ℕ) (services : List PortServices)
     → services_seen ports p (services_near ports p services) ≡ services_seen ports p services
 shown_of_near ports p services =

@@ -78,7 +78,7 @@ FarServicesAreNotSeen = HidesFarServices services_seen
 abbrev pub FarServicesAreNotNear : Type 0
 FarServicesAreNotNear = HidesFarServices services_near
 
--- what p is shown is told by the services of the ports near it
+-- what p is shown follows from the services of the ports near it
 abbrev pub ShownServicesAreNear : Type 0
 ShownServicesAreNear =
     (ports : List SubnetPort) (p : ℕ) (services : List PortServices)

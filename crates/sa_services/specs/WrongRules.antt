@@ -12,5 +12,5 @@ is_of_a_partition_of ports p place = holds_base ports place.base p
 abbrev pub services_of_partitions : List SubnetPort → ℕ → List PortServices → List PortServices
 services_of_partitions ports p services = filter (is_of_a_partition_of ports p) services
 
-abbrev pub ServicesOfPartitionsTell : Type 0
-ServicesOfPartitionsTell = HidesFarServices services_of_partitions → ⊥
+abbrev pub ServicesOfPartitionsReport : Type 0
+ServicesOfPartitionsReport = HidesFarServices services_of_partitions → ⊥

@@ -45,7 +45,7 @@ pub fn far_services_are_not_near()
     ensures { FarServicesAreNotNear }
 {}
 
-/// What a port is shown of services is told by those of the ports near it.
+/// What a port is shown of services follows from those of the ports near it.
 pub fn shown_services_are_near()
     ensures { ShownServicesAreNear }
 {}

@@ -17,4 +17,4 @@ pub use crate::laws::{
     services_are_seen_alike, services_depend_on_near, services_stay_sound, set_services_are_there,
     shown_services_are_near,
 };
-pub use crate::wrong_rules::services_of_partitions_tell;
+pub use crate::wrong_rules::services_of_partitions_report;

@@ -1,9 +1,9 @@
 //! A rule for what is shown of services that breaks isolation, so that a reader sees that the laws say
 //! something. The function does nothing: its contract is the law.
 
-ghost use Rattle.sa_services.specs.WrongRules.{ServicesOfPartitionsTell};
+ghost use Rattle.sa_services.specs.WrongRules.{ServicesOfPartitionsReport};
 
-/// Where a port is shown all services of its partitions, one limited member tells another that it is there.
-pub fn services_of_partitions_tell()
-    ensures { ServicesOfPartitionsTell }
+/// Where a port is shown all services of its partitions, one limited member shows to another that it is there.
+pub fn services_of_partitions_report()
+    ensures { ServicesOfPartitionsReport }
 {}

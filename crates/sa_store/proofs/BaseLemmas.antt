@@ -10,7 +10,7 @@ use Rattle.std.proofs.Common.{nat_eq, nat_le}
 use Rattle.std.proofs.lemmas.Map.Keys.{IsDistinct-cons, IsDistinct-head, IsDistinct-tail}
 use Rattle.pkey_rules.specs.KeyTable.{has_base, same_base}
 use Rattle.pkey_rules.specs.PKey.{base_of}
-use Rattle.result_words.proofs.ListLemmas.{IsDistinct-nil}
+use Rattle.step_results.proofs.ListLemmas.{IsDistinct-nil}
 use Rattle.sa_groups.specs.Sound.{pairwise}
 use Rattle.sa_services.specs.KeyOrder.{by_base, with_key}
 use Rattle.sa_services.proofs.KeyOrderLemmas.{stand_by_base}

@@ -5,7 +5,8 @@ use Rattle.std.specs.List.{IsDistinct, list_all, list_any}
 use Rattle.std.proofs.Math.Bool.{and-false, and-or_distrib_left, and-true, and_comm, or-false, or_assoc, or_comm}
 use Rattle.std.proofs.lemmas.Bool.{and_parts, cases_Bool, eq-eqb, eqb-true, false≢true, ltb-true, ne_eqb, not-true, or_parts}
 use Rattle.std.proofs.lemmas.List.Folds.{list_any-append}
-use Rattle.result_words.proofs.ListLemmas.{found_passes, list_all_weaker, none_passes}
+use Rattle.step_results.proofs.BoolLemmas.{or_none}
+use Rattle.step_results.proofs.ListLemmas.{found_passes, list_all_weaker, none_passes}
 use Rattle.fabric_parts.specs.NodeType.{is_switch_type}
 use Rattle.subnet_model.specs.Configured.{HaveLidsInOrder, same_guid}
 use Rattle.subnet_model.specs.declared.subnet_port.SubnetPort.{SubnetPort}
@@ -28,11 +29,6 @@ use Rattle.sa_store.proofs.ReceiverLemmas.{one_gained}
 abbrev gains : Join → ℕ → Bool
 gains join guid = (join.port == guid) && is_receiver join.join_state
 
-none_more : (a b : Bool) → (a || (b && false)) ≡ a
-none_more true b = refl
-none_more false true = refl
-none_more false false = refl
-
 more_bits : (a f n x y : Bool) → (a && ((f || x) || (n || y))) ≡ ((a && (f || n)) || ((a && (x || y)) && true))
 more_bits false f n x y = refl
 more_bits true true n x y = refl
@@ -51,7 +47,7 @@ one_receives join guid m = elim (cases_Bool (is_of join.port m)) [
       let more = join.join_state in
       rw its (more_bits (m.port == guid) state.full_member state.non_member more.full_member more.non_member
       ∙ ap (λ (port : ℕ). receives guid m || (((port == guid) && is_receiver more) && true)) same)
-  | inr other ↦ rw other (sym (none_more (receives guid m) (gains join guid)))
+  | inr other ↦ rw other (sym (or_none (receives guid m) (gains join guid)))
 ]
 
 apart_and_together : (a g i r j : Bool) → ((a || (g && i)) || (r || (g && j))) ≡ ((a || r) || (g && (i || j)))
@@ -64,7 +60,7 @@ apart_and_together false true false r j = refl
 
 more_receive : (join : Join) (guid : ℕ) (ms : List Membership)
     → list_any (receives guid) (map (more_joined join) ms) ≡ (list_any (receives guid) ms || (gains join guid && list_any (is_of join.port) ms))
-more_receive join guid [] = sym (none_more false (gains join guid))
+more_receive join guid [] = sym (or_none false (gains join guid))
 more_receive join guid (m ∷ ms) =
     (λ place. one_receives join guid m place || more_receive join guid ms place)
     ∙ apart_and_together (receives guid m) (gains join guid) (is_of join.port m) (list_any (receives guid) ms) (list_any (is_of join.port) ms)

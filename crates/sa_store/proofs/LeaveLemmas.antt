@@ -12,6 +12,7 @@ use Rattle.std.proofs.Math.Nat.{pow-succ'}
 use Rattle.subnet_model.specs.declared.subnet_port.SubnetPort.{SubnetPort}
 use Rattle.sa_groups.specs.Anchor.{is_kept as keeps}
 use Rattle.std.proofs.lemmas.Nat.Bits.{and_pow, bit_at-lt, bit_at_and, bit_at_not}
+use Rattle.step_results.proofs.BoolLemmas.{bit_turned}
 use Rattle.sa_groups.specs.Groups.{Membership, MulticastGroup, PartitionGroups, first_mlid, lower_port}
 use Rattle.sa_groups.specs.JoinState.{JoinState, is_joined, without_bits}
 use Rattle.sa_groups.specs.Joining.{has_mgid, is_of}
@@ -133,15 +134,10 @@ nothing_taken leave base (group ∷ groups) named =
     rw (none_taken leave base group group.memberships named, nothing_taken leave base groups named) refl
 
 -- ---- a membership loses bits
-less_one : (x : ℕ) → x < 2 → (1 - x == 1) ≡ not (x == 1)
-less_one zero low = refl
-less_one (suc zero) low = refl
-less_one (suc (suc x)) low = absurd (omega (arith, low))
-
 not_set : (k n : ℕ) → k < 8 → n < 256 → (bit_and (255 - n) (2 ^ k) == 2 ^ k) ≡ not (bit_and n (2 ^ k) == 2 ^ k)
 not_set k n within low =
     let turned : bit_at (255 - n) k ≡ 1 - bit_at n k = bit_at_not w8 n k low within in
-    rw (is_set k (255 - n), is_set k n, turned) (less_one (bit_at n k) (bit_at-lt n k))
+    rw (is_set k (255 - n), is_set k n, turned) (bit_turned (bit_at n k) (bit_at-lt n k))
 
 fewer_bit : (k a b : ℕ) → k < 8 → b < 256 → (bit_and (bit_and a (255 - b)) (2 ^ k) == 2 ^ k) ≡ (bit_and a (2 ^ k) == 2 ^ k) && not (bit_and b (2 ^ k) == 2 ^ k)
 fewer_bit k a b within low =
@@ -261,9 +257,9 @@ pub own_less : (leave : Leave) (memberships : List Membership) (d e : Membership
 own_less leave memberships d e state there at_d at_e is =
     let held = get_or memberships (place_for leave.port memberships) e in
     let one : d ≡ held = at_d ∙ same_item memberships (place_for leave.port memberships) d e (within_there leave.port memberships there) in
-    let told : state ≡ without_bits leave.join_state held.join_state = is ∙ ap (λ (membership : Membership). without_bits leave.join_state membership.join_state) at_e in (
-      ap (λ (membership : Membership). record membership { join_state = state }) one ∙ ap (λ (some : JoinState). record held { join_state = some }) told,
-      ap is_joined told,
+    let reported : state ≡ without_bits leave.join_state held.join_state = is ∙ ap (λ (membership : Membership). without_bits leave.join_state membership.join_state) at_e in (
+      ap (λ (membership : Membership). record membership { join_state = state }) one ∙ ap (λ (some : JoinState). record held { join_state = some }) reported,
+      ap is_joined reported,
     )
 
 -- ---- groups that are not left

@@ -10,7 +10,7 @@ use Rattle.std.proofs.lemmas.List.Quantifiers.{position-Some}
 use Rattle.std.proofs.lemmas.Nat.{and_mask}
 use Rattle.std.proofs.lemmas.Nat.Bits.{bit_at-lt}
 use Rattle.std.proofs.lemmas.Bool.{and_parts, cases_Bool, eq-eqb, eqb-true, false≢true, ne_eqb, or_left}
-use Rattle.result_words.proofs.ListLemmas.{any_none}
+use Rattle.step_results.proofs.ListLemmas.{any_none}
 use Rattle.fabric_parts.specs.NodeType.{is_switch_type}
 use Rattle.subnet_model.specs.Configured.{HaveLidsInOrder, same_guid}
 use Rattle.subnet_model.specs.declared.subnet_port.SubnetPort.{SubnetPort}
@@ -312,10 +312,10 @@ abbrev own_lost : Leave → SlotGroup → SubnetPort → Bool
 own_lost leave group port = loses leave group && ((port.guid == leave.port) && is_end port)
 
 -- the group stays: only the port that leaves can receive no more
-stays_told : (ports : List SubnetPort) (leave : Leave) (group : SlotGroup) → pairwise lower_port group.memberships ≡ true
+stays_reported : (ports : List SubnetPort) (leave : Leave) (group : SlotGroup) → pairwise lower_port group.memberships ≡ true
     → list_any (λ port. is_end port && (list_any (receives port.guid) group.memberships && not (list_any (receives port.guid) (rest_of leave group.memberships)))) ports
     ≡ (loses leave group && is_adapter ports leave.port)
-stays_told ports leave group order =
+stays_reported ports leave group order =
     any_alike (λ port. is_end port && (list_any (receives port.guid) group.memberships && not (list_any (receives port.guid) (rest_of leave group.memberships))))
     (own_lost leave group) each ports
     ∙ any_under (loses leave group) (λ port. (port.guid == leave.port) && is_end port) ports
@@ -351,10 +351,10 @@ stays_told ports leave group order =
         ∙ alone (list_any (receives port.guid) (rest_of leave group.memberships)) (port.guid == leave.port) (loses leave group) (is_end port) (gone port.guid)
 
 -- the group is dropped: nobody receives any more
-drop_told : (ports : List SubnetPort) (leave : Leave) (group : SlotGroup)
+drop_reported : (ports : List SubnetPort) (leave : Leave) (group : SlotGroup)
     → list_any (λ port. is_end port && (list_any (receives port.guid) group.memberships && true)) ports
     ≡ ((loses leave group && is_adapter ports leave.port) || list_any (is_receiving ports) (rest_of leave group.memberships))
-drop_told ports leave group =
+drop_reported ports leave group =
     any_alike (λ port. is_end port && (list_any (receives port.guid) group.memberships && true))
     (λ port. own_lost leave group port || (is_end port && list_any (receives port.guid) (rest_of leave group.memberships))) each ports
     ∙ any_either (own_lost leave group) (λ port. is_end port && list_any (receives port.guid) (rest_of leave group.memberships)) ports
@@ -386,20 +386,20 @@ drop_told ports leave group =
         ap (λ (b : Bool). is_end port && (b && true)) (received_less port.guid leave group.memberships)
         ∙ both (list_any (receives port.guid) (rest_of leave group.memberships)) (port.guid == leave.port) (loses leave group) (is_end port)
 
-slot_told : (ports : List SubnetPort) (base : ℕ) (leave : Leave) (slot : Option SlotGroup) → is_settled slot ≡ true
+slot_reported : (ports : List SubnetPort) (base : ℕ) (leave : Leave) (slot : Option SlotGroup) → is_settled slot ≡ true
     → list_any (λ port. is_end port && (receiving port.guid slot && not (receiving port.guid (left_slot ports base leave slot)))) ports
     ≡ slot_changes ports base leave slot
-slot_told ports base leave None settled =
+slot_reported ports base leave None settled =
     any_alike (λ port. is_end port && false) (λ port. false) (λ port. nothing (is_end port)) ports ∙ any_none ports
   where
     nothing : (a : Bool) → (a && false) ≡ false
     nothing true = refl
     nothing false = refl
-slot_told ports base leave (Some group) settled =
+slot_reported ports base leave (Some group) settled =
     let parts = and_parts (pairwise lower_port group.memberships) _ settled in
     elim (cases_Bool (is_kept ports base (left_by leave group))) [
-      | inl kept ↦ rw kept (stays_told ports leave group parts.0 ∙ sym (or-false (loses leave group && is_adapter ports leave.port)))
-      | inr gone ↦ rw gone (drop_told ports leave group)
+      | inl kept ↦ rw kept (stays_reported ports leave group parts.0 ∙ sym (or-false (loses leave group && is_adapter ports leave.port)))
+      | inr gone ↦ rw gone (drop_reported ports leave group)
     ]
 
 pub slot_changed : (ports : List SubnetPort) (number base : ℕ) (leave : Leave) (slots : List (Option SlotGroup)) (i : ℕ) (d : Option SlotGroup)
@@ -415,7 +415,7 @@ slot_changed ports number base leave slots i d lids distinct within settled =
     ∙ any_alike (λ port. is_end port && (receiving port.guid old && not (receives_in (first_mlid number + i) port.guid after)))
     (λ port. is_end port && (receiving port.guid old && not (receiving port.guid new)))
     (λ port. ap (λ (b : Bool). is_end port && (receiving port.guid old && not b)) (received_now number base port.guid slots i new within)) ports
-    ∙ slot_told ports base leave old settled
+    ∙ slot_reported ports base leave old settled
 
 -- ---- the membership of the port that leaves, as code finds it
 abbrev pub is_less : Leave → Membership → Bool
@@ -499,27 +499,27 @@ unchanged_more ports f (one ∷ partitions) (suc i) d within stays =
       | inr same ↦ rw (e, same) rest
     ]
 
--- ---- what is told of the slot of a group that is left
-pub kept_told : (ports : List SubnetPort) (base : ℕ) (leave : Leave) (slot : Option SlotGroup) (group : SlotGroup) (lost : Bool) → slot ≡ Some group
+-- ---- what is reported of the slot of a group that is left
+pub kept_reported : (ports : List SubnetPort) (base : ℕ) (leave : Leave) (slot : Option SlotGroup) (group : SlotGroup) (lost : Bool) → slot ≡ Some group
     → is_kept ports base (left_by leave group) ≡ true → lost ≡ (loses leave group && is_adapter ports leave.port)
     → lost ≡ slot_changes ports base leave slot
-kept_told ports base leave slot group lost there kept told =
-    rw (there, kept) (told ∙ sym (or-false (loses leave group && is_adapter ports leave.port)))
+kept_reported ports base leave slot group lost there kept reported =
+    rw (there, kept) (reported ∙ sym (or-false (loses leave group && is_adapter ports leave.port)))
 
-pub dropped_told : (ports : List SubnetPort) (base : ℕ) (leave : Leave) (slot : Option SlotGroup) (group : SlotGroup) (lost received : Bool) → slot ≡ Some group
+pub dropped_reported : (ports : List SubnetPort) (base : ℕ) (leave : Leave) (slot : Option SlotGroup) (group : SlotGroup) (lost received : Bool) → slot ≡ Some group
     → is_kept ports base (left_by leave group) ≡ false → lost ≡ (loses leave group && is_adapter ports leave.port)
     → received ≡ list_any (is_receiving ports) (left_by leave group).memberships → (lost || received) ≡ slot_changes ports base leave slot
-dropped_told ports base leave slot group lost received there gone told others =
+dropped_reported ports base leave slot group lost received there gone reported others =
     rw (there, gone)
-    (ap (λ (b : Bool). b || received) told ∙ ap (λ (b : Bool). (loses leave group && is_adapter ports leave.port) || b) others)
+    (ap (λ (b : Bool). b || received) reported ∙ ap (λ (b : Bool). (loses leave group && is_adapter ports leave.port) || b) others)
 
-pub both_told : (loses adapter lost : Bool) → loses ≡ true → lost ≡ adapter → lost ≡ (loses && adapter)
-both_told loses adapter lost does is = is ∙ ap (λ (b : Bool). b && adapter) (sym does)
+pub both_reported : (loses adapter lost : Bool) → loses ≡ true → lost ≡ adapter → lost ≡ (loses && adapter)
+both_reported loses adapter lost does is = is ∙ ap (λ (b : Bool). b && adapter) (sym does)
 
 pub nothing_lost : (loses adapter lost : Bool) → loses ≡ false → lost ≡ false → lost ≡ (loses && adapter)
 nothing_lost loses adapter lost stays is = is ∙ ap (λ (b : Bool). b && adapter) (sym stays)
 
--- ---- what is told of the partition of that slot
+-- ---- what is reported of the partition of that slot
 pub partition_changed : (ports : List SubnetPort) (number base : ℕ) (leave : Leave) (slots : List (Option SlotGroup)) (i : ℕ) (d : Option SlotGroup)
     (partition : PartitionGroups) → partition_in number base slots ≡ partition → position (holds_mgid leave.mgid) slots ≡ Some i
     → list_all (λ group. are_settled group.memberships) partition.groups ≡ true → HaveLidsInOrder ports → IsDistinct same_guid ports

@@ -14,7 +14,7 @@ use Rattle.mad_layout.specs.Bits.{bit_of}
 use Rattle.pkey_rules.specs.declared.key_table.TheConstants.{PARTITIONS}
 use Rattle.pkey_rules.specs.KeyTable.{has_base}
 use Rattle.pkey_rules.specs.PKey.{base_of}
-use Rattle.result_words.proofs.ListLemmas.{all_at}
+use Rattle.step_results.proofs.ListLemmas.{all_at}
 use Rattle.partition_file.specs.declared.heading.Heading.{Heading}
 use Rattle.partition_file.specs.Members.{bases_in}
 use Rattle.subnet_model.specs.Configuration.{ConfigurationState}
@@ -299,7 +299,7 @@ joined_is ports join partitions i d own can =
     ∙ ap (set partitions i) (joined_here ports join (get_or partitions i d) at.is can.may
     (λ none. can.makes (named_in join.base join.mgid partitions i d at ∙ nothing_found (has_mgid join.mgid) (get_or partitions i d).groups none)))
 
--- the number of the partition alone, where it is told
+-- the number of the partition alone, where it is reported
 all_unchanged : (ports : List SubnetPort) (partitions : List PartitionGroups) → numbers_changed ports partitions partitions ≡ []
 all_unchanged ports [] = refl
 all_unchanged ports (partition ∷ partitions) =
@@ -307,16 +307,16 @@ all_unchanged ports (partition ∷ partitions) =
     (unchanged ports partition)
     ∙ all_unchanged ports partitions
 
-pub number_told : (ports : List SubnetPort) (partitions : List PartitionGroups) (i : ℕ) (d new : PartitionGroups) → i < length partitions
+pub number_reported : (ports : List SubnetPort) (partitions : List PartitionGroups) (i : ℕ) (d new : PartitionGroups) → i < length partitions
     → numbers_changed ports partitions (set partitions i new)
     ≡ (if has_changed ports (get_or partitions i d) new then (get_or partitions i d).number ∷ [] else [])
-number_told ports [] i d new within = absurd (omega arith)
-number_told ports (partition ∷ partitions) zero d new within =
+number_reported ports [] i d new within = absurd (omega arith)
+number_reported ports (partition ∷ partitions) zero d new within =
     ap (λ (rest : List ℕ). if has_changed ports partition new then partition.number ∷ rest else rest) (all_unchanged ports partitions)
-number_told ports (partition ∷ partitions) (suc i) d new within =
+number_reported ports (partition ∷ partitions) (suc i) d new within =
     dropped (has_changed ports partition partition) (partition.number ∷ numbers_changed ports partitions (set partitions i new))
     (numbers_changed ports partitions (set partitions i new)) (unchanged ports partition)
-    ∙ number_told ports partitions i d new (omega arith)
+    ∙ number_reported ports partitions i d new (omega arith)
 
 -- ---- the partition of the base of a port's key is there
 known_of : (headings : List Heading) (ports : List SubnetPort) (guid : ℕ) (own : SubnetPort) → AllByRecursion (HoldsKnownKeys headings) ports
@@ -452,7 +452,7 @@ join_numbers join kept headings partitions place_of i d new is can next =
     let at = of_base kept headings partitions place_of join.base i d is can.there in
     let number : new.number ≡ (get_or partitions i d).number = ap (λ (p : PartitionGroups). p.number) next in
     changed_are ports partitions (set partitions i new) (numbers_stay partitions 0 headings is.remembered.partitions) (same_number partitions i d new number)
-    ∙ number_told ports partitions i d new at.within
+    ∙ number_reported ports partitions i d new at.within
     ∙ ap (λ (after : PartitionGroups). if has_changed ports (get_or partitions i d) after then (get_or partitions i d).number ∷ [] else []) next
     ∙ ap (λ (b : Bool). if b then (get_or partitions i d).number ∷ [] else [])
     (join_changes ports join (get_or partitions i d) is.configured.lids is.configured.own_guids

@@ -107,7 +107,7 @@ next_at guid table (one ∷ kept) (suc i) d at =
     let on = further guid one kept i d at in
     rw on.0 (ap (λ rest. record { port = one.port.guid; open_table = one.open_table } ∷ rest) (next_at guid table kept i d on.1))
 
--- ---- a place is told by the ports
+-- ---- a place is reported by the ports
 position_of_map : (guid from : ℕ) (kept : List KeptPort)
     → position_from (λ port. port.guid == guid) from (ports_of kept) ≡ position_from (λ (one : KeptPort). one.port.guid == guid) from kept
 position_of_map guid from [] = refl

@@ -5,7 +5,7 @@ use Rattle.std.specs.List.{AllByRecursion, IsDistinct, list_all, list_any, range
 use Rattle.std.proofs.lemmas.Bool.{and_parts, eqb-true, false≢true, leb-true}
 use Rattle.std.proofs.lemmas.List.Elements.{All-from_recursion}
 use Rattle.std.proofs.lemmas.Map.Keys.{IsDistinct-cons}
-use Rattle.result_words.proofs.ListLemmas.{IsDistinct-nil}
+use Rattle.step_results.proofs.ListLemmas.{IsDistinct-nil}
 use Rattle.partition_file.specs.declared.heading.Heading.{Heading}
 use Rattle.partition_file.specs.Members.{AreSoundHeadings, Membership}
 use Rattle.pkey_rules.specs.KeyTable.{same_base}

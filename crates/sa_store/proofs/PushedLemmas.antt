@@ -10,7 +10,7 @@ use Rattle.std.proofs.lemmas.List.Concat.{flat_map-append}
 use Rattle.std.proofs.lemmas.List.Elements.{filter-append}
 use Rattle.std.proofs.lemmas.List.Sorted.{IsPartitionedBy-ltb}
 use Rattle.std.proofs.lemmas.List.Sums.{prefix_len_is}
-use Rattle.result_words.proofs.ListLemmas.{all_at}
+use Rattle.step_results.proofs.ListLemmas.{all_at}
 use Rattle.subnet_model.specs.declared.group_receiver.GroupReceiver.{GroupReceiver}
 use Rattle.subnet_model.specs.declared.subnet_port.SubnetPort.{SubnetPort}
 use Rattle.sa_groups.specs.Delivery.{receives}
@@ -29,8 +29,8 @@ element_more {X = X} xs i x within is = take_more xs i x within ∙ ap (λ (one 
 
 -- what is pushed goes on
 pub pushed : {X : Type 0} (first items before more after : List X) → items ≡ first ++ before → after ≡ before ++ more → items ++ more ≡ first ++ after
-pushed {X = X} first items before more after is told =
-    ap (λ (some : List X). some ++ more) is ∙ append_assoc first before more ∙ ap (λ (some : List X). first ++ some) (sym told)
+pushed {X = X} first items before more after is reported =
+    ap (λ (some : List X). some ++ more) is ∙ append_assoc first before more ∙ ap (λ (some : List X). first ++ some) (sym reported)
 
 -- ---- one port more
 port_more : (group : MulticastGroup) (kept : List KeptPort) (i : ℕ) (one : KeptPort) → i < length kept → one ≡ get_or kept i one

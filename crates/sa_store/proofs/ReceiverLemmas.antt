@@ -1,4 +1,4 @@
--- Where the receivers of a partition change, told by one MLID and by the GUIDs of ports.
+-- Where the receivers of a partition change, reported by one MLID and by the GUIDs of ports.
 use Rattle.std.proofs.Common.{◌≡◌, ℕ, zero, suc, ◌+◌, ◌<◌, ◌≤◌, ◌==◌, Bool, true, false, not, ◌&&◌, ◌||◌, List, [], ◌∷◌, ◌++◌, length, map, filter, Some}
 use Rattle.std.proofs.Common.{refl, sym, ◌∙◌, ap, subst, inl, inr, arith}
 use Rattle.std.specs.List.{AllByRecursion, IsDistinct, list_all, list_any, range_with_len}
@@ -6,7 +6,7 @@ use Rattle.std.proofs.Math.Bool.{and_comm, or-false}
 use Rattle.std.proofs.lemmas.Bool.{and_from, and_parts, both_ways, cases_Bool, eq-eqb, eqb-true, ne_eqb, not-true, or_left, or_parts, or_right}
 use Rattle.std.proofs.lemmas.List.{append-nil}
 use Rattle.std.proofs.lemmas.Map.Keys.{IsDistinct-head, IsDistinct-tail}
-use Rattle.result_words.proofs.ListLemmas.{all_joined, list_all_weaker, list_any_weaker}
+use Rattle.step_results.proofs.ListLemmas.{all_joined, list_all_weaker, list_any_weaker}
 use Rattle.fabric_parts.specs.NodeType.{is_switch_type}
 use Rattle.subnet_model.specs.Configured.{HaveLidsInOrder, same_guid}
 use Rattle.subnet_model.specs.Delivery.{port_with_guid}
@@ -16,7 +16,7 @@ use Rattle.sa_groups.specs.Delivery.{receives_in}
 use Rattle.sa_groups.specs.Groups.{MulticastGroup, PartitionGroups}
 use Rattle.sa_groups.specs.ReceiverLaws.{is_of_adapter}
 use Rattle.sa_groups.specs.Receivers.{are_same_receivers, changed_numbers, group_receivers, is_among, is_same_receiver, receives_group, receivers_in, receivers_of}
-use Rattle.sa_groups.proofs.ReceiverLemmas.{receivers_are_reached}
+use Rattle.sa_groups.proofs.ReceiverLemmas.{among_too, receivers_are_reached}
 use Rattle.sa_store.specs.Receiving.{has_changed, numbers_changed}
 
 -- ---- a port that passes a test is the one of its GUID
@@ -140,21 +140,6 @@ all_too ports some others lids distinct too =
         ∙ too one.mlid own.port own.found adapter received
 
 -- ---- one comes that was not there
-is_through : (a b c : GroupReceiver) → is_same_receiver a b ≡ true → is_same_receiver b c ≡ true → is_same_receiver a c ≡ true
-is_through a b c first second =
-    let x = and_parts (a.mlid == b.mlid) (a.lid == b.lid) first in
-    let y = and_parts (b.mlid == c.mlid) (b.lid == c.lid) second in
-    and_from _ _ (eq-eqb a.mlid c.mlid (eqb-true a.mlid b.mlid x.0 ∙ eqb-true b.mlid c.mlid y.0)) (eq-eqb a.lid c.lid (eqb-true a.lid b.lid x.1 ∙ eqb-true b.lid c.lid y.1))
-
-among_too : (some others : List GroupReceiver) (one : GroupReceiver) → list_all (is_among others) some ≡ true → is_among some one ≡ true → is_among others one ≡ true
-among_too [] others one all there = absurd (cc)
-among_too (x ∷ some) others one all there =
-    let parts = and_parts (is_among others x) _ all in
-    elim (cases_Bool (is_same_receiver one x)) [
-      | inl this ↦ list_any_weaker (is_same_receiver x) (is_same_receiver one) (λ y same. is_through one x y this same) others parts.0
-      | inr other ↦ among_too some others one parts.1 (rw other at there)
-    ]
-
 not_all : (some others : List GroupReceiver) (one : GroupReceiver) → is_among some one ≡ true → is_among others one ≡ false
     → list_all (is_among others) some ≡ false
 not_all some others one there missing = elim (cases_Bool (list_all (is_among others) some)) [
@@ -304,7 +289,7 @@ changed_from ports before after n (suc count) (one ∷ befores) (other ∷ after
     let tail_too : numbers_of afters ≡ range_with_len (n + 1) count = cc in
     let old = was n (omega arith) ∙ own_numbered ports n count one befores numbers in
     let new = is n (omega arith) ∙ own_numbered ports n count other afters same in
-    let told : changes_at ports before after one.number ≡ has_changed ports one other =
+    let reported : changes_at ports before after one.number ≡ has_changed ports one other =
     ap (changes_at ports before after) number
     ∙ ap (λ (all : List GroupReceiver). not (are_same_receivers all (receivers_of ports n after))) old
     ∙ ap (λ (all : List GroupReceiver). not (are_same_receivers (receivers_in ports one) all)) new in
@@ -312,9 +297,9 @@ changed_from ports before after n (suc count) (one ∷ befores) (other ∷ after
     (rest_are ports n count before one befores numbers was) (rest_are ports n count after other afters same is) in
     elim (cases_Bool (has_changed ports one other)) [
       | inl changed ↦
-          let here : changes_at ports before after one.number ≡ true = told ∙ changed in
+          let here : changes_at ports before after one.number ≡ true = reported ∙ changed in
           rw (here, changed) (ap (λ (others : List ℕ). one.number ∷ others) rest)
-      | inr stays ↦ let here : changes_at ports before after one.number ≡ false = told ∙ stays in rw (here, stays) rest
+      | inr stays ↦ let here : changes_at ports before after one.number ≡ false = reported ∙ stays in rw (here, stays) rest
     ]
 
 pub changed_are : (ports : List SubnetPort) (before after : List PartitionGroups)

@@ -74,8 +74,8 @@ some_from first k (Some group ∷ slots) = rw (twice_none (free_slots slots)) (s
 
 pub some_free : (number base free : ℕ) (slots : List (Option SlotGroup)) (partition : PartitionGroups) → length slots ≡ 32 → free ≡ free_slots slots
     → partition_in number base slots ≡ partition → not (free == 0) ≡ not (is_none (free_mlid partition))
-some_free number base free slots partition all told is =
-    ap (λ (n : ℕ). not (n == 0)) told
+some_free number base free slots partition all reported is =
+    ap (λ (n : ℕ). not (n == 0)) reported
     ∙ some_from (first_mlid number) 0 slots
     ∙ ap (λ (mlid : Option ℕ). not (is_none (option_map (λ (j : ℕ). first_mlid number + j) mlid))) (sym (position_from-zero is_none slots))
     ∙ ap (λ (mlid : Option ℕ). not (is_none mlid)) (sym (free_is number base slots all))
@@ -254,9 +254,9 @@ pub bit_cleared : (slots : List (Option SlotGroup)) (group : SlotGroup) → leng
     → bit_and (free_slots slots) (bit_not w32 (1 * 2 ^ free_place slots % 2 ^ 32)) ≡ free_slots (set slots (free_place slots) (Some group))
 bit_cleared slots group all some low =
     let place = lowest slots all some in
-    let told = bit_at-trailing_zeros w32 (free_slots slots) some low in
-    let within : free_place slots < 32 = rw place at told.0 in
-    let one : bit_at (free_slots slots) (free_place slots) ≡ 1 = rw place at told.1 in
+    let reported = bit_at-trailing_zeros w32 (free_slots slots) some low in
+    let within : free_place slots < 32 = rw place at reported.0 in
+    let one : bit_at (free_slots slots) (free_place slots) ≡ 1 = rw place at reported.1 in
     let a = cleared (free_slots slots) (free_place slots) within low one in
     let b = taken slots group (omega (arith, all, within)) in
     omega (arith, a, b)
@@ -264,8 +264,8 @@ bit_cleared slots group all some low =
 pub free_within : (slots : List (Option SlotGroup)) → length slots ≡ 32 → 0 < free_slots slots → free_slots slots < 2 ^ 32 → free_place slots < 32
 free_within slots all some low =
     let place = lowest slots all some in
-    let told = bit_at-trailing_zeros w32 (free_slots slots) some low in
-    rw place at told.0
+    let reported = bit_at-trailing_zeros w32 (free_slots slots) some low in
+    rw place at reported.0
 
 pub partition_made : (join : Join) (number base : ℕ) (slots : List (Option SlotGroup)) (partition : PartitionGroups) → length slots ≡ 32
     → free_place slots < 32 → partition_in number base slots ≡ partition
@@ -287,8 +287,8 @@ nothing false h = absurd (false≢true h)
 pub partition_full : (join : Join) (number base free : ℕ) (slots : List (Option SlotGroup)) (partition : PartitionGroups) → length slots ≡ 32
     → free ≡ free_slots slots → partition_in number base slots ≡ partition → free ≡ 0
     → partition ≡ record partition { groups = with_created join (free_mlid partition) partition.groups }
-partition_full join number base free slots partition all told is full =
-    let some = some_free number base free slots partition all told is in
+partition_full join number base free slots partition all reported is full =
+    let some = some_free number base free slots partition all reported is in
     let none = nothing (is_none (free_mlid partition)) (ap (λ (n : ℕ). not (n == 0)) (sym full) ∙ some) in
     ap (λ (some : List MulticastGroup). record partition { groups = some }) (not_made join (free_mlid partition) partition.groups none)
 

@@ -1,5 +1,5 @@
 -- A registry before the first command.
-use Rattle.std.proofs.Common.{◌≡◌, ℕ, ◌++◌, List, [], ◌∷◌, map, None, refl, ◌∙◌, ap, sym, ◌+◌, ◌<◌, Bool, true, false, length, get_or, inl, inr}
+use Rattle.std.proofs.Common.{◌≡◌, ℕ, ◌++◌, List, [], ◌∷◌, map, None, refl, ◌∙◌, ap, sym, ◌<◌, Bool, true, length, get_or, inl, inr}
 use Rattle.partition_file.specs.declared.heading.Heading.{Heading}
 use Rattle.pkey_rules.specs.PKey.{base_of, is_base}
 use Rattle.subnet_model.specs.declared.subnet_port.SubnetPort.{SubnetPort}

@@ -30,7 +30,7 @@ pub record IsPrepared (port : SubnetPort) (keys : List ℕ) (shown : NodeRecord)
     : Type 0 where
   pub keys_stand : keys ≡ by_base port.keys
   pub node : shown ≡ node_record_of port
-  pub spelt : bytes ≡ node_bytes port
+  pub encoded : bytes ≡ node_bytes port
   pub places_stand : map (λ place. place.base) places ≡ map base_of (by_base port.keys)
 
 -- ---- of all ports

@@ -43,9 +43,9 @@ abbrev pub is_settled : Option SlotGroup → Bool
 is_settled slot = option_map_or (λ group. are_settled group.memberships) slot true
 
 -- ---- what keeps a group
--- a test of GUIDs tells the full members of the partition of a base
-abbrev pub TellsFull : (ℕ → Bool → Type 0) → List SubnetPort → ℕ → Type 0
-TellsFull test ports base = (guid : ℕ) (told : Bool) → guid < 2 ^ 64 → test guid told → told ≡ is_full_member ports base guid
+-- a test of GUIDs reports the full members of the partition of a base
+abbrev pub ReportsFull : (ℕ → Bool → Type 0) → List SubnetPort → ℕ → Type 0
+ReportsFull test ports base = (guid : ℕ) (reported : Bool) → guid < 2 ^ 64 → test guid reported → reported ≡ is_full_member ports base guid
 
 abbrev pub is_kept : List SubnetPort → ℕ → SlotGroup → Bool
 is_kept ports base group = is_by_file group.creator || list_any (anchors ports base) group.memberships

@@ -30,7 +30,7 @@ parameters_of kept = record {
   scope = kept.scope;
 }
 
--- a group in its slot: all of it but its MLID, which its slot tells
+-- a group in its slot: all of it but its MLID, which its slot reports
 pub record SlotGroup : Type 0 where
   pub mgid : ℕ
   pub parameters : Parameters
@@ -58,12 +58,12 @@ free_slots [] = 0
 free_slots (None ∷ slots) = 1 + 2 * free_slots slots
 free_slots (Some group ∷ slots) = 2 * free_slots slots
 
--- a partition has one of the numbers that there are, a base, and a slot for each of its MLIDs, and the set tells which are free
+-- a partition has one of the numbers that there are, a base, and a slot for each of its MLIDs, and the set reports which are free
 pub record AreSlots (number base : ℕ) (slots : List (Option SlotGroup)) (free : ℕ) : Type 0 where
   pub numbered : number < PARTITIONS
   pub based : is_base base ≡ true
   pub all : length slots ≡ 32
-  pub told : free ≡ free_slots slots
+  pub reported : free ≡ free_slots slots
 
 abbrev pub partition_in : ℕ → ℕ → List (Option SlotGroup) → PartitionGroups
 partition_in number base slots = record { number = number; base = base; groups = groups_in (first_mlid number) slots }

@@ -15,9 +15,9 @@ use Rattle.sa_store.specs.MlidRange.{SlotGroup}
 abbrev pub is_adapter : List SubnetPort → ℕ → Bool
 is_adapter ports guid = list_any (λ port. (port.guid == guid) && not (is_switch_type port.node_type)) ports
 
--- a test of GUIDs tells them
-abbrev pub TellsAdapters : (ℕ → Bool → Type 0) → List SubnetPort → Type 0
-TellsAdapters test ports = (guid : ℕ) (told : Bool) → guid < 2 ^ 64 → test guid told → told ≡ is_adapter ports guid
+-- a test of GUIDs reports them
+abbrev pub ReportsAdapters : (ℕ → Bool → Type 0) → List SubnetPort → Type 0
+ReportsAdapters test ports = (guid : ℕ) (reported : Bool) → guid < 2 ^ 64 → test guid reported → reported ≡ is_adapter ports guid
 
 -- by this membership such a port receives
 abbrev pub is_receiving : List SubnetPort → Membership → Bool

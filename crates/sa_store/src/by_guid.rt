@@ -1,4 +1,4 @@
-//! What is told of ports by their GUIDs.
+//! What is reported of ports by their GUIDs.
 
 ghost use Rattle.std.specs.Prelude.{◌≡◌, ◌<◌, true, nat_eq};
 ghost use Rattle.std.specs.List.{IsDistinct};

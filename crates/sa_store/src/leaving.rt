@@ -12,8 +12,8 @@ ghost use Rattle.sa_groups.specs.Sound.{is_sound, is_sound_partition, other_mgid
 ghost use Rattle.sa_replies.specs.Joins.{join_state_of};
 ghost use Rattle.sa_store.specs.Kept.{ports_of};
 ghost use Rattle.sa_store.specs.Registry.{Finds};
-ghost use Rattle.sa_store.specs.Left.{TellsFull, are_settled, is_kept, is_settled, left_by, left_slot};
-ghost use Rattle.sa_store.specs.Receiving.{TellsAdapters, has_changed, loses, numbers_changed, slot_changes};
+ghost use Rattle.sa_store.specs.Left.{ReportsFull, are_settled, is_kept, is_settled, left_by, left_slot};
+ghost use Rattle.sa_store.specs.Receiving.{ReportsAdapters, has_changed, loses, numbers_changed, slot_changes};
 
 use crate::by_guid::{is_adapter, is_full_member};
 use crate::group::{Creator, Group, Membership};
@@ -86,7 +86,7 @@ impl Leave {
 
 impl MlidRange {
     /// A port leaves its group in this partition; whether others receive what is sent to its groups then. The group goes where
-    /// nothing keeps it. One test tells the full members of the partition, the other the ports of channel adapters.
+    /// nothing keeps it. One test reports the full members of the partition, the other the ports of channel adapters.
     pub(crate) fn leave<F: Fn(u64) -> bool, A: Fn(u64) -> bool>(
         &mut self,
         leave: &Leave,
@@ -97,10 +97,10 @@ impl MlidRange {
         requires settled { list_all (λ group. are_settled group.memberships) self.old.groups ≡ true }
         requires callable { F.IsAlwaysCallable is_full_member.now }
         requires callable_too { A.IsAlwaysCallable is_adapter.now }
-        ensures next { (ports : List SubnetPort) → TellsFull (F.post is_full_member.now) ports self.old.base
+        ensures next { (ports : List SubnetPort) → ReportsFull (F.post is_full_member.now) ports self.old.base
             → list_all (keeps ports self.old.base) self.old.groups ≡ true → self.new ≡ left_in ports leave.now self.old }
-        ensures changed { (ports : List SubnetPort) → TellsFull (F.post is_full_member.now) ports self.old.base
-            → TellsAdapters (A.post is_adapter.now) ports → HaveLidsInOrder ports → IsDistinct same_guid ports
+        ensures changed { (ports : List SubnetPort) → ReportsFull (F.post is_full_member.now) ports self.old.base
+            → ReportsAdapters (A.post is_adapter.now) ports → HaveLidsInOrder ports → IsDistinct same_guid ports
             → result ≡ has_changed ports self.old self.new }
     {
         if !leave.names_base(self.base()) {
@@ -185,10 +185,10 @@ impl Group {
         loses
     }
 
-    /// Whether the partition file or some membership keeps the group, by a test that tells the full members of its partition.
+    /// Whether the partition file or some membership keeps the group, by a test that reports the full members of its partition.
     fn is_kept<F: Fn(u64) -> bool>(&self, is_full_member: &F) -> bool
         requires { F.IsAlwaysCallable is_full_member.now }
-        ensures { (ports : List SubnetPort) (base : ℕ) → TellsFull (F.post is_full_member.now) ports base
+        ensures { (ports : List SubnetPort) (base : ℕ) → ReportsFull (F.post is_full_member.now) ports base
             → result ≡ is_kept ports base self.now }
     {
         match self.creator {
@@ -224,7 +224,7 @@ impl Membership {
     /// Whether the membership keeps its group.
     fn anchors<F: Fn(u64) -> bool>(&self, is_full_member: &F) -> bool
         requires { F.IsAlwaysCallable is_full_member.now }
-        ensures { (ports : List SubnetPort) (base : ℕ) → TellsFull (F.post is_full_member.now) ports base
+        ensures { (ports : List SubnetPort) (base : ℕ) → ReportsFull (F.post is_full_member.now) ports base
             → result ≡ anchors ports base self.now }
     {
         self.join_state.contains(JoinState::FULL_MEMBER) && is_full_member(self.port)
@@ -248,10 +248,10 @@ fn leave_slot<F: Fn(u64) -> bool, A: Fn(u64) -> bool>(
     requires settled { is_settled slot.old ≡ true }
     requires callable { F.IsAlwaysCallable is_full_member.now }
     requires callable_too { A.IsAlwaysCallable is_adapter.now }
-    ensures next { (ports : List SubnetPort) (base : ℕ) → TellsFull (F.post is_full_member.now) ports base
+    ensures next { (ports : List SubnetPort) (base : ℕ) → ReportsFull (F.post is_full_member.now) ports base
         → slot.new ≡ left_slot ports base leave.now slot.old }
-    ensures changed { (ports : List SubnetPort) (base : ℕ) → TellsFull (F.post is_full_member.now) ports base
-        → TellsAdapters (A.post is_adapter.now) ports → result ≡ slot_changes ports base leave.now slot.old }
+    ensures changed { (ports : List SubnetPort) (base : ℕ) → ReportsFull (F.post is_full_member.now) ports base
+        → ReportsAdapters (A.post is_adapter.now) ports → result ≡ slot_changes ports base leave.now slot.old }
 {
     let Some(group) = slot else {
         return false;
@@ -268,7 +268,7 @@ fn leave_slot<F: Fn(u64) -> bool, A: Fn(u64) -> bool>(
 /// Whether some membership keeps its group.
 fn some_anchors<F: Fn(u64) -> bool>(memberships: &[Membership], is_full_member: &F) -> bool
     requires { F.IsAlwaysCallable is_full_member.now }
-    ensures { (ports : List SubnetPort) (base : ℕ) → TellsFull (F.post is_full_member.now) ports base
+    ensures { (ports : List SubnetPort) (base : ℕ) → ReportsFull (F.post is_full_member.now) ports base
         → result ≡ list_any (anchors ports base) memberships.now }
 {
     for membership in memberships {

@@ -10,7 +10,7 @@ ghost use Rattle.sa_groups.specs.Receivers.{group_receivers, receivers_in, recei
 ghost use Rattle.sa_groups.specs.Sound.{pairwise};
 ghost use Rattle.sa_replies.specs.Joins.{join_state_of};
 ghost use Rattle.sa_store.specs.Kept.{ports_of};
-ghost use Rattle.sa_store.specs.Receiving.{TellsAdapters, is_receiving};
+ghost use Rattle.sa_store.specs.Receiving.{ReportsAdapters, is_receiving};
 ghost use Rattle.sa_store.specs.MlidRange.{with_mlid};
 
 use crate::group::{Group, Membership};
@@ -28,7 +28,7 @@ impl Store {
     /// Who receives what is sent to the multicast groups of the partition of this number: pairs of an MLID and the LID of a
     /// channel adapter's port, by MLID and then by LID. None for a number that no partition has.
     ///
-    /// Memory alone can be refused, and the registry stays as it is; one to which memory was refused before refuses this too.
+    /// It can only run out of memory, and the registry stays as it is; one in which an allocation failed before refuses this too.
     ///
     /// Source: IBA volume 1, 15.2.5 (JoinState): ports that joined as SendOnlyNonMember receive nothing.
     pub fn receivers(&self, partition: u16) -> Result<Vec<GroupReceiver>, AllocError>
@@ -112,10 +112,10 @@ fn some_receives(memberships: &[Membership], guid: u64) -> bool
     }
 }
 
-/// Whether a port of a channel adapter receives by one of these memberships, by a test that tells such ports.
+/// Whether a port of a channel adapter receives by one of these memberships, by a test that reports such ports.
 pub(crate) fn some_receiving<A: Fn(u64) -> bool>(memberships: &[Membership], is_adapter: &A) -> bool
     requires { A.IsAlwaysCallable is_adapter.now }
-    ensures { (ports : List Port) → TellsAdapters (A.post is_adapter.now) ports
+    ensures { (ports : List Port) → ReportsAdapters (A.post is_adapter.now) ports
         → result ≡ list_any (is_receiving ports) memberships.now }
 {
     for membership in memberships {
@@ -134,10 +134,10 @@ impl Membership {
         self.port == guid && is_receiver(self.join_state)
     }
 
-    /// Whether by it a port of a channel adapter receives, by a test that tells such ports.
+    /// Whether by it a port of a channel adapter receives, by a test that reports such ports.
     fn is_receiving<A: Fn(u64) -> bool>(&self, is_adapter: &A) -> bool
         requires { A.IsAlwaysCallable is_adapter.now }
-        ensures { (ports : List Port) → TellsAdapters (A.post is_adapter.now) ports → result ≡ is_receiving ports self.now }
+        ensures { (ports : List Port) → ReportsAdapters (A.post is_adapter.now) ports → result ≡ is_receiving ports self.now }
     {
         is_receiver(self.join_state) && is_adapter(self.port)
     }

@@ -8,8 +8,8 @@ use Rattle.std.proofs.lemmas.List.{length-replicate, replicate-append-replicate}
 use Rattle.std.proofs.lemmas.Option.{none-some, same_Some}
 use Rattle.mad_layout.specs.Bits.{put_field}
 use Rattle.mad_layout.specs.declared.sa_mad.SaMad.{SaMad}
-use Rattle.result_words.proofs.StepLemmas.{same_err, same_ok}
-use Rattle.result_words.specs.Steps.{◌>>=◌}
+use Rattle.step_results.proofs.StepLemmas.{same_err, same_ok}
+use Rattle.step_results.specs.Steps.{◌>>=◌}
 use Rattle.sa_records.specs.declared.sa_attribute.SaAttribute.{SaAttribute}
 use Rattle.sa_records.specs.declared.sa_attribute.SaAttribute.TheVariants as attribute
 use Rattle.sa_records.specs.declared.sa_record.SaRecord.{SaRecord}
@@ -51,24 +51,24 @@ begins kind blank words left same fits zeros all = record {
       ∙ all_asked kind words;
 }
 
--- ---- what the code's steps tell
+-- ---- what the code's steps report
 some_left : (n : ℕ) → (n ≡ 0 → ⊥) → (n == 0) ≡ false
 some_left n some = elim (cases_Bool (n == 0)) [
   | inl none ↦ absurd (some (eqb-true n 0 none))
   | inr left ↦ left
 ]
 
-pub some_told : {X E : Type 0} (o : Option X) (e : E) (r : Result X E) (x : X) → r ≡ ok_or o e → r ≡ Ok x → o ≡ Some x
-some_told None e r x is was = absurd (cc (sym is ∙ was))
-some_told (Some y) e r x is was = ap (λ z. Some z) (same_ok y x (sym is ∙ was))
+pub some_reported : {X E : Type 0} (o : Option X) (e : E) (r : Result X E) (x : X) → r ≡ ok_or o e → r ≡ Ok x → o ≡ Some x
+some_reported None e r x is was = absurd (cc (sym is ∙ was))
+some_reported (Some y) e r x is was = ap (λ z. Some z) (same_ok y x (sym is ∙ was))
 
-pub none_told : {X E : Type 0} (o : Option X) (e : E) (r : Result X E) (d : E) → r ≡ ok_or o e → r ≡ Err d → (o ≡ None) × (d ≡ e)
-none_told None e r d is was = (refl, same_err d e (sym was ∙ is))
-none_told (Some y) e r d is was = absurd (cc (sym is ∙ was))
+pub none_reported : {X E : Type 0} (o : Option X) (e : E) (r : Result X E) (d : E) → r ≡ ok_or o e → r ≡ Err d → (o ≡ None) × (d ≡ e)
+none_reported None e r d is was = (refl, same_err d e (sym was ∙ is))
+none_reported (Some y) e r d is was = absurd (cc (sym is ∙ was))
 
-pub ok_told : {X E : Type 0} (r : Result X E) (x : X) → Some x ≡ result_ok r → r ≡ Ok x
-ok_told (Ok y) x is = ap (λ z. Ok z) (sym (same_Some x y is))
-ok_told (Err e) x is = absurd (none-some x (sym is))
+pub ok_reported : {X E : Type 0} (r : Result X E) (x : X) → Some x ≡ result_ok r → r ≡ Ok x
+ok_reported (Ok y) x is = ap (λ z. Ok z) (sym (same_Some x y is))
+ok_reported (Err e) x is = absurd (none-some x (sym is))
 
 -- ---- one word more
 next_of : (kind : SaAttribute) (mask : ℕ) (asked : SaRecord) (word : List ℕ) (left rest : List (List ℕ)) (all : Result SaMad ScriptCause) → left ≡ word ∷ rest
@@ -81,16 +81,16 @@ next_of kind mask asked word left rest all first before =
     ∙ before.same
 
 -- that names a field
-is_named : (one : Option Named) (old new : SaRecord) (told : Option ℕ) (bits : ℕ) → AsksToo one old new told → told ≡ Some bits
+is_named : (one : Option Named) (old new : SaRecord) (reported : Option ℕ) (bits : ℕ) → AsksToo one old new reported → reported ≡ Some bits
     → (named : Named) × (one ≡ Some named) × (named.bits ≡ bits) × IsPut old new named
-is_named None old new told bits asks is = absurd (none-some bits (sym asks.bits ∙ is))
-is_named (Some named) old new told bits asks is = (named, refl, same_Some named.bits bits (sym asks.bits ∙ is), asks.set)
+is_named None old new reported bits asks is = absurd (none-some bits (sym asks.bits ∙ is))
+is_named (Some named) old new reported bits asks is = (named, refl, same_Some named.bits bits (sym asks.bits ∙ is), asks.set)
 
-pub goes_on : (kind : SaAttribute) (mask bits : ℕ) (old new : SaRecord) (told : Option ℕ) (word : List ℕ) (left rest : List (List ℕ)) (all : Result SaMad ScriptCause)
-    → left ≡ word ∷ rest → IsAsked kind mask old left all → AsksToo (named_in (attribute_of old) word) old new told → told ≡ Some bits
+pub goes_on : (kind : SaAttribute) (mask bits : ℕ) (old new : SaRecord) (reported : Option ℕ) (word : List ℕ) (left rest : List (List ℕ)) (all : Result SaMad ScriptCause)
+    → left ≡ word ∷ rest → IsAsked kind mask old left all → AsksToo (named_in (attribute_of old) word) old new reported → reported ≡ Some bits
     → bit_and mask bits ≡ 0 → IsAsked kind (bit_or mask bits) new rest all
-goes_on kind mask bits old new told word left rest all first before asks is free =
-    let named = is_named (named_in (attribute_of old) word) old new told bits asks is in
+goes_on kind mask bits old new reported word left rest all first before asks is free =
+    let named = is_named (named_in (attribute_of old) word) old new reported bits asks is in
     let one = named.0 in
     let own : (bit_and mask one.bits == 0) ≡ true = ap (λ (n : ℕ). bit_and mask n == 0) named.2 ∙ ap (λ (n : ℕ). n == 0) free in
     let taken : with_field mask (data_with old) (named_in (attribute_of old) word) ≡ Ok (bit_or mask bits, data_with new) =
@@ -104,11 +104,11 @@ goes_on kind mask bits old new told word left rest all first before asks is free
     }
 
 -- that names one twice
-pub named_twice : (kind : SaAttribute) (mask bits : ℕ) (old new : SaRecord) (told : Option ℕ) (word : List ℕ) (left rest : List (List ℕ)) (all : Result SaMad ScriptCause)
-    → left ≡ word ∷ rest → IsAsked kind mask old left all → AsksToo (named_in (attribute_of old) word) old new told → told ≡ Some bits
+pub named_twice : (kind : SaAttribute) (mask bits : ℕ) (old new : SaRecord) (reported : Option ℕ) (word : List ℕ) (left rest : List (List ℕ)) (all : Result SaMad ScriptCause)
+    → left ≡ word ∷ rest → IsAsked kind mask old left all → AsksToo (named_in (attribute_of old) word) old new reported → reported ≡ Some bits
     → (bit_and mask bits ≡ 0 → ⊥) → all ≡ Err BadField
-named_twice kind mask bits old new told word left rest all first before asks is taken =
-    let named = is_named (named_in (attribute_of old) word) old new told bits asks is in
+named_twice kind mask bits old new reported word left rest all first before asks is taken =
+    let named = is_named (named_in (attribute_of old) word) old new reported bits asks is in
     let one = named.0 in
     let own : (bit_and mask one.bits == 0) ≡ false = ap (λ (n : ℕ). bit_and mask n == 0) named.2 ∙ some_left (bit_and mask bits) taken in
     let refused : with_field mask (data_with old) (named_in (attribute_of old) word) ≡ Err BadField =
@@ -117,16 +117,16 @@ named_twice kind mask bits old new told word left rest all first before asks is 
     ∙ ap (λ (given : Result (ℕ × List ℕ) ScriptCause). given >>= λ next. asked_from kind next.0 next.1 rest) refused
 
 -- that names none
-pub names_none : (kind : SaAttribute) (mask : ℕ) (old new : SaRecord) (told : Option ℕ) (word : List ℕ) (left rest : List (List ℕ)) (all : Result SaMad ScriptCause)
-    → left ≡ word ∷ rest → IsAsked kind mask old left all → AsksToo (named_in (attribute_of old) word) old new told → told ≡ None
+pub names_none : (kind : SaAttribute) (mask : ℕ) (old new : SaRecord) (reported : Option ℕ) (word : List ℕ) (left rest : List (List ℕ)) (all : Result SaMad ScriptCause)
+    → left ≡ word ∷ rest → IsAsked kind mask old left all → AsksToo (named_in (attribute_of old) word) old new reported → reported ≡ None
     → all ≡ Err BadField
-names_none kind mask old new told word left rest all first before asks none =
+names_none kind mask old new reported word left rest all first before asks none =
     let refused : with_field mask (data_with old) (named_in (attribute_of old) word) ≡ Err BadField =
     by (named_in (attribute_of old) word) asks in
     sym (next_of kind mask old word left rest all first before)
     ∙ ap (λ (given : Result (ℕ × List ℕ) ScriptCause). given >>= λ next. asked_from kind next.0 next.1 rest) refused
   where
-    by : (one : Option Named) → AsksToo one old new told → with_field mask (data_with old) one ≡ Err BadField
+    by : (one : Option Named) → AsksToo one old new reported → with_field mask (data_with old) one ≡ Err BadField
     by None asks = refl
     by (Some named) asks = absurd (none-some named.bits (sym none ∙ asks.bits))
 

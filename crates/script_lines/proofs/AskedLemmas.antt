@@ -13,7 +13,7 @@ use Rattle.std.proofs.lemmas.Slice.Eq.{bytes_eq-Decides}
 use Rattle.mad_layout.specs.Bits.{number, put_field}
 use Rattle.mad_layout.specs.Layout.{Field, Fits, at, is_layout, put_all}
 use Rattle.mad_layout.proofs.AlignedLemmas.{put_aligned}
-use Rattle.mad_layout.proofs.LayoutLemmas.{below_dropped, below_taken, length-put_all, length-put_field, put_below, spelled_below, zeros_below}
+use Rattle.mad_layout.proofs.LayoutLemmas.{below_dropped, below_taken, length-put_all, length-put_field, put_below, encoded_below, zeros_below}
 use Rattle.mad_layout.proofs.NumberLemmas.{number_below}
 use Rattle.sa_records.specs.declared.sa_record.SaRecord.{SaRecord}
 use Rattle.sa_records.specs.declared.sa_record.SaRecord.TheVariants.{Node, Path, Group, Service}
@@ -26,7 +26,7 @@ use Rattle.sa_records.specs.SaRecord.{AskedBy, RecordFits, ServiceAskedBy, attri
 use Rattle.sa_records.specs.ServiceRecord.{service_data_asked, service_fields, service_record, service_record_asked, service_record_bytes}
 use Rattle.script_lines.specs.Ask.{Named, holding, in_record, name_bytes, name_of, numbered, service_named}
 use Rattle.script_lines.specs.Asking.{AsksToo, IfService, ServiceFits}
-use Rattle.script_lines.specs.SpeltBytes.{written_in}
+use Rattle.script_lines.specs.EncodedBytes.{written_in}
 use Rattle.script_lines.specs.declared.script_cause.ScriptCause.{ScriptCause}
 use Rattle.script_lines.proofs.PutLemmas.{put_valued, put_window, stands}
 
@@ -67,11 +67,11 @@ put_front bytes off len value below within narrow =
     ∙ put_window [] bytes zeros off len value tt below (zeros_below (200 - length bytes)) within narrow
     ∙ ap (λ (n : ℕ). put_field bytes off len value ++ replicate (200 - n) 0) (sym (length-put_field bytes off len value))
 
-abbrev spelled : ℕ → List Field → List ℕ
-spelled size layout = put_all (replicate size 0) layout
+abbrev encoded : ℕ → List Field → List ℕ
+encoded size layout = put_all (replicate size 0) layout
 
-spelled_long : (size : ℕ) (layout : List Field) → length (spelled size layout) ≡ size
-spelled_long size layout = length-put_all (replicate size 0) layout ∙ length-replicate size 0
+encoded_long : (size : ℕ) (layout : List Field) → length (encoded size layout) ≡ size
+encoded_long size layout = length-put_all (replicate size 0) layout ∙ length-replicate size 0
 
 -- the field lies in the record, and is one of its layout's
 unfoldable is_in : ℕ → List Field → Asked → Bool
@@ -83,7 +83,7 @@ not_true true is = absurd (false≢true is)
 
 -- ---- a field of the layout
 abbrev Puts : ℕ → List Field → List Field → Named → Type 0
-Puts size old new one = padded (spelled size new) ≡ put_field (padded (spelled size old)) one.place.off one.place.len one.place.value
+Puts size old new one = padded (encoded size new) ≡ put_field (padded (encoded size old)) one.place.off one.place.len one.place.value
 
 puts : (size : ℕ) (old new : List Field) (value : ℕ) (one : Asked) → is_layout (8 * size) old ≡ true → Fits old
     → IsFound (is_in size old) value one → new ≡ with_value value (Some one) old → Puts size old new (holding value one)
@@ -92,11 +92,11 @@ puts size old new value one layout fits is same =
     let parts = and_parts (nat_le (one.off + one.len) (8 * size)) _ is.passes in
     let zeros : List ℕ = replicate size 0 in
     let test : is_layout (8 * length zeros) old ≡ true = ap (λ (n : ℕ). is_layout (8 * n) old) (length-replicate size 0) ∙ layout in
-    let long = spelled_long size old in
+    let long = encoded_long size old in
     let inside = leb-true (one.off + one.len) (8 * size) parts.0 in
-    ap (λ (layout : List Field). padded (spelled size layout)) same
+    ap (λ (layout : List Field). padded (encoded size layout)) same
     ∙ ap padded (put_valued zeros old one.off one.len value (zeros_below size) test fits parts.1 is.narrow)
-    ∙ sym (put_front (spelled size old) one.off one.len value (spelled_below old size) (omega (arith, long, inside)) is.narrow)
+    ∙ sym (put_front (encoded size old) one.off one.len value (encoded_below old size) (omega (arith, long, inside)) is.narrow)
 
 puts_found : (size : ℕ) (fields : List Asked) (name : List ℕ) (value : ℕ) (old new : List Field) → list_all (is_in size old) fields ≡ true
     → is_layout (8 * size) old ≡ true → Fits old → new ≡ with_value value (asked_by name value fields) old
@@ -132,7 +132,7 @@ nested bytes part off len value below long own wide within narrow =
     ∙ ap (λ (n : ℕ). put_field (a ++ (part ++ c)) n len value) (sym place)
     ∙ ap (λ (some : List ℕ). put_field some (896 + off) len value) before
 
--- the fields before the data, and the bytes that they spell
+-- the fields before the data, and the bytes that they encode
 abbrev before_data : ServiceRecord → List Field
 before_data one = service_fields one ++ at 384 512 (number one.service_name) ∷ []
 
@@ -143,13 +143,13 @@ puts_number old new value one fits fields name numbers within narrow =
     let front : before_data new ≡ before_data old =
     ap (λ (some : List Field). some ++ at 384 512 (number new.service_name) ∷ []) fields
     ∙ ap (λ (bytes : List ℕ). service_fields old ++ at 384 512 (number bytes) ∷ []) name in
-    let bytes = spelled 176 (before_data old) in
-    let long = spelled_long 176 (before_data old) in
-    let all = spelled_long 176 (service_record old) in
-    ap (λ (some : List Field). padded (put_field (spelled 176 some) 896 512 (number new.service_data))) front
+    let bytes = encoded 176 (before_data old) in
+    let long = encoded_long 176 (before_data old) in
+    let all = encoded_long 176 (service_record old) in
+    ap (λ (some : List Field). padded (put_field (encoded 176 some) 896 512 (number new.service_data))) front
     ∙ ap (λ (part : List ℕ). padded (put_field bytes 896 512 (number part))) numbers
-    ∙ ap padded (nested bytes old.service_data one.off one.len value (spelled_below (before_data old) 176) long fits.below fits.long within narrow)
-    ∙ sym (put_front (spelled 176 (service_record old)) (896 + one.off) one.len value (spelled_below (service_record old) 176) (omega (arith, all)) narrow)
+    ∙ ap padded (nested bytes old.service_data one.off one.len value (encoded_below (before_data old) 176) long fits.below fits.long within narrow)
+    ∙ sym (put_front (encoded 176 (service_record old)) (896 + one.off) one.len value (encoded_below (service_record old) 176) (omega (arith, all)) narrow)
 
 -- a field of its own is none of the bytes
 abbrev is_own : ServiceRecord → Asked → Bool
@@ -289,59 +289,59 @@ service_bits name value = elim (sought name value) [
 ]
 
 -- ---- a record of any kind
-pub asks_number : (name : List ℕ) (value : ℕ) (old new : SaRecord) (told : Option ℕ) → IfService old → RecordFits old
-    → told ≡ bits_asked name value old → AskedBy name value old new → (RecordFits old → RecordFits new)
-    → AsksToo (numbered (attribute_of old) name value) old new told
+pub asks_number : (name : List ℕ) (value : ℕ) (old new : SaRecord) (reported : Option ℕ) → IfService old → RecordFits old
+    → reported ≡ bits_asked name value old → AskedBy name value old new → (RecordFits old → RecordFits new)
+    → AsksToo (numbered (attribute_of old) name value) old new reported
 unfolding is_in stands node_record_bytes path_record_bytes mc_member_record_bytes service_record_bytes
-asks_number name value (Node old) (Node new) told service fits bits asked kept = record {
+asks_number name value (Node old) (Node new) reported service fits bits asked kept = record {
   bits = bits ∙ bits_kept value _;
   set = puts_found 112 node_record_asked name value (node_record old) (node_record new) refl refl fits asked;
   kind = refl;
   fits = kept fits;
 }
-asks_number name value (Path old) (Path new) told service fits bits asked kept = record {
+asks_number name value (Path old) (Path new) reported service fits bits asked kept = record {
   bits = bits ∙ bits_kept value _;
   set = puts_found 64 path_record_asked name value (path_record old) (path_record new) refl refl fits asked;
   kind = refl;
   fits = kept fits;
 }
-asks_number name value (Group old) (Group new) told service fits bits asked kept = record {
+asks_number name value (Group old) (Group new) reported service fits bits asked kept = record {
   bits = bits ∙ bits_kept value _;
   set = puts_found 56 mc_member_record_asked name value (mc_member_record old) (mc_member_record new) refl refl fits asked;
   kind = refl;
   fits = kept fits;
 }
-asks_number name value (Service old) (Service new) told service fits bits asked kept = record {
+asks_number name value (Service old) (Service new) reported service fits bits asked kept = record {
   bits = bits ∙ service_bits name value ∙ bits_kept value _;
   set = service_puts name value old new service asked;
   kind = refl;
   fits = tt;
 }
-asks_number name value (Node old) (Path new) told service fits bits asked kept = absurd asked
-asks_number name value (Node old) (Group new) told service fits bits asked kept = absurd asked
-asks_number name value (Node old) (Service new) told service fits bits asked kept = absurd asked
-asks_number name value (Path old) (Node new) told service fits bits asked kept = absurd asked
-asks_number name value (Path old) (Group new) told service fits bits asked kept = absurd asked
-asks_number name value (Path old) (Service new) told service fits bits asked kept = absurd asked
-asks_number name value (Group old) (Node new) told service fits bits asked kept = absurd asked
-asks_number name value (Group old) (Path new) told service fits bits asked kept = absurd asked
-asks_number name value (Group old) (Service new) told service fits bits asked kept = absurd asked
-asks_number name value (Service old) (Node new) told service fits bits asked kept = absurd asked
-asks_number name value (Service old) (Path new) told service fits bits asked kept = absurd asked
-asks_number name value (Service old) (Group new) told service fits bits asked kept = absurd asked
+asks_number name value (Node old) (Path new) reported service fits bits asked kept = absurd asked
+asks_number name value (Node old) (Group new) reported service fits bits asked kept = absurd asked
+asks_number name value (Node old) (Service new) reported service fits bits asked kept = absurd asked
+asks_number name value (Path old) (Node new) reported service fits bits asked kept = absurd asked
+asks_number name value (Path old) (Group new) reported service fits bits asked kept = absurd asked
+asks_number name value (Path old) (Service new) reported service fits bits asked kept = absurd asked
+asks_number name value (Group old) (Node new) reported service fits bits asked kept = absurd asked
+asks_number name value (Group old) (Path new) reported service fits bits asked kept = absurd asked
+asks_number name value (Group old) (Service new) reported service fits bits asked kept = absurd asked
+asks_number name value (Service old) (Node new) reported service fits bits asked kept = absurd asked
+asks_number name value (Service old) (Path new) reported service fits bits asked kept = absurd asked
+asks_number name value (Service old) (Group new) reported service fits bits asked kept = absurd asked
 
-none_asked : (old new : SaRecord) (told : Option ℕ) → RecordFits old → told ≡ None → new ≡ old → AsksToo None old new told
-none_asked old new told fits none same =
-    subst (λ (some : SaRecord). AsksToo None old some told) (sym same) (record { bits = none; set = tt; kind = refl; fits = fits })
+none_asked : (old new : SaRecord) (reported : Option ℕ) → RecordFits old → reported ≡ None → new ≡ old → AsksToo None old new reported
+none_asked old new reported fits none same =
+    subst (λ (some : SaRecord). AsksToo None old some reported) (sym same) (record { bits = none; set = tt; kind = refl; fits = fits })
 
 -- its name
-pub asks_name : (bytes : List ℕ) (old new : SaRecord) (told : Option ℕ) (value : List ℕ) → IfService old → RecordFits old
-    → number bytes < 2 ^ 512 → told ≡ name_bits old → new ≡ named bytes old → name_bytes (written_in value) ≡ Ok bytes
-    → AsksToo (service_named (attribute_of old) value) old new told
+pub asks_name : (bytes : List ℕ) (old new : SaRecord) (reported : Option ℕ) (value : List ℕ) → IfService old → RecordFits old
+    → number bytes < 2 ^ 512 → reported ≡ name_bits old → new ≡ named bytes old → name_bytes (written_in value) ≡ Ok bytes
+    → AsksToo (service_named (attribute_of old) value) old new reported
 unfolding is_in stands service_record_bytes
-asks_name bytes (Service old) new told value service fits narrow bits is spelt =
-    subst (λ (some : SaRecord). AsksToo (service_named (attribute_of (Service old)) value) (Service old) some told) (sym is)
-    (subst (λ (given : Result (List ℕ) ScriptCause). AsksToo (name_of given) (Service old) (named bytes (Service old)) told) (sym spelt)
+asks_name bytes (Service old) new reported value service fits narrow bits is encoded =
+    subst (λ (some : SaRecord). AsksToo (service_named (attribute_of (Service old)) value) (Service old) some reported) (sym is)
+    (subst (λ (given : Result (List ℕ) ScriptCause). AsksToo (name_of given) (Service old) (named bytes (Service old)) reported) (sym encoded)
     (record {
       bits = bits;
       set = puts 176 (service_record old) (service_record (record old { service_name = bytes })) (number bytes)
@@ -349,9 +349,9 @@ asks_name bytes (Service old) new told value service fits narrow bits is spelt =
       kind = refl;
       fits = tt;
     }))
-asks_name bytes (Node old) new told value service fits narrow bits is spelt = none_asked (Node old) new told fits bits is
-asks_name bytes (Path old) new told value service fits narrow bits is spelt = none_asked (Path old) new told fits bits is
-asks_name bytes (Group old) new told value service fits narrow bits is spelt = none_asked (Group old) new told fits bits is
+asks_name bytes (Node old) new reported value service fits narrow bits is encoded = none_asked (Node old) new reported fits bits is
+asks_name bytes (Path old) new reported value service fits narrow bits is encoded = none_asked (Path old) new reported fits bits is
+asks_name bytes (Group old) new reported value service fits narrow bits is encoded = none_asked (Group old) new reported fits bits is
 
 -- ---- what the types of a service's fields say
 pub bytes_narrow : (bytes : List ℕ) → AllBelowBase 256 bytes → length bytes ≡ 64 → number bytes < 2 ^ 512

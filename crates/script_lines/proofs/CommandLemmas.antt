@@ -11,9 +11,9 @@ use Rattle.std.proofs.lemmas.Option.{none-some, same_Some}
 use Rattle.fabric_parts.specs.Cable.{far_end, is_cabled, is_same_port}
 use Rattle.fabric_parts.specs.declared.cable.Cable.{Cable}
 use Rattle.fabric_parts.specs.declared.cable.PortRef.{PortRef}
-use Rattle.result_words.proofs.StepLemmas.{bind_done, bind_ok, let_through, not_stopped, same_ok}
-use Rattle.result_words.specs.AtLine.{after_lines, on_line}
-use Rattle.result_words.specs.Steps.{◌>>=◌}
+use Rattle.step_results.proofs.StepLemmas.{bind_done, bind_ok, let_through, not_stopped, same_ok}
+use Rattle.step_results.specs.AtLine.{after_lines, on_line}
+use Rattle.step_results.specs.Steps.{◌>>=◌}
 use Rattle.subnet_model.specs.declared.command.Command.{Command}
 use Rattle.subnet_model.specs.declared.command.Command.TheVariants.{Ask, Send}
 use Rattle.text_words.specs.Lines.{lines, words_of}
@@ -22,14 +22,14 @@ use Rattle.topo_file.specs.Cable.{port_at}
 use Rattle.topo_file.specs.Node.{is_switch_at, place_of, port_guid_at, ports_at}
 use Rattle.topo_file.specs.Sound.{is_port}
 use Rattle.topo_file.specs.Topology.{TopologyState}
-use Rattle.script_lines.specs.Ask.{ask_of, ask_spelt, asking, asking_mad, attribute_in, fields_in, method_in, tid_in}
+use Rattle.script_lines.specs.Ask.{ask_of, ask_encoded, asking, asking_mad, attribute_in, fields_in, method_in, tid_in}
 use Rattle.script_lines.specs.Laws.{CommandsNameWhatIsThere, IsSendingPort, IsSwitchCable, NamesWhatIsThere}
 use Rattle.script_lines.specs.NamedPort.{named_place}
 use Rattle.script_lines.specs.Script.{command_in, command_of, with_line}
-use Rattle.script_lines.specs.Send.{field_of, fitting, payload_of, send_of, send_spelt, u16_field}
+use Rattle.script_lines.specs.Send.{field_of, fitting, payload_of, send_of, send_encoded, u16_field}
 use Rattle.script_lines.specs.Sender.{sender_at, sender_of}
-use Rattle.script_lines.specs.SpeltBytes.{written_in}
-use Rattle.script_lines.specs.SwitchCable.{cable_between, cable_of, cable_spelt, end_named, joins_switches, named_cable}
+use Rattle.script_lines.specs.EncodedBytes.{written_in}
+use Rattle.script_lines.specs.SwitchCable.{cable_between, cable_of, cable_encoded, end_named, joins_switches, named_cable}
 use Rattle.script_lines.specs.declared.script_cause.ScriptCause.{ScriptCause}
 use Rattle.script_lines.specs.declared.script_cause.ScriptCause.TheVariants.{Malformed, UnknownPort, ManagerPort, UncabledPort, UnknownCable}
 
@@ -106,8 +106,8 @@ joins plan here there cable first second is =
     })
 
 -- ---- the command of a line
-send_names : (plan : TopologyState) (port dlid p_key qp payload : List ℕ) (command : Command) → send_spelt plan port dlid p_key qp payload ≡ Ok command → NamesWhatIsThere plan command
-unfolding send_spelt
+send_names : (plan : TopologyState) (port dlid p_key qp payload : List ℕ) (command : Command) → send_encoded plan port dlid p_key qp payload ≡ Ok command → NamesWhatIsThere plan command
+unfolding send_encoded
 send_names plan port dlid p_key qp payload command is =
     let sender = bind_ok (sender_of plan port) _ command is in
     let written = bind_ok (fitting (written_in payload)) _ command sender.2 in
@@ -118,8 +118,8 @@ send_names plan port dlid p_key qp payload command is =
     let made : Command = Send (record { port_guid = sender.0; dlid = lid.0; p_key = key.0; destination_qp = number.0; payload = bytes.0 }) in
     subst (NamesWhatIsThere plan) (same_ok made command bytes.2) (sends plan port sender.0 sender.1)
 
-ask_names : (plan : TopologyState) (port how what tid : List ℕ) (fields : List (List ℕ)) (command : Command) → ask_spelt plan port how what tid fields ≡ Ok command → NamesWhatIsThere plan command
-unfolding ask_spelt
+ask_names : (plan : TopologyState) (port how what tid : List ℕ) (fields : List (List ℕ)) (command : Command) → ask_encoded plan port how what tid fields ≡ Ok command → NamesWhatIsThere plan command
+unfolding ask_encoded
 ask_names plan port how what tid fields command is =
     let method = bind_ok (ok_or (method_in how) Malformed) _ command is in
     let kind = bind_ok (ok_or (attribute_in what) Malformed) _ command method.2 in
@@ -141,8 +141,8 @@ pub named_is_there : (plan : TopologyState) (one other : List ℕ) (found : Resu
 named_is_there plan one other (Ok cable) is = named_joins plan one other cable (sym is)
 named_is_there plan one other (Err cause) is = tt
 
-cable_names : (plan : TopologyState) (mended : Bool) (one other : List ℕ) (command : Command) → cable_spelt plan mended one other ≡ Ok command → NamesWhatIsThere plan command
-unfolding cable_spelt
+cable_names : (plan : TopologyState) (mended : Bool) (one other : List ℕ) (command : Command) → cable_encoded plan mended one other ≡ Ok command → NamesWhatIsThere plan command
+unfolding cable_encoded
 cable_names plan mended one other command is =
     let cable = bind_ok (named_cable plan one other) _ command is in
     let made : Command = Command.Cable (record { cable = cable.0; up = mended }) in
@@ -150,9 +150,9 @@ cable_names plan mended one other command is =
 
 -- ---- what each command has that words make, that of a line has
 module _ (plan : TopologyState) (P : Command → Type 0)
-    (send_has : (port dlid p_key qp payload : List ℕ) (command : Command) → send_spelt plan port dlid p_key qp payload ≡ Ok command → P command)
-    (ask_has : (port how what tid : List ℕ) (fields : List (List ℕ)) (command : Command) → ask_spelt plan port how what tid fields ≡ Ok command → P command)
-    (cable_has : (mended : Bool) (one other : List ℕ) (command : Command) → cable_spelt plan mended one other ≡ Ok command → P command) where
+    (send_has : (port dlid p_key qp payload : List ℕ) (command : Command) → send_encoded plan port dlid p_key qp payload ≡ Ok command → P command)
+    (ask_has : (port how what tid : List ℕ) (fields : List (List ℕ)) (command : Command) → ask_encoded plan port how what tid fields ≡ Ok command → P command)
+    (cable_has : (mended : Bool) (one other : List ℕ) (command : Command) → cable_encoded plan mended one other ≡ Ok command → P command) where
   send_words_have : (words : List (List ℕ)) (command : Command) → send_of plan words ≡ Ok command → P command
   unfolding send_of
   send_words_have [] command is = absurd cc
@@ -185,7 +185,7 @@ module _ (plan : TopologyState) (P : Command → Type 0)
       let made = bind_done given (λ (command : Command). Some command) (Some command) is in
       has command (made.1 ∙ ap (λ (command : Command). Ok command) (same_Some made.0 command made.2))
 
-  -- the commands behind a first word: one kind where the test of the word passes, else what is told of it further on
+  -- the commands behind a first word: one kind where the test of the word passes, else what is reported of it further on
   one_kind : (test : Bool) (given : Result Command ScriptCause) (others : Result (Option Command) ScriptCause) (command : Command)
       → ((made : Command) → given ≡ Ok made → P made) → (others ≡ Ok (Some command) → P command)
       → (if test then (given >>= λ made. Ok (Some made)) else others) ≡ Ok (Some command) → P command

@@ -8,8 +8,8 @@ use Rattle.std.proofs.lemmas.Nat.Bits.{bit_at_or, same_from_bits}
 use Rattle.mad_layout.specs.Bits.{put_field}
 use Rattle.mad_layout.specs.Layout.{put_all}
 use Rattle.mad_layout.specs.declared.sa_mad.SaMad.{SaMad}
-use Rattle.result_words.specs.Steps.{◌>>=◌}
-use Rattle.result_words.proofs.StepLemmas.{same_err}
+use Rattle.step_results.specs.Steps.{◌>>=◌}
+use Rattle.step_results.proofs.StepLemmas.{same_err}
 use Rattle.sa_records.specs.declared.sa_attribute.SaAttribute.{SaAttribute}
 use Rattle.script_lines.specs.Ask.{Named, asking, fields_in, mask_of, named_in}
 use Rattle.script_lines.specs.Asking.{asked_in}

@@ -14,7 +14,7 @@ use Rattle.mad_layout.proofs.NumberLemmas.{below_append, number_below, number_by
 use Rattle.mad_layout.proofs.PutLemmas.{put_swap}
 use Rattle.mad_layout.proofs.WindowLemmas.{put_is}
 
--- ---- the number that bytes with a field spell
+-- ---- the number that bytes with a field encode
 replaced_below : (n low len v size : ℕ) → n < 2 ^ size → low + len ≤ size → v < 2 ^ len → replaced n low len v < 2 ^ size
 replaced_below n low len v size small within fits =
     let d = size - (low + len) in

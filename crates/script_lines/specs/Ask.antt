@@ -22,13 +22,13 @@ use Rattle.sa_records.specs.ServiceRecord.{service_data_asked, service_record_as
 use Rattle.sa_records.specs.ServiceMask as service_mask
 use Rattle.text_words.specs.Cut.{cut_at}
 use Rattle.text_words.specs.Number.{number_in}
-use Rattle.result_words.specs.Steps.{◌>>=◌}
+use Rattle.step_results.specs.Steps.{◌>>=◌}
 use Rattle.topo_file.specs.Topology.{TopologyState}
 use Rattle.subnet_model.specs.declared.command.Command.{Command}
 use Rattle.subnet_model.specs.declared.command.Command.TheVariants.{Ask}
 use Rattle.script_lines.specs.Send.{field_of}
 use Rattle.script_lines.specs.Sender.{sender_of}
-use Rattle.script_lines.specs.SpeltBytes.{Written, in_room, spelt, written_in}
+use Rattle.script_lines.specs.EncodedBytes.{Written, in_room, encoded, written_in}
 use Rattle.script_lines.specs.declared.script_cause.ScriptCause.{ScriptCause}
 use Rattle.script_lines.specs.declared.script_cause.ScriptCause.TheVariants.{Malformed, BadField}
 
@@ -75,7 +75,7 @@ numbered kind name value = option_map (holding value) (asked_by name value (fiel
 
 -- ServiceName of a service, 64 bytes from bit 384 on: those that `N:HEX` writes, N at most 64, and zero bytes
 abbrev pub name_bytes : Option Written → Result (List ℕ) ScriptCause
-name_bytes (Some written) = if nat_le written.size 64 then in_room 64 (spelt written.size written.digits) else Err BadField
+name_bytes (Some written) = if nat_le written.size 64 then in_room 64 (encoded written.size written.digits) else Err BadField
 name_bytes None = Err BadField
 
 abbrev pub name_of : Result (List ℕ) ScriptCause → Option Named
@@ -150,8 +150,8 @@ asking_mad how kind tid asked =
     asked
 
 -- ---- the line
-unfoldable pub ask_spelt : TopologyState → (port how what tid : List ℕ) → List (List ℕ) → Result Command ScriptCause
-ask_spelt plan port how what tid fields = do
+unfoldable pub ask_encoded : TopologyState → (port how what tid : List ℕ) → List (List ℕ) → Result Command ScriptCause
+ask_encoded plan port how what tid fields = do
   method ← ok_or (method_in how) Malformed
   kind ← ok_or (attribute_in what) Malformed
   asker ← sender_of plan port
@@ -160,5 +160,5 @@ ask_spelt plan port how what tid fields = do
   Ok (Ask (record { port_guid = asker; mad = asking_mad method kind id (asking named) }))
 
 unfoldable pub ask_of : TopologyState → List (List ℕ) → Result Command ScriptCause
-ask_of plan (port ∷ how ∷ what ∷ tid ∷ fields) = ask_spelt plan port how what tid fields
+ask_of plan (port ∷ how ∷ what ∷ tid ∷ fields) = ask_encoded plan port how what tid fields
 ask_of plan _ = Err Malformed

@@ -4,7 +4,7 @@ use Rattle.std.specs.Int.Digits.{AllBelowBase}
 use Rattle.mad_layout.specs.Bits.{put_field}
 use Rattle.mad_layout.specs.Layout.{Fits}
 use Rattle.mad_layout.specs.declared.sa_mad.SaMad.{SaMad}
-use Rattle.result_words.specs.Steps.{◌>>=◌}
+use Rattle.step_results.specs.Steps.{◌>>=◌}
 use Rattle.sa_records.specs.declared.sa_attribute.SaAttribute.{SaAttribute}
 use Rattle.sa_records.specs.declared.sa_record.SaRecord.{SaRecord}
 use Rattle.sa_records.specs.declared.sa_record.SaRecord.TheVariants.{Node, Path, Group, Service}
@@ -21,9 +21,9 @@ data_with one = record_bytes one ++ replicate (200 - length (record_bytes one)) 
 abbrev pub IsPut : SaRecord → SaRecord → Named → Type 0
 IsPut old new named = data_with new ≡ put_field (data_with old) named.place.off named.place.len named.place.value
 
--- the new record asks by that field too, and its bits are told; where there is no such field, none are
-pub record AsksToo (one : Option Named) (old new : SaRecord) (told : Option ℕ) : Type 0 where
-  pub bits : told ≡ option_map (λ named. named.bits) one
+-- the new record asks by that field too, and its bits are reported; where there is no such field, none are
+pub record AsksToo (one : Option Named) (old new : SaRecord) (reported : Option ℕ) : Type 0 where
+  pub bits : reported ≡ option_map (λ named. named.bits) one
   pub set : IfSome one (IsPut old new)
   pub kind : attribute_of new ≡ attribute_of old
   pub fits : RecordFits new

@@ -1,7 +1,7 @@
 pub mod ScriptCause
 pub mod NamedPort
 pub mod Sender
-pub mod SpeltBytes
+pub mod EncodedBytes
 pub mod Seen
 pub mod Send
 pub mod Ask

@@ -4,7 +4,7 @@ use Rattle.std.specs.Option.{ok_or, option_map_or}
 use Rattle.text_words.specs.Words.{port_in}
 use Rattle.fabric_parts.specs.declared.cable.PortRef.{PortRef}
 use Rattle.fabric_parts.specs.Cable.{is_cabled}
-use Rattle.result_words.specs.Steps.{◌>>=◌}
+use Rattle.step_results.specs.Steps.{◌>>=◌}
 use Rattle.topo_file.specs.Cable.{port_at}
 use Rattle.topo_file.specs.Node.{is_switch_at, place_of, port_guid_at}
 use Rattle.topo_file.specs.Topology.{TopologyState}

@@ -3,8 +3,8 @@ use Rattle.std.specs.Prelude.{ℕ, true, false, List, [], ◌∷◌, ◌++◌, c
 use Rattle.std.specs.Option.{ok_or, option_to_list}
 use Rattle.std.specs.Str.{bytes_eq}
 use Rattle.text_words.specs.Lines.{lines, words_of}
-use Rattle.result_words.specs.AtLine.{AtLine, after_lines}
-use Rattle.result_words.specs.Steps.{◌>>=◌}
+use Rattle.step_results.specs.AtLine.{AtLine, after_lines}
+use Rattle.step_results.specs.Steps.{◌>>=◌}
 use Rattle.topo_file.specs.Topology.{TopologyState}
 use Rattle.subnet_model.specs.declared.command.Command.{Command}
 use Rattle.script_lines.specs.Ask.{ask_of}

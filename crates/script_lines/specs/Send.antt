@@ -2,12 +2,12 @@
 use Rattle.std.specs.Prelude.{ℕ, ◌^◌, nat_lt, List, [], ◌∷◌, Option, Some, None, Result, Ok, Err, if◌then◌else◌}
 use Rattle.std.specs.Option.{ok_or}
 use Rattle.text_words.specs.Number.{number_in, u16_in}
-use Rattle.result_words.specs.Steps.{◌>>=◌}
+use Rattle.step_results.specs.Steps.{◌>>=◌}
 use Rattle.topo_file.specs.Topology.{TopologyState}
 use Rattle.subnet_model.specs.declared.command.Command.{Command}
 use Rattle.subnet_model.specs.declared.command.Command.TheVariants.{Send}
 use Rattle.script_lines.specs.Sender.{sender_of}
-use Rattle.script_lines.specs.SpeltBytes.{Written, spelt, written_in}
+use Rattle.script_lines.specs.EncodedBytes.{Written, encoded, written_in}
 use Rattle.script_lines.specs.declared.script_cause.ScriptCause.{ScriptCause}
 use Rattle.script_lines.specs.declared.script_cause.ScriptCause.TheVariants.{Malformed, PayloadTooLong, BadField}
 
@@ -29,12 +29,12 @@ fitting (Some written) = if nat_lt 256 written.size then Err PayloadTooLong else
 fitting None = Ok None
 
 abbrev pub payload_of : Option Written → Result (List ℕ) ScriptCause
-payload_of (Some written) = spelt written.size written.digits
+payload_of (Some written) = encoded written.size written.digits
 payload_of None = Err BadField
 
 -- ---- the line
-unfoldable pub send_spelt : TopologyState → List ℕ → List ℕ → List ℕ → List ℕ → List ℕ → Result Command ScriptCause
-send_spelt plan port dlid p_key qp payload = do
+unfoldable pub send_encoded : TopologyState → List ℕ → List ℕ → List ℕ → List ℕ → List ℕ → Result Command ScriptCause
+send_encoded plan port dlid p_key qp payload = do
   sender ← sender_of plan port
   written ← fitting (written_in payload)
   lid ← u16_field dlid
@@ -44,5 +44,5 @@ send_spelt plan port dlid p_key qp payload = do
   Ok (Send (record { port_guid = sender; dlid = lid; p_key = key; destination_qp = number; payload = bytes }))
 
 unfoldable pub send_of : TopologyState → List (List ℕ) → Result Command ScriptCause
-send_of plan (port ∷ dlid ∷ p_key ∷ qp ∷ payload ∷ []) = send_spelt plan port dlid p_key qp payload
+send_of plan (port ∷ dlid ∷ p_key ∷ qp ∷ payload ∷ []) = send_encoded plan port dlid p_key qp payload
 send_of plan _ = Err Malformed

@@ -6,7 +6,7 @@ use Rattle.std.specs.Result.{result_ok}
 use Rattle.fabric_parts.specs.declared.cable.Cable.{Cable}
 use Rattle.fabric_parts.specs.declared.cable.PortRef.{PortRef}
 use Rattle.fabric_parts.specs.Cable.{far_end, is_same_port}
-use Rattle.result_words.specs.Steps.{◌>>=◌}
+use Rattle.step_results.specs.Steps.{◌>>=◌}
 use Rattle.subnet_model.specs.declared.command.Command.{Command}
 use Rattle.topo_file.specs.Node.{is_switch_at}
 use Rattle.topo_file.specs.Topology.{TopologyState}
@@ -35,11 +35,11 @@ named_cable plan one other = do
   cable_between plan here there
 
 -- ---- the line: the cable is mended by it, or else cut
-unfoldable pub cable_spelt : TopologyState → Bool → (one other : List ℕ) → Result Command ScriptCause
-cable_spelt plan mended one other = do
+unfoldable pub cable_encoded : TopologyState → Bool → (one other : List ℕ) → Result Command ScriptCause
+cable_encoded plan mended one other = do
   cable ← named_cable plan one other
   Ok (Command.Cable (record { cable = cable; up = mended }))
 
 unfoldable pub cable_of : TopologyState → Bool → List (List ℕ) → Result Command ScriptCause
-cable_of plan mended (one ∷ other ∷ []) = cable_spelt plan mended one other
+cable_of plan mended (one ∷ other ∷ []) = cable_encoded plan mended one other
 cable_of plan mended _ = Err Malformed

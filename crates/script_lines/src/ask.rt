@@ -1,24 +1,17 @@
 //! Lines by which a port asks subnet administration.
 
 ghost use Rattle.std.specs.Prelude.{◌≡◌};
-ghost use Rattle.script_lines.specs.Ask.{ask_of, ask_spelt, asking_mad, attribute_in, method_in, tid_in};
+ghost use Rattle.script_lines.specs.Ask.{ask_of, ask_encoded, asking_mad, attribute_in, method_in, tid_in};
 
 use crate::asking::asked_in;
 use crate::script_cause::ScriptCause;
 use crate::sender::sender_of;
 use mad_layout::{Header, Mad, Method, RmppHeader, SaMad};
-use rmpp_core::reply_mad;
+use rmpp_core::{BASE_VERSION, SA_CLASS, SA_CLASS_VERSION, sa_mad};
 use sa_records::SaAttribute;
 use subnet_model::{AskCommand, Command};
 use text_words::{Words, cut_at, number_in};
 use topo_file::Topology;
-
-/// The class of MADs of subnet administration, and its version.
-///
-/// Source: IBA volume 1, 13.4.4 and 15.2.1.1.
-const SA_CLASS: u8 = 3;
-
-const SA_CLASS_VERSION: u8 = 2;
 
 /// The command of a line `ask`, by the words behind that one.
 #[tactic(auto, unfolding(crate::specs::Ask::ask_of))]
@@ -34,11 +27,11 @@ pub(crate) fn ask_of(topology: &Topology, words: Words<'_>) -> Result<Command, S
     ) else {
         return Err(ScriptCause::Malformed);
     };
-    ask_spelt(topology, port, method, attribute, tid, words)
+    ask_encoded(topology, port, method, attribute, tid, words)
 }
 
-#[tactic(auto, unfolding(crate::specs::Ask::ask_spelt, crate::specs::Asking::asked_in))]
-fn ask_spelt(
+#[tactic(auto, unfolding(crate::specs::Ask::ask_encoded, crate::specs::Asking::asked_in))]
+fn ask_encoded(
     topology: &Topology,
     port: &[u8],
     method: &[u8],
@@ -46,7 +39,7 @@ fn ask_spelt(
     tid: &[u8],
     fields: Words<'_>,
 ) -> Result<Command, ScriptCause>
-    ensures { result ≡ ask_spelt topology.now port.now method.now attribute.now tid.now fields.entry }
+    ensures { result ≡ ask_encoded topology.now port.now method.now attribute.now tid.now fields.entry }
 {
     let method = method_in(method).ok_or(ScriptCause::Malformed)?;
     let attribute = attribute_in(attribute).ok_or(ScriptCause::Malformed)?;
@@ -108,7 +101,7 @@ fn asking_mad(method: Method, attribute: SaAttribute, transaction_id: u64, asked
     ensures { result ≡ asking_mad method attribute transaction_id asked.now }
 {
     let header = Header {
-        base_version: 1,
+        base_version: BASE_VERSION,
         mgmt_class: SA_CLASS,
         class_version: SA_CLASS_VERSION,
         method: method.code(),
@@ -127,5 +120,5 @@ fn asking_mad(method: Method, attribute: SaAttribute, transaction_id: u64, asked
         segment_number: 0,
         payload_length_or_new_window_last: 0,
     };
-    reply_mad(&header, &rmpp, asked)
+    sa_mad(&header, &rmpp, asked)
 }

@@ -6,10 +6,10 @@ ghost use Rattle.sa_records.specs.SaRecord.{RecordFits, attribute_of};
 ghost use Rattle.sa_records.specs.ServiceRecord.{service_fields};
 ghost use Rattle.script_lines.specs.Ask.{name_bytes, named_as, named_in, numbered, service_named};
 ghost use Rattle.script_lines.specs.Asking.{AsksToo, IfService, ServiceFits, asked_in};
-ghost use Rattle.script_lines.specs.SpeltBytes.{written_in};
+ghost use Rattle.script_lines.specs.EncodedBytes.{written_in};
 
+use crate::encoded_bytes::{encoded, written_in};
 use crate::script_cause::ScriptCause;
-use crate::spelt_bytes::{spelt, written_in};
 use mad_layout::{SaMad, known_bytes};
 use sa_records::{SaAttribute, SaRecord, ServiceRecord};
 use text_words::{Words, cut_at, number_in};
@@ -113,7 +113,10 @@ fn name_bytes(value: &[u8]) -> Result<[u8; NAME_BYTES], ScriptCause>
     ensures { result ≡ name_bytes (written_in value.now) }
 {
     match written_in(value) {
-        Some(shown) if shown.size <= NAME_BYTES as u128 => spelt(shown.size as usize, shown.digits),
+        Some(shown) if shown.size <= NAME_BYTES as u128 => encoded(
+            shown.size as usize,
+            shown.digits,
+        ),
         _ => Err(ScriptCause::BadField),
     }
 }

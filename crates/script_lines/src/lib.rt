@@ -1,4 +1,4 @@
-//! The lines of a script: what each tells a port to do, or what happens by it to a cable; or why it is at fault.
+//! The lines of a script: what each has a port do, or what happens by it to a cable; or why it is at fault.
 //!
 //! [`command_of`] gives the command of a line, as `specs/Script.antt` says: a packet that a port is to send
 //! (`specs/Send.antt`), a MAD by which it asks subnet administration (`specs/Ask.antt`), or a cable between two switches
@@ -8,18 +8,18 @@
 
 mod ask;
 mod asking;
+mod encoded_bytes;
 mod laws;
 mod naming;
 mod script;
 mod script_cause;
 mod send;
 mod sender;
-mod spelt_bytes;
 mod switch_cable;
 
+pub use crate::encoded_bytes::mad_in;
 pub use crate::laws::commands_name_what_is_there;
 pub use crate::naming::{adapter_place, named_adapter_port, named_port};
 pub use crate::script::command_of;
 pub use crate::script_cause::ScriptCause;
-pub use crate::spelt_bytes::mad_in;
 pub use crate::switch_cable::named_cable;

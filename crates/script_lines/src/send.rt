@@ -2,15 +2,15 @@
 
 ghost use Rattle.std.specs.Prelude.{◌≡◌, ◌^◌, ◌≤◌, IfOk};
 ghost use Rattle.std.specs.Option.{ForSome, option_map};
-ghost use Rattle.result_words.specs.Gives.{seen_by};
+ghost use Rattle.step_results.specs.Gives.{seen_by};
 ghost use Rattle.data_packet.specs.declared.payload.TheConstants.{PAYLOAD_BYTES};
 ghost use Rattle.script_lines.specs.Seen.{written};
-ghost use Rattle.script_lines.specs.Send.{field_of, fitting, payload_of, send_of, send_spelt, u16_field};
-ghost use Rattle.script_lines.specs.SpeltBytes.{spelt};
+ghost use Rattle.script_lines.specs.Send.{field_of, fitting, payload_of, send_of, send_encoded, u16_field};
+ghost use Rattle.script_lines.specs.EncodedBytes.{encoded};
 
+use crate::encoded_bytes::{Written, encoded, written_in};
 use crate::script_cause::ScriptCause;
 use crate::sender::sender_of;
-use crate::spelt_bytes::{Written, spelt, written_in};
 use data_packet::{PAYLOAD_BYTES, Payload, QueuePair};
 use subnet_model::{Command, SendCommand};
 use text_words::{Words, number_in, u16_in};
@@ -32,11 +32,11 @@ pub(crate) fn send_of(topology: &Topology, words: Words<'_>) -> Result<Command, 
     ) else {
         return Err(ScriptCause::Malformed);
     };
-    send_spelt(topology, port, dlid, p_key, qp, payload)
+    send_encoded(topology, port, dlid, p_key, qp, payload)
 }
 
-#[tactic(auto, unfolding(crate::specs::Send::send_spelt))]
-fn send_spelt(
+#[tactic(auto, unfolding(crate::specs::Send::send_encoded))]
+fn send_encoded(
     topology: &Topology,
     port: &[u8],
     dlid: &[u8],
@@ -44,7 +44,7 @@ fn send_spelt(
     qp: &[u8],
     payload: &[u8],
 ) -> Result<Command, ScriptCause>
-    ensures { result ≡ send_spelt topology.now port.now dlid.now p_key.now qp.now payload.now }
+    ensures { result ≡ send_encoded topology.now port.now dlid.now p_key.now qp.now payload.now }
 {
     let port_guid = sender_of(topology, port)?;
     let written = fitting(written_in(payload))?;
@@ -96,15 +96,15 @@ fn payload_of(shown: Option<Written<'_>>) -> Result<Payload, ScriptCause>
     ensures { result ≡ payload_of (option_map written shown.entry) }
 {
     match shown {
-        Some(shown) => payload_spelt(shown.size as usize, shown.digits),
+        Some(shown) => payload_encoded(shown.size as usize, shown.digits),
         None => Err(ScriptCause::BadField),
     }
 }
 
-fn payload_spelt(size: usize, digits: &[u8]) -> Result<Payload, ScriptCause>
+fn payload_encoded(size: usize, digits: &[u8]) -> Result<Payload, ScriptCause>
     requires { size ≤ PAYLOAD_BYTES }
-    ensures { result ≡ spelt size digits.now }
+    ensures { result ≡ encoded size digits.now }
 {
-    let bytes = spelt::<PAYLOAD_BYTES>(size, digits)?;
+    let bytes = encoded::<PAYLOAD_BYTES>(size, digits)?;
     Ok(Payload::new(&bytes[..size]))
 }

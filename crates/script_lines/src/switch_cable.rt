@@ -2,7 +2,7 @@
 
 ghost use Rattle.std.specs.Prelude.{◌≡◌, IfOk};
 ghost use Rattle.script_lines.specs.Laws.{IsSwitchCable};
-ghost use Rattle.script_lines.specs.SwitchCable.{cable_between, cable_of, cable_spelt, end_named, joins_switches, named_cable};
+ghost use Rattle.script_lines.specs.SwitchCable.{cable_between, cable_of, cable_encoded, end_named, joins_switches, named_cable};
 
 use crate::naming::named_place;
 use crate::script_cause::ScriptCause;
@@ -24,17 +24,17 @@ pub(crate) fn cable_of(
     let (Some(one), Some(other), None) = (words.next(), words.next(), words.next()) else {
         return Err(ScriptCause::Malformed);
     };
-    cable_spelt(topology, mended, one, other)
+    cable_encoded(topology, mended, one, other)
 }
 
-#[tactic(auto, unfolding(crate::specs::SwitchCable::cable_spelt))]
-fn cable_spelt(
+#[tactic(auto, unfolding(crate::specs::SwitchCable::cable_encoded))]
+fn cable_encoded(
     topology: &Topology,
     mended: bool,
     one: &[u8],
     other: &[u8],
 ) -> Result<Command, ScriptCause>
-    ensures { result ≡ cable_spelt topology.now mended one.now other.now }
+    ensures { result ≡ cable_encoded topology.now mended one.now other.now }
 {
     let cable = named_cable(topology, one, other)?;
     Ok(Command::Cable(CableCommand { cable, up: mended }))

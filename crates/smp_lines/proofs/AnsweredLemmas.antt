@@ -48,17 +48,10 @@ unfolding answered
 answers_line number fabric [] rest whole last = let none : rest ≡ [] = last refl in rw none refl
 answers_line number fabric (byte ∷ line) rest whole last = rw (first_line byte line rest whole last) refl
 
-pub behind_nothing : (all : Answered) → all ≡ behind [] all
-behind_nothing all = refl
-
 pub behind_both : (first second : List ℕ) (all : Answered) → behind first (behind second all) ≡ behind (first ++ second) all
 behind_both first second all = rw (append_assoc first second all.output) refl
 
 -- ---- bytes that are left
-pub nothing_taken : (known : Option (List ℕ)) → Consumes known (prepend_known [] known) []
-nothing_taken None = tt
-nothing_taken (Some xs) = refl
-
 pub record Rest (first now : Option (List ℕ)) (read : List ℕ) : Type 0 where
   pub rest : List ℕ
   pub known : IfSome first (λ all. read ++ rest ≡ all)
@@ -69,16 +62,6 @@ rest_of None None read consumed = record { rest = []; known = tt; last = λ end.
 rest_of None (Some ys) read consumed = record { rest = []; known = tt; last = λ end. refl }
 rest_of (Some xs) None read consumed = absurd consumed
 rest_of (Some xs) (Some ys) read consumed = record { rest = ys; known = sym consumed; last = λ end. end }
-
-pub endless_before : (first now : Option (List ℕ)) (read : List ℕ) → Consumes first now read → IsEndless now → IsEndless first
-endless_before None now read consumed endless = tt
-endless_before (Some xs) None read consumed endless = absurd consumed
-endless_before (Some xs) (Some ys) read consumed endless = let all = length-append read ys in rw consumed (omega (arith, all, endless))
-
-pub long_before : (first now : Option (List ℕ)) (read : List ℕ) → Consumes first now read → 1048576 ≤ length read → IsEndless first
-long_before None now read consumed long = tt
-long_before (Some xs) None read consumed long = absurd consumed
-long_before (Some xs) (Some ys) read consumed long = let all = length-append read ys in rw consumed (omega (arith, all, long))
 
 pub ended_long : (line : List ℕ) → has_end line ≡ true → 1 ≤ length line
 ended_long [] ended = absurd (false_is_not_true ended)

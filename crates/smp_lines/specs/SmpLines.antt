@@ -3,7 +3,7 @@ use Rattle.std.specs.Prelude.{ℕ, ◌≡◌, ◌+◌, List, [], ◌∷◌, ◌+
 use Rattle.std.specs.Io.KnownBytes.{Appends}
 use Rattle.std.specs.Option.{option_and_then}
 use Rattle.hex.specs.Hex.{encode_lower}
-use Rattle.script_lines.specs.SpeltBytes.{mad_in}
+use Rattle.script_lines.specs.EncodedBytes.{mad_in}
 use Rattle.smp_wire.specs.FabricState.{FabricState}
 use Rattle.smp_wire.specs.Walk.{exchange_after, exchange_reply}
 use Rattle.smp_lines.specs.declared.stop.SmpStop.{SmpStop}

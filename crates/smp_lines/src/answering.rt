@@ -10,11 +10,11 @@ ghost use Rattle.text_words.specs.Lines.{lines};
 
 use crate::stop::SmpStop;
 use fabric_wire::Fabric;
-use line_parts::digits_of;
 use mad_layout::Mad;
 use script_lines::mad_in;
 use smp_wire::SmpWire;
 use std::alloc::{AllocError, Global};
+use text_parts::digits_of;
 use text_streams::{Output, Reader, read_line, write_whole};
 use text_words::Words;
 

@@ -24,8 +24,8 @@ use Rattle.smp_wire.specs.declared.node.Node.TheVariants.{Switch, Adapter}
 use Rattle.smp_wire.specs.FabricState.{FabricState, is_port, port_count}
 use Rattle.smp_wire.specs.Good.{IsGood, has_a_right_count, is_right}
 use Rattle.smp_wire.specs.Walk.{arrived, hands_on, hop, walk, with_return_ports}
-use Rattle.result_words.proofs.ElementLemmas.{find_all}
-use Rattle.result_words.proofs.ListLemmas.{all_there}
+use Rattle.step_results.proofs.ElementLemmas.{find_all}
+use Rattle.step_results.proofs.ListLemmas.{all_there}
 use Rattle.smp_wire.proofs.PresentLemmas.{present_right}
 
 -- ---- bytes that agents do not look at

@@ -12,7 +12,7 @@ use Rattle.fabric_parts.specs.Cable.{ends_at, far_end, is_same_port, other_end}
 use Rattle.smp_wire.specs.declared.node.Node.{Node}
 use Rattle.smp_wire.specs.FabricState.{is_port}
 use Rattle.smp_wire.specs.Good.{ends_of, is_right}
-use Rattle.result_words.proofs.DistinctLemmas.{all_differ}
+use Rattle.step_results.proofs.DistinctLemmas.{all_differ}
 
 -- ---- the far end, with a cable before the others
 by_ends : (first second : Bool) (other : Cable → PortRef) (cable : Cable) (rest : Option Cable)

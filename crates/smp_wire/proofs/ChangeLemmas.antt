@@ -27,7 +27,7 @@ use Rattle.smp_wire.specs.Good.{IsGood}
 use Rattle.smp_wire.specs.Walk.{arrived, exchange_after, exchange_reply, last_of, returned, walk_of}
 use Rattle.smp_wire.proofs.ReplyLemmas.{replies, returned_field}
 use Rattle.smp_wire.proofs.WalkedLemmas.{carried, no_walk_after, walk_after, walk_reply}
-use Rattle.result_words.proofs.ElementLemmas.{get_other, get_written, set_back}
+use Rattle.step_results.proofs.ElementLemmas.{get_other, get_written, set_back}
 
 -- ---- what changes no agent changes no node
 pub record ChangesNothing (smp : List ℕ) : Type 0 where

@@ -6,7 +6,7 @@ use Rattle.mad_layout.specs.declared.status.MadStatus.{MadStatus}
 use Rattle.attr_tables.specs.Attribute.{IsAttribute}
 use Rattle.attr_tables.specs.declared.smp_attribute.SmpAttribute.{SmpAttribute}
 use Rattle.agent_rules.specs.declared.power_up.TheConstants.{LINEAR_TABLE, MULTICAST_TABLE}
-use Rattle.result_words.proofs.ListLemmas.{all_have}
+use Rattle.step_results.proofs.ListLemmas.{all_have}
 use Rattle.port_model.specs.AdapterState.{AdapterState}
 use Rattle.port_model.specs.Agent.{get as adapter_gives}
 use Rattle.port_model.specs.Good.{IsGoodPort}

@@ -15,8 +15,8 @@ use Rattle.smp_wire.specs.declared.node.Node.{Node}
 use Rattle.smp_wire.specs.declared.node.Node.TheVariants.{Switch, Adapter}
 use Rattle.smp_wire.specs.FabricState.{adapter_ports_after, is_switch, node_after, port_count}
 use Rattle.smp_wire.specs.Good.{node_guid, end_port_guids, has_a_right_count, IsGoodNode, is_in_order, is_of, port_info_at}
-use Rattle.result_words.proofs.ElementLemmas.{all_same, alike_at, flat, get_same, or_same, read_same}
-use Rattle.result_words.proofs.ListLemmas.{all_have}
+use Rattle.step_results.proofs.ElementLemmas.{all_same, alike_at, flat, get_same, or_same, read_same}
+use Rattle.step_results.proofs.ListLemmas.{all_have}
 use Rattle.std.proofs.lemmas.List.Elements.{All-set}
 use Rattle.agent_rules.specs.declared.power_up.TheConstants.{LINEAR_TABLE, MULTICAST_TABLE}
 use Rattle.port_model.specs.Good.{IsGoodPort}

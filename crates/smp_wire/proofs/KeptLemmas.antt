@@ -16,8 +16,8 @@ use Rattle.smp_wire.specs.FabricState.{FabricState, all_cables, is_port, is_swit
 use Rattle.smp_wire.specs.Walk.{after_walk, exchange_after, hop, walk, walk_of}
 use Rattle.smp_wire.specs.Good.{IsGood, ShowsLinks, SwitchesJoined, end_port_guids, IsGoodNode, has_a_right_count, info_at, is_in_order, is_right, node_guid, port_info_at}
 use Rattle.smp_wire.proofs.GoodLemmas.{IsSameNode, down_at, same_node}
-use Rattle.result_words.proofs.ElementLemmas.{all_same, get_same, or_same, read_same}
-use Rattle.result_words.proofs.ListLemmas.{all_have}
+use Rattle.step_results.proofs.ElementLemmas.{all_same, get_same, or_same, read_same}
+use Rattle.step_results.proofs.ListLemmas.{all_have}
 use Rattle.std.proofs.lemmas.List.Elements.{All-set}
 
 pub record IsSame (old new : FabricState) : Type 0 where

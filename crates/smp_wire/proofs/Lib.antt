@@ -12,6 +12,6 @@ pub mod ChangeLemmas
 pub mod ReplyToLemmas
 pub mod PathLemmas
 pub mod PortLemmas
-pub mod TellLemmas
+pub mod ReportLemmas
 pub mod SetLemmas
 pub mod AskLemmas

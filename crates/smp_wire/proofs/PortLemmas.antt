@@ -9,7 +9,7 @@ use Rattle.fabric_parts.specs.declared.lid.TheConstants.{LAST_UNICAST_LID}
 use Rattle.fabric_parts.specs.declared.cable.PortRef.{PortRef}
 use Rattle.attr_tables.specs.declared.port_info.PortInfo.{PortInfo}
 use Rattle.agent_rules.specs.Good.{IsGoodInfo}
-use Rattle.result_words.proofs.ListLemmas.{all_have}
+use Rattle.step_results.proofs.ListLemmas.{all_have}
 use Rattle.port_model.specs.AdapterState.{AdapterState}
 use Rattle.port_model.specs.Good.{IsGoodPort}
 use Rattle.switch_model.specs.Good.{IsGoodPort as IsGoodSwitchPort}

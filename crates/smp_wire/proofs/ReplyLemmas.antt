@@ -10,12 +10,12 @@ use Rattle.mad_layout.specs.MadStatus.{mad_status_code}
 use Rattle.mad_layout.specs.declared.status.MadStatus.{MadStatus}
 use Rattle.mad_layout.proofs.AlignedLemmas.{byte_is_set}
 use Rattle.mad_layout.proofs.LayoutLemmas.{field-put_apart, length-put_all, length-put_field}
-use Rattle.result_words.specs.Steps.{◌>>=◌}
+use Rattle.step_results.specs.Steps.{◌>>=◌}
 use Rattle.agent_rules.specs.Agent.{Getter, Setter, after, answer, changed, reply_of}
 use Rattle.attr_tables.specs.Attribute.{IsAttribute}
 use Rattle.agent_rules.specs.Request.{KeepsRest, attribute_asked, is_request, modifier_of, reply_method, reply_to}
 use Rattle.attr_tables.specs.declared.smp_attribute.SmpAttribute.{SmpAttribute}
-use Rattle.result_words.proofs.StepLemmas.{bind_ok}
+use Rattle.step_results.proofs.StepLemmas.{bind_ok}
 use Rattle.agent_rules.proofs.AgentLemmas.{Shows, settled}
 use Rattle.agent_rules.proofs.CarryLemmas.{carries}
 use Rattle.port_model.specs.AdapterState.{AdapterState}
@@ -32,8 +32,8 @@ use Rattle.smp_wire.specs.FabricState.{FabricState, adapter_ports_after, after_a
 use Rattle.smp_wire.specs.Good.{IsGoodNode}
 use Rattle.smp_wire.specs.Walk.{returned}
 use Rattle.smp_wire.proofs.ArrivalLemmas.{put_below}
-use Rattle.result_words.proofs.ElementLemmas.{set_back}
-use Rattle.result_words.proofs.ListLemmas.{all_have}
+use Rattle.step_results.proofs.ElementLemmas.{set_back}
+use Rattle.step_results.proofs.ListLemmas.{all_have}
 use Rattle.agent_rules.specs.declared.power_up.TheConstants.{LINEAR_TABLE, MULTICAST_TABLE}
 use Rattle.port_model.specs.Good.{IsGoodPort}
 use Rattle.switch_model.specs.Good.{IsGoodSwitch}
@@ -98,10 +98,10 @@ after_is : {S : Type 0} (setter : Setter S) (held next : S) (attribute : SmpAttr
     → after setter held smp ≡ next
 after_is setter held next attribute smp request asked done = rw (request, asked, done) refl
 
-spelled : {S : Type 0} (getter : Getter S) (setter : Setter S) (held : S) (smp bytes : List ℕ) (Holds : S → Type 0) → is_request smp ≡ true
+encoded : {S : Type 0} (getter : Getter S) (setter : Setter S) (held : S) (smp bytes : List ℕ) (Holds : S → Type 0) → is_request smp ≡ true
     → ((next : S) (attribute : SmpAttribute) → Holds next → getter next attribute (modifier_of smp) ≡ Ok bytes → IsAttribute bytes)
     → Holds (after setter held smp) → answer getter setter held smp ≡ Ok bytes → IsAttribute bytes
-spelled getter setter held smp bytes Holds request each holds h =
+encoded getter setter held smp bytes Holds request each holds h =
     let asked = bind_ok (attribute_asked smp) (λ attribute. changed setter held attribute smp >>= λ next. getter next attribute (modifier_of smp)) bytes h in
     let done = bind_ok (changed setter held asked.0 smp) (λ next. getter next asked.0 (modifier_of smp)) bytes asked.2 in
     each done.0 asked.0 (subst Holds (after_is setter held done.0 asked.0 smp request asked.1 done.1) holds) done.2
@@ -122,7 +122,7 @@ replied : {S : Type 0} (getter : Getter S) (setter : Setter S) (held : S) (smp r
     → Holds (after setter held smp) → reply_of getter setter held smp ≡ Some reply → IsReply smp reply (after setter held smp ≡ held)
 replied getter setter held smp reply Holds shows long each holds h =
     replied_if getter setter held smp reply (is_request smp) shows refl long
-    (λ request bytes given. spelled getter setter held smp bytes Holds request (λ next attribute. each next attribute bytes) holds given) h
+    (λ request bytes given. encoded getter setter held smp bytes Holds request (λ next attribute. each next attribute bytes) holds given) h
 
 -- ---- an adapter, of which a port stays as it was
 adapter_replies : (ports : List AdapterState) (number place : ℕ) (found : Option AdapterState) (smp reply : List ℕ)

@@ -1,4 +1,4 @@
--- What a request that is spelled asks for, to the bit.
+-- What a request that is encoded asks for, to the bit.
 use Rattle.std.proofs.Common.{ℕ, ◌≡◌, ◌<◌, ◌≤◌, nat_le, ◌+◌, ◌-◌, ◌∙◌, ap, refl, sym, true, false, List, ◌∷◌, ◌++◌, length, take, drop, replicate, slice_range, arith}
 use Rattle.std.specs.Int.Digits.{AllBelowBase}
 use Rattle.std.proofs.lemmas.Bool.Decides.{nat_tests}
@@ -91,8 +91,8 @@ pub record IsOutward (route : DrSmp) (asked : Asked) : Type 0 where
   pub along : route.initial_path ≡ path_entries asked.path
   pub back : route.return_path ≡ replicate 64 0
 
--- a request as it is spelled: its header over zeros, and its route over that
-pub record IsSpelled (mid smp : List ℕ) (header : Header) (route : DrSmp) (asked : Asked) : Type 0 where
+-- a request as it is encoded: its header over zeros, and its route over that
+pub record IsEncoded (mid smp : List ℕ) (header : Header) (route : DrSmp) (asked : Asked) : Type 0 where
   pub first : Sets (replicate 256 0) mid (mad_header header)
   pub second : Sets mid smp (dr_smp route)
   pub initial : slice_range smp 128 192 ≡ route.initial_path
@@ -114,12 +114,12 @@ record HasHeader (smp : List ℕ) (asked : Asked) : Type 0 where
   modifier_is : field smp 160 32 ≡ asked.modifier
   unsaid : field smp 288 224 ≡ 0
 
-header_there : {mid smp : List ℕ} {header : Header} {route : DrSmp} {asked : Asked} → IsSpelled mid smp header route asked → HasHeader smp asked
-header_there {mid = mid} spelled =
-    let second = spelled.second in
-    let wide : length mid ≡ 256 = sym second.same_length ∙ spelled.long in
-    let h = spelled.first.fields in
-    let is = spelled.header_is in
+header_there : {mid smp : List ℕ} {header : Header} {route : DrSmp} {asked : Asked} → IsEncoded mid smp header route asked → HasHeader smp asked
+header_there {mid = mid} encoded =
+    let second = encoded.second in
+    let wide : length mid ≡ 256 = sym second.same_length ∙ encoded.long in
+    let h = encoded.first.fields in
+    let is = encoded.header_is in
     record {
       base = second.others 0 8 (omega (arith, wide)) refl ∙ sym h.0 ∙ is.base;
       class = second.others 8 8 (omega (arith, wide)) refl ∙ sym h.1.0 ∙ is.class;
@@ -127,42 +127,42 @@ header_there {mid = mid} spelled =
       method = second.others 24 8 (omega (arith, wide)) refl ∙ sym h.1.1.1.0 ∙ is.method;
       transaction = second.others 64 64 (omega (arith, wide)) refl ∙ sym h.1.1.1.1.1.1.0 ∙ is.transaction;
       attribute_is = second.others 128 16 (omega (arith, wide)) refl ∙ sym h.1.1.1.1.1.1.1.0 ∙ is.attribute_is;
-      reserved = second.others 144 16 (omega (arith, wide)) refl ∙ spelled.first.others 144 16 (omega arith) refl ∙ field_zeros 256 144 16;
+      reserved = second.others 144 16 (omega (arith, wide)) refl ∙ encoded.first.others 144 16 (omega arith) refl ∙ field_zeros 256 144 16;
       modifier_is = second.others 160 32 (omega (arith, wide)) refl ∙ sym h.1.1.1.1.1.1.1.1.0 ∙ is.modifier_is;
-      unsaid = second.others 288 224 (omega (arith, wide)) refl ∙ spelled.first.others 288 224 (omega arith) refl ∙ field_zeros 256 288 224;
+      unsaid = second.others 288 224 (omega (arith, wide)) refl ∙ encoded.first.others 288 224 (omega arith) refl ∙ field_zeros 256 288 224;
     }
 
-pub asks_for : {mid smp : List ℕ} {header : Header} {route : DrSmp} {asked : Asked} → IsSpelled mid smp header route asked
+pub asks_for : {mid smp : List ℕ} {header : Header} {route : DrSmp} {asked : Asked} → IsEncoded mid smp header route asked
     → AsksFor asked.by asked.attribute asked.modifier asked.path smp
-asks_for {smp = smp} {route = route} {asked = asked} spelled =
+asks_for {smp = smp} {route = route} {asked = asked} encoded =
     let path = asked.path in
-    let h = header_there spelled in
-    let r = spelled.second.fields in
-    let is = spelled.route_is in
-    let hops : count smp ≡ length path = count_is smp (length path) spelled.below spelled.long (sym is.hops ∙ r.1.1.1.0) in
-    let at_start : pointer smp ≡ 0 = pointer_is smp spelled.below spelled.long (sym is.at_start ∙ r.1.1.0) in
+    let h = header_there encoded in
+    let r = encoded.second.fields in
+    let is = encoded.route_is in
+    let hops : count smp ≡ length path = count_is smp (length path) encoded.below encoded.long (sym is.hops ∙ r.1.1.1.0) in
+    let at_start : pointer smp ≡ 0 = pointer_is smp encoded.below encoded.long (sym is.at_start ∙ r.1.1.0) in
     record {
-      request = requests smp (method_code asked.by) h.class h.method spelled.few;
+      request = requests smp (method_code asked.by) h.class h.method encoded.few;
       version = of_version_1 smp h.base h.version;
       method_is = h.method;
       attribute_id = h.attribute_is;
       modifier_is = h.modifier_is;
       sent = is_sent_by smp (length path) (sym (ap bit_of is.out) ∙ r.0) at_start hops is.few;
-      path_is = path_is smp (path_entries path) path spelled.long (spelled.initial ∙ is.along) (taken path) hops is.few;
-      long = spelled.long;
-      bytes = spelled.below;
+      path_is = path_is smp (path_entries path) path encoded.long (encoded.initial ∙ is.along) (taken path) hops is.few;
+      long = encoded.long;
+      bytes = encoded.below;
     }
 
 number_blank : (bytes : List ℕ) → bytes ≡ replicate 64 0 → 0 ≡ number bytes
 number_blank bytes is = sym (ap number is ∙ number_zeros 64)
 
-pub plain_is : {mid smp : List ℕ} {header : Header} {route : DrSmp} {asked : Asked} → IsSpelled mid smp header route asked
+pub plain_is : {mid smp : List ℕ} {header : Header} {route : DrSmp} {asked : Asked} → IsEncoded mid smp header route asked
     → Holds smp (plain_request asked.by asked.transaction_id asked.attribute asked.modifier asked.path asked.wanted)
-plain_is {smp = smp} {route = route} {asked = asked} spelled =
+plain_is {smp = smp} {route = route} {asked = asked} encoded =
     let places = plain_request asked.by asked.transaction_id asked.attribute asked.modifier asked.path asked.wanted in
-    let h = header_there spelled in
-    let r = spelled.second.fields in
-    let is = spelled.route_is in
+    let h = header_there encoded in
+    let r = encoded.second.fields in
+    let is = encoded.route_is in
     holds_both smp 4 places (sym h.base, (sym h.class, (sym h.version, (sym h.method, tt))))
     (holds_both smp 2 (drop 4 places) (sym (ap bit_of is.out) ∙ r.0, (sym is.status ∙ r.1.0, tt))
     (holds_both smp 2 (drop 6 places) (sym is.at_start ∙ r.1.1.0, (sym is.hops ∙ r.1.1.1.0, tt))

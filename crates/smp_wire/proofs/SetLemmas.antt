@@ -1,11 +1,11 @@
--- What a Set does and tells: what the agent at the end of its path takes.
+-- What a Set does and reports: what the agent at the end of its path takes.
 use Rattle.std.proofs.Common.{ℕ, ◌≡◌, ◌-◌, ◌==◌, ◌∙◌, ap, refl, sym, Bool, true, false, List, slice_get, slice_set, Option, Some, None, option_map, Result, Ok, Err}
 use Rattle.std.specs.Option.{option_and_then, option_map_or}
 use Rattle.std.specs.Result.{result_unwrap_or}
 use Rattle.mad_layout.specs.declared.method.Method.TheVariants as method
 use Rattle.mad_layout.specs.declared.status.MadStatus.{MadStatus}
 use Rattle.attr_tables.specs.declared.smp_attribute.SmpAttribute.{SmpAttribute}
-use Rattle.result_words.specs.Steps.{◌>>=◌}
+use Rattle.step_results.specs.Steps.{◌>>=◌}
 use Rattle.agent_rules.specs.Agent.{Getter, Setter, after, reply_of}
 use Rattle.agent_rules.specs.Request.{attribute_asked, data_of, is_request, is_set, modifier_of, reply_to}
 use Rattle.port_model.specs.AdapterState.{AdapterState}
@@ -15,21 +15,21 @@ use Rattle.switch_model.specs.Agent.{agent_after as switch_after, agent_reply as
 use Rattle.switch_model.specs.SwitchState.{SwitchState}
 use Rattle.switch_model.proofs.AgentLemmas.{shows as switch_shows}
 use Rattle.fabric_parts.specs.declared.cable.PortRef.{PortRef}
-use Rattle.smp_wire.specs.Laws.{SetsTell}
+use Rattle.smp_wire.specs.Laws.{SetsReport}
 use Rattle.smp_wire.specs.declared.node.Node.{Node}
 use Rattle.smp_wire.specs.declared.node.Node.TheVariants.{Switch, Adapter}
 use Rattle.smp_wire.specs.FabricState.{FabricState, adapter_port, node_after, node_reply, nodes_after, reply_at}
 use Rattle.smp_wire.specs.Get.{gives_along, gives_at, node_gives}
 use Rattle.smp_wire.specs.Good.{IsGood}
-use Rattle.smp_wire.specs.Replies.{told_for, told_of}
+use Rattle.smp_wire.specs.Replies.{reported_for, reported_of}
 use Rattle.smp_wire.specs.Requests.{AsksToSet}
-use Rattle.smp_wire.specs.Set.{SetTells, node_takes, takes_along}
+use Rattle.smp_wire.specs.Set.{SetReports, node_takes, takes_along}
 use Rattle.smp_wire.specs.Walk.{arrived, exchange_after, last_of, returned, walk}
 use Rattle.smp_wire.proofs.ArrivalLemmas.{IsCarrier}
 use Rattle.smp_wire.proofs.GivenLemmas.{AreAttributes, attributes_given, nothing_given}
 use Rattle.smp_wire.proofs.KeptLemmas.{after_exchange, good, walk_same}
-use Rattle.result_words.proofs.ElementLemmas.{get_written, set_back}
-use Rattle.smp_wire.proofs.TellLemmas.{IsAsked, set_asked, told_is, walk_is}
+use Rattle.step_results.proofs.ElementLemmas.{get_written, set_back}
+use Rattle.smp_wire.proofs.ReportLemmas.{IsAsked, set_asked, reported_is, walk_is}
 use Rattle.smp_wire.proofs.WalkedLemmas.{carried, no_walk_after, no_walk_reply, walk_after, walk_reply}
 
 -- ---- one agent
@@ -153,34 +153,34 @@ pub record Ends (fabric : FabricState) (path : List ℕ) (smp : List ℕ) (ends 
   }
   pub reply : (given : Option (Result (List ℕ) MadStatus))
       → reply_at fabric (last_of fabric.manager ends) (arrived ends smp) ≡ option_map (λ one. reply_to (arrived ends smp) one) given
-      → AreAttributes given → told_of fabric smp ≡ told_for given
+      → AreAttributes given → reported_of fabric smp ≡ reported_for given
 
-tells_nothing : (fabric : FabricState) (attribute : SmpAttribute) (modifier : ℕ) (path wanted smp : List ℕ)
-    → takes_along fabric path attribute modifier wanted ≡ None → exchange_after fabric smp ≡ fabric → told_of fabric smp ≡ told_for None
-    → SetTells fabric path attribute modifier wanted smp
-tells_nothing fabric attribute modifier path wanted smp none stays told = record {
+reports_nothing : (fabric : FabricState) (attribute : SmpAttribute) (modifier : ℕ) (path wanted smp : List ℕ)
+    → takes_along fabric path attribute modifier wanted ≡ None → exchange_after fabric smp ≡ fabric → reported_of fabric smp ≡ reported_for None
+    → SetReports fabric path attribute modifier wanted smp
+reports_nothing fabric attribute modifier path wanted smp none stays reported = record {
   after = stays ∙ rw none refl;
-  told = told ∙ rw none refl;
+  reported = reported ∙ rw none refl;
   shown = λ next h. absurd (let nothing = sym none ∙ h in cc);
 }
 
-tells_refused : (fabric : FabricState) (attribute : SmpAttribute) (modifier : ℕ) (path wanted smp : List ℕ) (status : MadStatus)
+reports_refused : (fabric : FabricState) (attribute : SmpAttribute) (modifier : ℕ) (path wanted smp : List ℕ) (status : MadStatus)
     → takes_along fabric path attribute modifier wanted ≡ Some (Err status) → exchange_after fabric smp ≡ fabric
-    → told_of fabric smp ≡ told_for (Some (Err status)) → SetTells fabric path attribute modifier wanted smp
-tells_refused fabric attribute modifier path wanted smp status refused stays told = record {
+    → reported_of fabric smp ≡ reported_for (Some (Err status)) → SetReports fabric path attribute modifier wanted smp
+reports_refused fabric attribute modifier path wanted smp status refused stays reported = record {
   after = stays ∙ rw refused refl;
-  told = told ∙ rw refused refl;
+  reported = reported ∙ rw refused refl;
   shown = λ next h. absurd (let other = sym refused ∙ h in cc);
 }
 
-tells_taken : (fabric next : FabricState) (attribute : SmpAttribute) (modifier : ℕ) (path wanted smp bytes : List ℕ)
+reports_taken : (fabric next : FabricState) (attribute : SmpAttribute) (modifier : ℕ) (path wanted smp bytes : List ℕ)
     → takes_along fabric path attribute modifier wanted ≡ Some (Ok next) → exchange_after fabric smp ≡ next
     → gives_along next path attribute modifier ≡ Some (Ok bytes)
-    → told_of fabric smp ≡ Ok bytes → SetTells fabric path attribute modifier wanted smp
-tells_taken fabric next attribute modifier path wanted smp bytes taken becomes given told = record {
+    → reported_of fabric smp ≡ Ok bytes → SetReports fabric path attribute modifier wanted smp
+reports_taken fabric next attribute modifier path wanted smp bytes taken becomes given reported = record {
   after = becomes ∙ rw taken refl;
-  told = told ∙ rw (taken, given) refl;
-  shown = λ other h. (bytes, told);
+  reported = reported ∙ rw (taken, given) refl;
+  shown = λ other h. (bytes, reported);
 }
 
 -- by what the node there takes
@@ -188,16 +188,16 @@ by_taken : (fabric : FabricState) (attribute : SmpAttribute) (modifier : ℕ) (p
     → IsGood fabric → Ends fabric path smp ends → slice_get fabric.nodes (last_of fabric.manager ends).node ≡ Some node
     → NodeSet node (last_of fabric.manager ends).port attribute modifier wanted (arrived ends smp)
     → node_takes node (last_of fabric.manager ends).port attribute modifier wanted ≡ taken
-    → SetTells fabric path attribute modifier wanted smp
+    → SetReports fabric path attribute modifier wanted smp
 by_taken fabric attribute modifier path wanted smp ends node None is_good here there set takes =
     let at = last_of fabric.manager ends in
-    tells_nothing fabric attribute modifier path wanted smp (rw (here.walked, there, takes) refl)
+    reports_nothing fabric attribute modifier path wanted smp (rw (here.walked, there, takes) refl)
     (here.holds ∙ rw there (ap (λ (nodes : List Node). record fabric { nodes = nodes })
     (set_back fabric.nodes at.node node _ there (set.holds ∙ rw takes refl))))
     (here.reply None (rw there (set.reply ∙ rw takes refl)) nothing_given)
 by_taken fabric attribute modifier path wanted smp ends node (Some (Err status)) is_good here there set takes =
     let at = last_of fabric.manager ends in
-    tells_refused fabric attribute modifier path wanted smp status (rw (here.walked, there, takes) refl)
+    reports_refused fabric attribute modifier path wanted smp status (rw (here.walked, there, takes) refl)
     (here.holds ∙ rw there (ap (λ (nodes : List Node). record fabric { nodes = nodes })
     (set_back fabric.nodes at.node node _ there (set.holds ∙ rw takes refl))))
     (here.reply (Some (Err status)) (rw there (set.reply ∙ rw takes refl)) (λ bytes h. absurd (cc)))
@@ -215,14 +215,14 @@ by_taken fabric attribute modifier path wanted smp ends node (Some (Ok after)) i
     let good_next : IsGood next = rw (sym becomes) (good fabric smp is_good) in
     let attributes : AreAttributes (gives_at next at attribute modifier) = attributes_given next at attribute modifier good_next.holdings in
     let given_there : gives_at next at attribute modifier ≡ Some (Ok shown.0) = rw again shown.1 in
-    tells_taken fabric next attribute modifier path wanted smp shown.0 (rw (here.walked, there, takes) refl) becomes given
+    reports_taken fabric next attribute modifier path wanted smp shown.0 (rw (here.walked, there, takes) refl) becomes given
     (here.reply (Some (Ok shown.0)) (rw there (set.reply ∙ rw (takes, shown.1) refl)) (rw (sym given_there) attributes))
 
 by_node : (fabric : FabricState) (attribute : SmpAttribute) (modifier : ℕ) (path wanted smp : List ℕ) (ends : List PortRef) (found : Option Node)
     → IsGood fabric → Ends fabric path smp ends → slice_get fabric.nodes (last_of fabric.manager ends).node ≡ found
-    → IsSetOf attribute modifier wanted (arrived ends smp) → SetTells fabric path attribute modifier wanted smp
+    → IsSetOf attribute modifier wanted (arrived ends smp) → SetReports fabric path attribute modifier wanted smp
 by_node fabric attribute modifier path wanted smp ends None is_good here there asks =
-    tells_nothing fabric attribute modifier path wanted smp (rw (here.walked, there) refl) (here.holds ∙ rw there refl)
+    reports_nothing fabric attribute modifier path wanted smp (rw (here.walked, there) refl) (here.holds ∙ rw there refl)
     (here.reply None (rw there refl) nothing_given)
 by_node fabric attribute modifier path wanted smp ends (Some node) is_good here there asks =
     by_taken fabric attribute modifier path wanted smp ends node
@@ -236,12 +236,12 @@ set_is_asked fabric attribute modifier path wanted smp is_good set =
 
 by_walk : (fabric : FabricState) (attribute : SmpAttribute) (modifier : ℕ) (path wanted smp : List ℕ) (walked : Option (List PortRef))
     → IsGood fabric → AsksToSet attribute modifier path wanted smp → walk fabric.nodes fabric.cables true fabric.manager path ≡ walked
-    → SetTells fabric path attribute modifier wanted smp
+    → SetReports fabric path attribute modifier wanted smp
 by_walk fabric attribute modifier path wanted smp None is_good set is =
     let no = walk_is fabric method.Set attribute modifier path smp set.asks ∙ is in
     let asked = set_is_asked fabric attribute modifier path wanted smp is_good set in
-    tells_nothing fabric attribute modifier path wanted smp (rw is refl) (no_walk_after fabric smp no)
-    (told_is fabric smp smp None asked set.asks.long nothing_given (no_walk_reply fabric smp no))
+    reports_nothing fabric attribute modifier path wanted smp (rw is refl) (no_walk_after fabric smp no)
+    (reported_is fabric smp smp None asked set.asks.long nothing_given (no_walk_reply fabric smp no))
 by_walk fabric attribute modifier path wanted smp (Some ends) is_good set is =
     let so = walk_is fabric method.Set attribute modifier path smp set.asks ∙ is in
     let carrier = carried fabric smp ends is_good set.asks.long set.asks.bytes so in
@@ -250,12 +250,12 @@ by_walk fabric attribute modifier path wanted smp (Some ends) is_good set is =
       walked = is;
       carrier = carrier;
       holds = walk_after fabric smp ends so;
-      reply = λ given replied are. told_is fabric smp (arrived ends smp) given asked carrier.long are
+      reply = λ given replied are. reported_is fabric smp (arrived ends smp) given asked carrier.long are
           (walk_reply fabric smp ends so ∙ ap (option_map returned) replied);
     } in
     by_node fabric attribute modifier path wanted smp ends (slice_get fabric.nodes (last_of fabric.manager ends).node) is_good here refl
     (carrier_sets attribute modifier path wanted smp (arrived ends smp) set carrier)
 
-pub sets_tell : SetsTell
-sets_tell fabric attribute modifier path wanted smp is_good set =
+pub sets_report : SetsReport
+sets_report fabric attribute modifier path wanted smp is_good set =
     by_walk fabric attribute modifier path wanted smp (walk fabric.nodes fabric.cables true fabric.manager path) is_good set refl

@@ -1,4 +1,4 @@
--- What a Get tells of a fabric: what the agent at the end of its path gives.
+-- What a Get reports of a fabric: what the agent at the end of its path gives.
 use Rattle.std.specs.Prelude.{ℕ, ◌≡◌, List, slice_get, Option, Some, option_map, Result}
 use Rattle.std.specs.Option.{option_and_then}
 use Rattle.mad_layout.specs.declared.status.MadStatus.{MadStatus}
@@ -9,7 +9,7 @@ use Rattle.fabric_parts.specs.declared.cable.PortRef.{PortRef}
 use Rattle.smp_wire.specs.declared.node.Node.{Node}
 use Rattle.smp_wire.specs.declared.node.Node.TheVariants.{Switch, Adapter}
 use Rattle.smp_wire.specs.FabricState.{FabricState, adapter_port}
-use Rattle.smp_wire.specs.Replies.{told_for, told_of}
+use Rattle.smp_wire.specs.Replies.{reported_for, reported_of}
 use Rattle.smp_wire.specs.Walk.{end_of, exchange_after}
 
 -- what a node gives at that port; an adapter has no agent at a port that is not there
@@ -26,7 +26,7 @@ gives_at fabric at attribute modifier =
 abbrev pub gives_along : FabricState → List ℕ → SmpAttribute → ℕ → Option (Result (List ℕ) MadStatus)
 gives_along fabric path attribute modifier = option_and_then (λ at. gives_at fabric at attribute modifier) (end_of fabric path)
 
--- a Get leaves the fabric as it was, and tells what is given
+-- a Get leaves the fabric as it was, and reports what is given
 pub record Reads (fabric : FabricState) (smp : List ℕ) (given : Option (Result (List ℕ) MadStatus)) : Type 0 where
   pub unchanged : exchange_after fabric smp ≡ fabric
-  pub told : told_of fabric smp ≡ told_for given
+  pub reported : reported_of fabric smp ≡ reported_for given

@@ -10,7 +10,7 @@ use Rattle.agent_rules.specs.Good.{IsGoodInfo}
 use Rattle.smp_wire.specs.Good.{IsGood, ShowsLinks, SwitchesJoined, info_at, is_up}
 use Rattle.smp_wire.specs.Replies.{IsReplyTo}
 use Rattle.smp_wire.specs.Requests.{AsksToGet, AsksToSet}
-use Rattle.smp_wire.specs.Set.{SetTells}
+use Rattle.smp_wire.specs.Set.{SetReports}
 use Rattle.smp_wire.specs.Shape.{IsSameShape}
 use Rattle.smp_wire.specs.Walk.{end_of, exchange_after, exchange_reply, hop, last_of, walk}
 use Rattle.smp_wire.specs.declared.node.Node.{Node}
@@ -58,18 +58,18 @@ CabledPortsAreUp =
     (fabric : FabricState) (at : PortRef) (info : PortInfo) → IsGood fabric → ShowsLinks fabric
     → is_port fabric.nodes at ≡ true → is_cabled fabric.cables at ≡ true → info_at fabric at ≡ Some info → is_up info ≡ true
 
--- a Get leaves a good fabric as it was, and tells what the agent at the end of its path gives
-abbrev pub GetsTell : Type 0
-GetsTell =
+-- a Get leaves a good fabric as it was, and reports what the agent at the end of its path gives
+abbrev pub GetsReport : Type 0
+GetsReport =
     (fabric : FabricState) (attribute : SmpAttribute) (modifier : ℕ) (path smp : List ℕ)
     → IsGood fabric → AsksToGet attribute modifier path smp → Reads fabric smp (gives_along fabric path attribute modifier)
 
--- a Set does to a good fabric what the agent at the end of its path takes, and tells what a Get tells then; a
+-- a Set does to a good fabric what the agent at the end of its path takes, and reports what a Get reports then; a
 -- refused one changes nothing
-abbrev pub SetsTell : Type 0
-SetsTell =
+abbrev pub SetsReport : Type 0
+SetsReport =
     (fabric : FabricState) (attribute : SmpAttribute) (modifier : ℕ) (path wanted smp : List ℕ)
-    → IsGood fabric → AsksToSet attribute modifier path wanted smp → SetTells fabric path attribute modifier wanted smp
+    → IsGood fabric → AsksToSet attribute modifier path wanted smp → SetReports fabric path attribute modifier wanted smp
 
 -- a walk along a path with one more port is the walk along the path, and one hop more
 abbrev pub WalksGoOn : Type 0

@@ -1,4 +1,4 @@
--- What the reply to a request of a subnet manager tells, and what it tells of a fabric.
+-- What the reply to a request of a subnet manager reports, and what it reports of a fabric.
 use Rattle.std.specs.Prelude.{ℕ, ◌≡◌, ◌+◌, ◌≤◌, ◌==◌, Bool, true, not, ◌&&◌, if◌then◌else◌, List, [], ◌∷◌, length, Option, Some, None, Result, Ok, Err}
 use Rattle.std.specs.Option.{option_map_or}
 use Rattle.mad_layout.specs.Bits.{field}
@@ -28,25 +28,25 @@ answers request reply =
     && (is_same_field request reply 128 16
     && is_same_field request reply 160 32)))))
 
--- what it tells: a status other than 0 is a refusal, whatever else stands in the reply
-unfoldable pub told_by : List ℕ → List ℕ → Result (List ℕ) ReplyFault
-told_by request reply =
+-- what it reports: a status other than 0 is a refusal, whatever else stands in the reply
+unfoldable pub reported_by : List ℕ → List ℕ → Result (List ℕ) ReplyFault
+reported_by request reply =
     if not (field reply 33 15 == 0) then Err Refused
     else (if answers request reply then Ok (data_of reply) else Err WrongReply)
 
--- and what is told where a reply comes or none does
-abbrev pub told_if : List ℕ → Option (List ℕ) → Result (List ℕ) ReplyFault
-told_if request reply = option_map_or (told_by request) reply (Err NoReply)
+-- and what is reported where a reply comes or none does
+abbrev pub reported_if : List ℕ → Option (List ℕ) → Result (List ℕ) ReplyFault
+reported_if request reply = option_map_or (reported_by request) reply (Err NoReply)
 
--- what a request tells of a fabric
-abbrev pub told_of : FabricState → List ℕ → Result (List ℕ) ReplyFault
-told_of fabric request = told_if request (exchange_reply fabric request)
+-- what a request reports of a fabric
+abbrev pub reported_of : FabricState → List ℕ → Result (List ℕ) ReplyFault
+reported_of fabric request = reported_if request (exchange_reply fabric request)
 
--- what is told for what an agent gives: nothing where there is none
-abbrev pub told_for : Option (Result (List ℕ) MadStatus) → Result (List ℕ) ReplyFault
-told_for None = Err NoReply
-told_for (Some (Err status)) = Err Refused
-told_for (Some (Ok bytes)) = Ok bytes
+-- what is reported for what an agent gives: nothing where there is none
+abbrev pub reported_for : Option (Result (List ℕ) MadStatus) → Result (List ℕ) ReplyFault
+reported_for None = Err NoReply
+reported_for (Some (Err status)) = Err Refused
+reported_for (Some (Ok bytes)) = Ok bytes
 
 -- ---- what comes back over a good fabric
 -- the reply has the method of a reply, its direction bit set and no hop left, and is the request in all but these,

@@ -2,7 +2,7 @@
 use Rattle.std.specs.Prelude.{ℕ, ◌≡◌, ◌-◌, List, slice_get, slice_set, Option, Some, option_map, Result, Ok, Err}
 use Rattle.std.specs.Option.{option_and_then, option_map_or}
 use Rattle.std.specs.Result.{result_unwrap_or}
-use Rattle.result_words.specs.Steps.{◌>>=◌}
+use Rattle.step_results.specs.Steps.{◌>>=◌}
 use Rattle.mad_layout.specs.declared.status.MadStatus.{MadStatus}
 use Rattle.attr_tables.specs.declared.smp_attribute.SmpAttribute.{SmpAttribute}
 use Rattle.port_model.specs.Agent.{set as adapter_set}
@@ -12,7 +12,7 @@ use Rattle.smp_wire.specs.declared.node.Node.{Node}
 use Rattle.smp_wire.specs.declared.node.Node.TheVariants.{Switch, Adapter}
 use Rattle.smp_wire.specs.FabricState.{FabricState, adapter_port}
 use Rattle.smp_wire.specs.Get.{gives_along}
-use Rattle.smp_wire.specs.Replies.{told_for, told_of}
+use Rattle.smp_wire.specs.Replies.{reported_for, reported_of}
 use Rattle.smp_wire.specs.Walk.{end_of, exchange_after}
 
 -- the node after a Set that came in at that port; an adapter has no agent at a port that is not there
@@ -48,10 +48,10 @@ abbrev pub set_gives_along : FabricState → List ℕ → SmpAttribute → ℕ �
 set_gives_along fabric path attribute modifier wanted =
     option_and_then (set_gives path attribute modifier) (takes_along fabric path attribute modifier wanted)
 
--- a Set does to the fabric what the agent at the end of its path takes, and tells what that gives then
-pub record SetTells (fabric : FabricState) (path : List ℕ) (attribute : SmpAttribute) (modifier : ℕ) (wanted smp : List ℕ) : Type 0 where
+-- a Set does to the fabric what the agent at the end of its path takes, and reports what that gives then
+pub record SetReports (fabric : FabricState) (path : List ℕ) (attribute : SmpAttribute) (modifier : ℕ) (wanted smp : List ℕ) : Type 0 where
   pub after : exchange_after fabric smp ≡ set_along fabric path attribute modifier wanted
-  pub told : told_of fabric smp ≡ told_for (set_gives_along fabric path attribute modifier wanted)
+  pub reported : reported_of fabric smp ≡ reported_for (set_gives_along fabric path attribute modifier wanted)
   -- and what is taken is shown
   pub shown : (next : FabricState) → takes_along fabric path attribute modifier wanted ≡ Some (Ok next)
-      → (bytes : List ℕ) × (told_of fabric smp ≡ Ok bytes)
+      → (bytes : List ℕ) × (reported_of fabric smp ≡ Ok bytes)

@@ -5,7 +5,7 @@ ghost use Rattle.std.specs.Result.{IsOk};
 ghost use Rattle.std.specs.Option.{ForSome};
 ghost use Rattle.smp_wire.specs.Get.{gives_along};
 ghost use Rattle.smp_wire.specs.Good.{IsGood};
-ghost use Rattle.smp_wire.specs.Replies.{told_for, told_of};
+ghost use Rattle.smp_wire.specs.Replies.{reported_for, reported_of};
 ghost use Rattle.smp_wire.specs.FabricState.{FabricState};
 ghost use Rattle.smp_wire.specs.Set.{set_along, set_gives_along, takes_along};
 ghost use Rattle.smp_wire.specs.Shape.{IsSameShape};
@@ -29,8 +29,8 @@ pub fn get_attribute<W: SmpWire>(
     path: &[u8],
 ) -> Result<[u8; 64], ReplyFault>
     requires { length path.now ≤ 63 }
-    ensures told { ForSome (W.fabric wire.old)
-        (λ fabric. IsGood fabric → result ≡ told_for (gives_along fabric path.now attribute modifier)) }
+    ensures reported { ForSome (W.fabric wire.old)
+        (λ fabric. IsGood fabric → result ≡ reported_for (gives_along fabric path.now attribute modifier)) }
     ensures left { ForSome (W.fabric wire.old) (λ fabric. IsGood fabric → W.fabric wire.new ≡ Some fabric) }
 {
     let request = get_request(transaction_id, attribute, modifier, path);
@@ -41,7 +41,7 @@ pub fn get_attribute<W: SmpWire>(
 /// node has there then.
 ///
 /// Over a wire that stands for a good fabric the fabric changes by what the agent there takes, and by
-/// nothing else; it is told what a Get of the same would tell then. `NoReply` where there is no walk or no
+/// nothing else; it is reported what a Get of the same would report then. `NoReply` where there is no walk or no
 /// agent, and `Refused` where the agent refuses, leave the fabric as it was; `WrongReply` never comes.
 /// The fabric stays good and keeps its shape.
 pub fn set_attribute<W: SmpWire>(
@@ -53,8 +53,8 @@ pub fn set_attribute<W: SmpWire>(
     wanted: &[u8; 64],
 ) -> Result<[u8; 64], ReplyFault>
     requires { length path.now ≤ 63 }
-    ensures told { ForSome (W.fabric wire.old)
-        (λ fabric. IsGood fabric → result ≡ told_for (set_gives_along fabric path.now attribute modifier wanted.now)) }
+    ensures reported { ForSome (W.fabric wire.old)
+        (λ fabric. IsGood fabric → result ≡ reported_for (set_gives_along fabric path.now attribute modifier wanted.now)) }
     ensures left { ForSome (W.fabric wire.old)
         (λ fabric. IsGood fabric → W.fabric wire.new ≡ Some (set_along fabric path.now attribute modifier wanted.now)) }
     ensures taken { ForSome (W.fabric wire.old) (λ fabric. (next : FabricState) → IsGood fabric
@@ -68,7 +68,7 @@ pub fn set_attribute<W: SmpWire>(
 
 /// Sends a request, and reads the reply.
 fn ask<W: SmpWire>(wire: &mut W, smp: &Mad) -> Result<[u8; 64], ReplyFault>
-    ensures told { ForSome (W.fabric wire.old) (λ fabric. result ≡ told_of fabric smp.now) }
+    ensures reported { ForSome (W.fabric wire.old) (λ fabric. result ≡ reported_of fabric smp.now) }
     ensures change { ForSome (W.fabric wire.old) (λ fabric. W.fabric wire.new ≡ Some (exchange_after fabric smp.now)) }
 {
     match wire.exchange(smp) {

@@ -1,7 +1,7 @@
 //! The laws of exchanges, whatever wire makes them. Each function's contract is its law; it does nothing.
 
-ghost use Rattle.smp_wire.specs.Laws.{ExchangesChangeWhatTheyName, ExchangesKeepGood, ExchangesKeepJoined, ExchangesKeepLinks, ExchangesKeepShape, GetsTell};
-ghost use Rattle.smp_wire.specs.Laws.{CabledPortsAreUp, PathsBegin, PathsGoOn, PortsAreGood, RepliesAnswer, SetsTell, WalksGoOn};
+ghost use Rattle.smp_wire.specs.Laws.{ExchangesChangeWhatTheyName, ExchangesKeepGood, ExchangesKeepJoined, ExchangesKeepLinks, ExchangesKeepShape, GetsReport};
+ghost use Rattle.smp_wire.specs.Laws.{CabledPortsAreUp, PathsBegin, PathsGoOn, PortsAreGood, RepliesAnswer, SetsReport, WalksGoOn};
 
 /// Whatever SMP is sent, a good fabric stays good; one in which a port is Down exactly where it has no
 /// cable stays such a one; one whose switches are joined stays such a one; and its shape stays: which nodes
@@ -32,17 +32,17 @@ pub fn ports_are_good()
     ensures up { CabledPortsAreUp }
 {}
 
-/// A Get along a path leaves a good fabric as it was. It tells the 64 bytes that the agent at the end of
+/// A Get along a path leaves a good fabric as it was. It reports the 64 bytes that the agent at the end of
 /// the path gives, no reply where there is no walk or no agent, and a refusal where that refuses.
-pub fn gets_tell()
-    ensures { GetsTell }
+pub fn gets_report()
+    ensures { GetsReport }
 {}
 
 /// A Set along a path changes a good fabric by what the agent at the end of the path takes, and by nothing
-/// else. It tells what a Get tells then, which is never a refusal; where there is no walk, no agent or a
+/// else. It reports what a Get reports then, which is never a refusal; where there is no walk, no agent or a
 /// refusal, nothing changes.
-pub fn sets_tell()
-    ensures { SetsTell }
+pub fn sets_report()
+    ensures { SetsReport }
 {}
 
 /// A walk along a path with one more port is the walk along the path and one hop more. A path that begins

@@ -5,7 +5,7 @@
 //! `specs/Walk.antt` does, and the fabric changes as that says. Where it stands for none, a call returns,
 //! and nothing else is promised. [`PlainWire`] keeps a fabric as lists of [`Node`]s and cables and follows
 //! the definition; [`CountingWire`] and [`SilencedWire`] stand round another wire. [`get_attribute`] and
-//! [`set_attribute`] read and set one attribute over any wire, and [`read_reply`] tells what one reply means.
+//! [`set_attribute`] read and set one attribute over any wire, and [`read_reply`] reports what one reply means.
 //! The walk is that of directed-route SMPs of the IBA volume 1
 //!, 14.2.1.2 and chapter 14.
 #![tactic(auto)]
@@ -22,8 +22,8 @@ mod wrappers;
 
 pub use crate::asking::{get_attribute, set_attribute};
 pub use crate::laws::{
-    exchanges_change_what_they_name, exchanges_keep_the_fabric, gets_tell, paths_go_on,
-    ports_are_good, replies_answer, sets_tell,
+    exchanges_change_what_they_name, exchanges_keep_the_fabric, gets_report, paths_go_on,
+    ports_are_good, replies_answer, sets_report,
 };
 pub use crate::node::{AdapterPorts, BoxedSwitch, Node};
 pub use crate::plain_wire::PlainWire;

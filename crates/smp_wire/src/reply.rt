@@ -1,12 +1,12 @@
-//! What the reply to a request tells.
+//! What the reply to a request reports.
 
 ghost use Rattle.std.specs.Prelude.{◌≡◌};
-ghost use Rattle.smp_wire.specs.Replies.{answers, told_by};
+ghost use Rattle.smp_wire.specs.Replies.{answers, reported_by};
 
 use agent_rules::data_of;
 use mad_layout::{DrSmp, Header, Mad, Method};
 
-/// Why a request told nothing.
+/// Why a request reported nothing.
 #[derive(Clone, Copy, Debug, PartialEq, Eq)]
 pub enum ReplyFault {
     /// Nothing came back.
@@ -22,9 +22,9 @@ pub enum ReplyFault {
 /// then a reply of another request.
 ///
 /// Source: IBA volume 1, 13.4.2.
-#[tactic(auto, unfolding(crate::specs::Replies::told_by))]
+#[tactic(auto, unfolding(crate::specs::Replies::reported_by))]
 pub fn read_reply(request: &Mad, reply: &Mad) -> Result<[u8; 64], ReplyFault>
-    ensures { result ≡ told_by request.now reply.now }
+    ensures { result ≡ reported_by request.now reply.now }
 {
     if DrSmp::read(reply).status != 0 {
         return Err(ReplyFault::Refused);
@@ -40,12 +40,12 @@ fn answers(request: &Mad, reply: &Mad) -> bool
     ensures { result ≡ answers request.now reply.now }
 {
     let asked = Header::read(request);
-    let told = Header::read(reply);
-    told.method == Method::GetResp.code()
-        && told.base_version == asked.base_version
-        && told.mgmt_class == asked.mgmt_class
-        && told.class_version == asked.class_version
-        && told.transaction_id == asked.transaction_id
-        && told.attribute_id == asked.attribute_id
-        && told.attribute_modifier == asked.attribute_modifier
+    let reported = Header::read(reply);
+    reported.method == Method::GetResp.code()
+        && reported.base_version == asked.base_version
+        && reported.mgmt_class == asked.mgmt_class
+        && reported.class_version == asked.class_version
+        && reported.transaction_id == asked.transaction_id
+        && reported.attribute_id == asked.attribute_id
+        && reported.attribute_modifier == asked.attribute_modifier
 }

@@ -1,11 +1,11 @@
--- Requests over the fabric of a roster are answered as its list of ports says.
+-- Requests over the fabric of an inventory are answered as its list of ports says.
 use Rattle.std.proofs.Common.{ℕ, zero, suc, ◌+◌, ◌≡◌, ◌≤◌, ◌<◌, ◌==◌, ◌∙◌, ap, refl, sym, subst, true, false, List, [], ◌∷◌, length, map, slice_get, Option, Some, None, arith}
 use Rattle.std.specs.List.{range_with_len}
 use Rattle.std.proofs.lemmas.Bool.Decides.{nat_tests}
 use Rattle.std.proofs.lemmas.Option.{none-some, same_Some}
 use Rattle.data_packet.specs.declared.packet.Packet.{Packet}
 use Rattle.fabric_parts.specs.Lid.{is_reserved}
-use Rattle.packet_ways.specs.Deliveries.{DeliveryState}
+use Rattle.delivery_laws.specs.Deliveries.{DeliveryState}
 use Rattle.partition_file.proofs.MemberLemmas.{sound_headings}
 use Rattle.pkey_rules.specs.KeyTable.{holds}
 use Rattle.sa_answer.specs.Answering.{Answers, answer_from, answer_to_port}
@@ -23,7 +23,7 @@ use Rattle.subnet_core.proofs.BringUpLemmas.{lids_in_order}
 use Rattle.subnet_core.proofs.SenderLemmas.{manager_is_listed}
 use Rattle.subnet_core.specs.Answering.{AnswersRequests, AnswersUnder}
 use Rattle.subnet_core.specs.BringUp.{IsUp, Stands}
-use Rattle.subnet_core.specs.Roster.{IsRostered, RosterState}
+use Rattle.subnet_core.specs.Inventory.{IsInventoried, InventoryState}
 use Rattle.subnet_core.specs.declared.answering.Answer.{Answer}
 use Rattle.subnet_fabric.specs.BringUp.{BroughtUpState, IsBroughtUpBy}
 use Rattle.subnet_fabric.specs.Laws.{all_keys}
@@ -40,75 +40,75 @@ use Rattle.subnet_ports.proofs.ConfiguredLemmas.{is_configured}
 use Rattle.subnet_ports.specs.Ports.{configuration_of, ports_of}
 use Rattle.subnet_sends.proofs.ListLemmas.{found_among}
 use Rattle.subnet_sends.proofs.ReplyLemmas.{requests_come_to_the_manager}
-use Rattle.subnet_sends.specs.Laws.{IsSender, told}
+use Rattle.subnet_sends.specs.Laws.{IsSender, reported}
 use Rattle.subnet_sends.specs.OfFabric.{IsFabricOf}
 use Rattle.subnet_sends.specs.Replies.{IsRequestOf, RepliesAreAsListed, received_under}
 use Rattle.subnet_sends.specs.Sends.{event_of}
 use Rattle.topo_file.specs.Topology.{TopologyState}
 use Rattle.updn_routes.specs.Subnet.{RoutesState}
 
--- ---- rosters
-pub roster_is_configured : (roster : RosterState) → IsRostered roster → IsConfigured roster.configuration
-roster_is_configured roster is =
-    subst IsConfigured (sym is.listed) (is_configured is.partitions roster.plan is.topology (sound_headings is.partitions is.sound))
+-- ---- inventories
+pub inventory_is_configured : (inventory : InventoryState) → IsInventoried inventory → IsConfigured inventory.configuration
+inventory_is_configured inventory is =
+    subst IsConfigured (sym is.listed) (is_configured is.partitions inventory.plan is.topology (sound_headings is.partitions is.sound))
 
 -- ---- what stands
-pub serves : (roster : RosterState) (routes : RoutesState) (registry : RegistryState) (fabric : FabricState) → Stands roster routes registry fabric
-    → Serves roster.plan routes registry fabric
-serves roster routes registry fabric stands = record {
-  sound = stands.rostered.topology;
-  partitions = stands.rostered.partitions;
-  whole = stands.rostered.sound;
-  configured = stands.configured ∙ stands.rostered.listed;
-  served = subst (λ (configuration : ConfigurationState). IsServed roster.plan configuration.ports registry.administration.remembered.partitions routes fabric)
+pub serves : (inventory : InventoryState) (routes : RoutesState) (registry : RegistryState) (fabric : FabricState) → Stands inventory routes registry fabric
+    → Serves inventory.plan routes registry fabric
+serves inventory routes registry fabric stands = record {
+  sound = stands.inventoried.topology;
+  partitions = stands.inventoried.partitions;
+  whole = stands.inventoried.sound;
+  configured = stands.configured ∙ stands.inventoried.listed;
+  served = subst (λ (configuration : ConfigurationState). IsServed inventory.plan configuration.ports registry.administration.remembered.partitions routes fabric)
       (sym stands.configured) stands.served;
 }
 
-pub stands_as_listed : (roster : RosterState) (routes : RoutesState) (registry : RegistryState) (fabric : FabricState) → Stands roster routes registry fabric
-    → IsFabricOf roster.configuration.ports (is_receiver_of registry.administration.remembered.partitions) fabric
-stands_as_listed roster routes registry fabric stands =
-    let is = stands.rostered in
-    let state : IsStateOf (configuration_of is.partitions roster.plan) registry.administration =
+pub stands_as_listed : (inventory : InventoryState) (routes : RoutesState) (registry : RegistryState) (fabric : FabricState) → Stands inventory routes registry fabric
+    → IsFabricOf inventory.configuration.ports (is_receiver_of registry.administration.remembered.partitions) fabric
+stands_as_listed inventory routes registry fabric stands =
+    let is = stands.inventoried in
+    let state : IsStateOf (configuration_of is.partitions inventory.plan) registry.administration =
     subst (λ (configuration : ConfigurationState). IsStateOf configuration registry.administration) is.listed stands.state in
-    let served : IsServed roster.plan (ports_of is.partitions roster.plan) registry.administration.remembered.partitions routes fabric =
-    subst (λ (configuration : ConfigurationState). IsServed roster.plan configuration.ports registry.administration.remembered.partitions routes fabric)
+    let served : IsServed inventory.plan (ports_of is.partitions inventory.plan) registry.administration.remembered.partitions routes fabric =
+    subst (λ (configuration : ConfigurationState). IsServed inventory.plan configuration.ports registry.administration.remembered.partitions routes fabric)
     is.listed stands.served in
     subst (λ (configuration : ConfigurationState). IsFabricOf configuration.ports (is_receiver_of registry.administration.remembered.partitions) fabric)
     (sym is.listed)
-    (a_served_fabric_is_as_listed roster.plan is.partitions registry.administration routes fabric is.topology is.sound state served)
+    (a_served_fabric_is_as_listed inventory.plan is.partitions registry.administration routes fabric is.topology is.sound state served)
 
 -- ---- one request
-module _ (roster : RosterState) (routes : RoutesState) (old : RegistryState) (was : FabricState) (stands : Stands roster routes old was)
+module _ (inventory : InventoryState) (routes : RoutesState) (old : RegistryState) (was : FabricState) (stands : Stands inventory routes old was)
     (port : ℕ) (deliveries : List DeliveryState) where
   abbrev ports : List SubnetPort
-  ports = roster.configuration.ports
+  ports = inventory.configuration.ports
 
   -- what comes to the subnet manager's port, of a packet that is for it
   abbrev IsOf : SendCommand → SubnetPort → Type 0
   IsOf command sender =
-      map told deliveries
+      map reported deliveries
       ≡ received_by (reaches_joined (is_receiver_of old.administration.remembered.partitions command.dlid) command) ports sender command
 
   came : (command : SendCommand) (sender : SubnetPort) → IsSender ports command sender → is_for_sa command ≡ true → IsOf command sender
-      → map told deliveries ≡ received_under (manager_key ports command.p_key) (manager_is_listed roster stands.rostered).0 (packet_of sender command)
+      → map reported deliveries ≡ received_under (manager_key ports command.p_key) (manager_is_listed inventory stands.inventoried).0 (packet_of sender command)
   came command sender sends for_sa of =
-      let manager = manager_is_listed roster stands.rostered in
+      let manager = manager_is_listed inventory stands.inventoried in
       of
       ∙ requests_come_to_the_manager ports (is_receiver_of old.administration.remembered.partitions) was command sender manager.0
-      (stands_as_listed roster routes old was stands) sends for_sa manager.1.first manager.1.adapter
+      (stands_as_listed inventory routes old was stands) sends for_sa manager.1.first manager.1.adapter
 
   -- nothing is answered where nothing came, or no key matches
   pub unanswered : (given : Answer) → given.mads.items ≡ [] → given.events.items ≡ [] → (new : RegistryState) → new ≡ old
       → ((command : SendCommand) (sender : SubnetPort) → IsSender ports command sender → is_for_sa command ≡ true → IsOf command sender
       → manager_key ports command.p_key ≡ None)
-      → AnswersRequests roster old port deliveries given new
+      → AnswersRequests inventory old port deliveries given new
   unanswered given mads events new same none command sender sends guid for_sa held of =
       rw (none command sender sends for_sa of) (mads, ap (map event_of) events, ap (λ (registry : RegistryState). registry.administration) same)
 
 none_came : (deliveries : List DeliveryState) (key : Option ℕ) (manager : SubnetPort) (packet : Packet) → deliveries ≡ []
-    → map told deliveries ≡ received_under key manager packet → key ≡ None
+    → map reported deliveries ≡ received_under key manager packet → key ≡ None
 none_came deliveries None manager packet none came = refl
-none_came deliveries (Some key) manager packet none came = absurd (let empty = sym (ap (map told) none) ∙ came in cc)
+none_came deliveries (Some key) manager packet none came = absurd (let empty = sym (ap (map reported) none) ∙ came in cc)
 
 -- what came is the packet, at the subnet manager's port
 record IsThat (manager : SubnetPort) (packet : Packet) (request : DeliveryState) (key : Option ℕ) : Type 0 where
@@ -118,10 +118,10 @@ record IsThat (manager : SubnetPort) (packet : Packet) (request : DeliveryState)
   is : request.packet ≡ packet
 
 one_came : (request : DeliveryState) (rest : List DeliveryState) (key : Option ℕ) (manager : SubnetPort) (packet : Packet)
-    → map told (request ∷ rest) ≡ received_under key manager packet → IsThat manager packet request key
+    → map reported (request ∷ rest) ≡ received_under key manager packet → IsThat manager packet request key
 one_came request rest None manager packet came = absurd (cc)
 one_came request rest (Some key) manager packet came =
-    let same : told request ≡ record { port_guid = manager.guid; what = Received packet } = cc in
+    let same : reported request ≡ record { port_guid = manager.guid; what = Received packet } = cc in
     record { some = key; key_is = refl; at = ap (λ (event : PortEvent). event.port_guid) same; is = packets request.packet packet (ap (λ (event : PortEvent). event.what) same) }
   where
     packets : (a b : Packet) → Received a ≡ Received b → a ≡ b
@@ -143,29 +143,29 @@ lid_of_place first (one ∷ ports) (suc k) port lids there =
 low : (lid : ℕ) → 1 ≤ lid → lid ≤ 320 → is_reserved lid ≡ false
 low lid some few = grind (arith, nat_tests)
 
-unreserved : (roster : RosterState) → IsRostered roster → (k : ℕ) (port : SubnetPort) → slice_get roster.configuration.ports k ≡ Some port
+unreserved : (inventory : InventoryState) → IsInventoried inventory → (k : ℕ) (port : SubnetPort) → slice_get inventory.configuration.ports k ≡ Some port
     → is_reserved port.lid ≡ false
-unreserved roster is k port there =
-    let place = lid_of_place 1 roster.configuration.ports k port (lids_in_order roster is) there in
-    let few : length roster.configuration.ports ≤ 320 = (roster_is_configured roster is).few in
+unreserved inventory is k port there =
+    let place = lid_of_place 1 inventory.configuration.ports k port (lids_in_order inventory is) there in
+    let few : length inventory.configuration.ports ≤ 320 = (inventory_is_configured inventory is).few in
     low port.lid (omega (arith, place.0)) (omega (arith, place.0, place.1, few))
 
 -- ---- a request that is answered, and whose answers are carried back
-module _ (roster : RosterState) (routes : RoutesState) (old : RegistryState) (was : FabricState) (stands : Stands roster routes old was)
+module _ (inventory : InventoryState) (routes : RoutesState) (old : RegistryState) (was : FabricState) (stands : Stands inventory routes old was)
     (port : ℕ) (deliveries : List DeliveryState) (request : DeliveryState) (rest : List DeliveryState) (are : deliveries ≡ request ∷ rest) where
   abbrev listed : List SubnetPort
-  listed = roster.configuration.ports
+  listed = inventory.configuration.ports
 
   abbrev Of : SendCommand → SubnetPort → Type 0
   Of command sender =
-      map told deliveries
+      map reported deliveries
       ≡ received_by (reaches_joined (is_receiver_of old.administration.remembered.partitions command.dlid) command) listed sender command
 
   that : (command : SendCommand) (sender : SubnetPort) → IsSender listed command sender → is_for_sa command ≡ true → Of command sender
-      → IsThat (manager_is_listed roster stands.rostered).0 (packet_of sender command) request (manager_key listed command.p_key)
+      → IsThat (manager_is_listed inventory stands.inventoried).0 (packet_of sender command) request (manager_key listed command.p_key)
   that command sender sends for_sa of =
-      one_came request rest (manager_key listed command.p_key) (manager_is_listed roster stands.rostered).0 (packet_of sender command)
-      (sym (ap (map told) are) ∙ came roster routes old was stands port deliveries command sender sends for_sa of)
+      one_came request rest (manager_key listed command.p_key) (manager_is_listed inventory stands.inventoried).0 (packet_of sender command)
+      (sym (ap (map reported) are) ∙ came inventory routes old was stands port deliveries command sender sends for_sa of)
 
   -- where the key of the packet that came matches none, neither does the command's
   pub no_key : manager_key listed request.packet.p_key ≡ None
@@ -177,7 +177,7 @@ module _ (roster : RosterState) (routes : RoutesState) (old : RegistryState) (wa
   module _ (key : ℕ) (key_is : manager_key listed request.packet.p_key ≡ Some key) (command : SendCommand) (sender : SubnetPort)
       (sends : IsSender listed command sender) (guid : command.port_guid ≡ port) (for_sa : is_for_sa command ≡ true)
       (held : holds command.p_key sender.keys ≡ true) (of : Of command sender) where
-    is_that : IsThat (manager_is_listed roster stands.rostered).0 (packet_of sender command) request (manager_key listed command.p_key)
+    is_that : IsThat (manager_is_listed inventory stands.inventoried).0 (packet_of sender command) request (manager_key listed command.p_key)
     is_that = that command sender sends for_sa of
 
     under : manager_key listed command.p_key ≡ Some key
@@ -185,7 +185,7 @@ module _ (roster : RosterState) (routes : RoutesState) (old : RegistryState) (wa
 
     is_request : IsRequestOf listed sender request key
     is_request =
-        let manager = manager_is_listed roster stands.rostered in
+        let manager = manager_is_listed inventory stands.inventoried in
         let among = found_among (λ port. port.guid == command.port_guid) listed sender sends.named in
         record {
           manager = manager.0;
@@ -194,7 +194,7 @@ module _ (roster : RosterState) (routes : RoutesState) (old : RegistryState) (wa
           manager_adapter = manager.1.adapter;
           own_named = ap (port_with_guid listed) (found_guid listed command.port_guid sender sends.named) ∙ sends.named;
           own_adapter = sends.adapter;
-          own_lid = unreserved roster stands.rostered among.place sender among.there;
+          own_lid = unreserved inventory stands.inventoried among.place sender among.there;
           source = ap (λ (packet : Packet). packet.slid) is_that.is;
           held = ap (λ (packet : Packet). holds packet.p_key sender.keys) is_that.is ∙ held;
           key_is = key_is;
@@ -208,7 +208,7 @@ module _ (roster : RosterState) (routes : RoutesState) (old : RegistryState) (wa
         ∙ ap (λ (from : Option SubnetPort). answer_from listed from request.packet.payload old.administration) sends.named
         ∙ ap (λ (packet : Packet). answer listed sender packet.payload old.administration) is_that.is
 
-    brings : (mads : List (List ℕ)) (new : RegistryState) (left : FabricState) → Stands roster routes new left
+    brings : (mads : List (List ℕ)) (new : RegistryState) (left : FabricState) → Stands inventory routes new left
         → Answers (answer_to_port old.configuration.ports port request.packet.payload old.administration) mads old new
         → (given : Answer) → given.mads.items ≡ mads → RepliesAreAsListed left request key mads given.events.items
         → AnswersUnder (manager_key listed command.p_key) sender (answer listed sender command.payload old.administration) old.administration given new.administration
@@ -217,16 +217,16 @@ module _ (roster : RosterState) (routes : RoutesState) (old : RegistryState) (wa
         subst (λ (o : Option ℕ). AnswersUnder o sender (answer listed sender command.payload old.administration) old.administration given new.administration)
         (sym under) (
           mads_are ∙ same,
-          replies listed (is_receiver_of new.administration.remembered.partitions) sender (stands_as_listed roster routes new left after) is_request
+          replies listed (is_receiver_of new.administration.remembered.partitions) sender (stands_as_listed inventory routes new left after) is_request
               ∙ ap (map (reply_to sender key)) same,
           ap (λ (registry : RegistryState). registry.administration) answers.next ∙ ap (λ (answered : Answered). answered.1) same_answer,
         )
 
   pub is_answered : (key : ℕ) → manager_key listed request.packet.p_key ≡ Some key
-      → (mads : List (List ℕ)) (new : RegistryState) (left : FabricState) → Stands roster routes new left
+      → (mads : List (List ℕ)) (new : RegistryState) (left : FabricState) → Stands inventory routes new left
       → Answers (answer_to_port old.configuration.ports port request.packet.payload old.administration) mads old new
       → (given : Answer) → given.mads.items ≡ mads → RepliesAreAsListed left request key mads given.events.items
-      → AnswersRequests roster old port deliveries given new
+      → AnswersRequests inventory old port deliveries given new
   is_answered key key_is mads new left after answers given mads_are replies command sender sends guid for_sa held of =
       brings key key_is command sender sends guid for_sa held of mads new left after answers given mads_are replies
 
@@ -239,67 +239,67 @@ pub first_some : {X : Type 0} (xs : List X) (x : X) → slice_get xs 0 ≡ Some 
 first_some [] x some = absurd (none-some x some)
 first_some (y ∷ xs) x some = (xs, ap (λ z. z ∷ xs) (same_Some y x some))
 
-module _ (roster : RosterState) (routes : RoutesState) (old : RegistryState) (was : FabricState) (stands : Stands roster routes old was)
+module _ (inventory : InventoryState) (routes : RoutesState) (old : RegistryState) (was : FabricState) (stands : Stands inventory routes old was)
     (port : ℕ) (deliveries : List DeliveryState) (given : Answer) (mads : given.mads.items ≡ []) (events : given.events.items ≡ []) where
   -- nothing was delivered
-  pub nothing_came : deliveries ≡ [] → AnswersRequests roster old port deliveries given old
+  pub nothing_came : deliveries ≡ [] → AnswersRequests inventory old port deliveries given old
   nothing_came none =
-      unanswered roster routes old was stands port deliveries given mads events old refl
+      unanswered inventory routes old was stands port deliveries given mads events old refl
       (λ command sender sends for_sa of.
-      none_came deliveries (manager_key roster.configuration.ports command.p_key) (manager_is_listed roster stands.rostered).0 (packet_of sender command) none
-      (came roster routes old was stands port deliveries command sender sends for_sa of))
+      none_came deliveries (manager_key inventory.configuration.ports command.p_key) (manager_is_listed inventory stands.inventoried).0 (packet_of sender command) none
+      (came inventory routes old was stands port deliveries command sender sends for_sa of))
 
   -- or under a key that matches none
   pub nothing_matches : (request : DeliveryState) (rest : List DeliveryState) → deliveries ≡ request ∷ rest
-      → manager_key roster.configuration.ports request.packet.p_key ≡ None → AnswersRequests roster old port deliveries given old
+      → manager_key inventory.configuration.ports request.packet.p_key ≡ None → AnswersRequests inventory old port deliveries given old
   nothing_matches request rest are none =
-      unanswered roster routes old was stands port deliveries given mads events old refl
-      (no_key roster routes old was stands port deliveries request rest are none)
+      unanswered inventory routes old was stands port deliveries given mads events old refl
+      (no_key inventory routes old was stands port deliveries request rest are none)
 
 -- what is left stands, too
-module _ (roster : RosterState) (routes : RoutesState) (old : RegistryState) (was : FabricState) (stands : Stands roster routes old was) where
-  state_after : (port : ℕ) (payload : List ℕ) (own : Option SubnetPort) → port_with_guid roster.configuration.ports port ≡ own
-      → IsStateOf roster.configuration (answer_from roster.configuration.ports own payload old.administration).1
+module _ (inventory : InventoryState) (routes : RoutesState) (old : RegistryState) (was : FabricState) (stands : Stands inventory routes old was) where
+  state_after : (port : ℕ) (payload : List ℕ) (own : Option SubnetPort) → port_with_guid inventory.configuration.ports port ≡ own
+      → IsStateOf inventory.configuration (answer_from inventory.configuration.ports own payload old.administration).1
   state_after port payload None is = stands.state
   state_after port payload (Some own) is =
-      answers_keep_states roster.configuration own payload old.administration (roster_is_configured roster stands.rostered)
-      (ap (port_with_guid roster.configuration.ports) (found_guid roster.configuration.ports port own is) ∙ is) stands.state
+      answers_keep_states inventory.configuration own payload old.administration (inventory_is_configured inventory stands.inventoried)
+      (ap (port_with_guid inventory.configuration.ports) (found_guid inventory.configuration.ports port own is) ∙ is) stands.state
 
   pub stands_after : (port : ℕ) (payload : List ℕ) (mads : List (List ℕ)) (new : RegistryState) (left : FabricState)
       → Answers (answer_to_port old.configuration.ports port payload old.administration) mads old new
       → ((plan : TopologyState) → Serves plan routes old was → Serves plan routes new left)
-      → Stands roster routes new left
+      → Stands inventory routes new left
   stands_after port payload mads new left answers serving =
-      let served = serving roster.plan (serves roster routes old was stands) in
-      let configured : new.configuration ≡ roster.configuration =
+      let served = serving inventory.plan (serves inventory routes old was stands) in
+      let configured : new.configuration ≡ inventory.configuration =
       ap (λ (registry : RegistryState). registry.configuration) answers.next ∙ stands.configured in
       record {
-        rostered = stands.rostered;
+        inventoried = stands.inventoried;
         configured = configured;
         whole = ap (λ (registry : RegistryState). registry.is_broken) answers.next ∙ stands.whole;
-        state = subst (λ (state : Administration). IsStateOf roster.configuration state)
+        state = subst (λ (state : Administration). IsStateOf inventory.configuration state)
             (sym (ap (λ (registry : RegistryState). registry.administration) answers.next
             ∙ ap (λ (configuration : ConfigurationState). (answer_to_port configuration.ports port payload old.administration).1) stands.configured))
-            (state_after port payload (port_with_guid roster.configuration.ports port) refl);
+            (state_after port payload (port_with_guid inventory.configuration.ports port) refl);
         served = subst (λ (configuration : ConfigurationState).
-            IsServed roster.plan configuration.ports new.administration.remembered.partitions routes left) configured served.served;
+            IsServed inventory.plan configuration.ports new.administration.remembered.partitions routes left) configured served.served;
       }
 
 -- ---- before the first command
-pub stands_at_start : (roster : RosterState) (up : BroughtUpState) (registry : RegistryState) → IsRostered roster → IsUp roster up
-    → registry ≡ record { configuration = roster.configuration; administration = at_start roster.configuration; is_broken = false }
-    → Stands roster up.routes registry up.fabric
-stands_at_start roster up registry is by same =
+pub stands_at_start : (inventory : InventoryState) (up : BroughtUpState) (registry : RegistryState) → IsInventoried inventory → IsUp inventory up
+    → registry ≡ record { configuration = inventory.configuration; administration = at_start inventory.configuration; is_broken = false }
+    → Stands inventory up.routes registry up.fabric
+stands_at_start inventory up registry is by same =
     let configured = ap (λ (registry : RegistryState). registry.configuration) same in
     let administration = ap (λ (registry : RegistryState). registry.administration) same in
-    let brought : IsBroughtUpBy roster.plan (all_keys (ports_of is.partitions roster.plan)) up.routes up.fabric =
-    subst (λ (configuration : ConfigurationState). IsBroughtUpBy roster.plan (all_keys configuration.ports) up.routes up.fabric) is.listed by in
+    let brought : IsBroughtUpBy inventory.plan (all_keys (ports_of is.partitions inventory.plan)) up.routes up.fabric =
+    subst (λ (configuration : ConfigurationState). IsBroughtUpBy inventory.plan (all_keys configuration.ports) up.routes up.fabric) is.listed by in
     record {
-      rostered = is;
+      inventoried = is;
       configured = configured;
       whole = ap (λ (registry : RegistryState). registry.is_broken) same;
-      state = subst (IsStateOf roster.configuration) (sym administration) (starts_are_states roster.configuration (roster_is_configured roster is));
-      served = subst (λ (state : Administration). IsServed roster.plan roster.configuration.ports state.remembered.partitions up.routes up.fabric) (sym administration)
-          (subst (λ (configuration : ConfigurationState). IsServed roster.plan configuration.ports (start_of configuration) up.routes up.fabric) (sym is.listed)
-          (starts_are_served roster.plan is.partitions up.routes up.fabric is.topology is.sound brought));
+      state = subst (IsStateOf inventory.configuration) (sym administration) (starts_are_states inventory.configuration (inventory_is_configured inventory is));
+      served = subst (λ (state : Administration). IsServed inventory.plan inventory.configuration.ports state.remembered.partitions up.routes up.fabric) (sym administration)
+          (subst (λ (configuration : ConfigurationState). IsServed inventory.plan configuration.ports (start_of configuration) up.routes up.fabric) (sym is.listed)
+          (starts_are_served inventory.plan is.partitions up.routes up.fabric is.topology is.sound brought));
     }

@@ -5,7 +5,7 @@ use Rattle.std.proofs.lemmas.List.{append-nil, append_assoc, map-append}
 use Rattle.data_packet.specs.declared.refusal.Refusal.{Refusal}
 use Rattle.fabric_parts.specs.declared.cable.PortRef.{PortRef}
 use Rattle.fabric_wire.specs.Recabling.{cabling_of}
-use Rattle.packet_ways.specs.Deliveries.{HasPort, adapter_at}
+use Rattle.delivery_laws.specs.Deliveries.{HasPort, adapter_at}
 use Rattle.port_model.specs.AdapterState.{AdapterState}
 use Rattle.sa_store.specs.Registry.{RegistryState}
 use Rattle.sa_replies.specs.Answer.{Administration, Answered, answer}
@@ -14,7 +14,7 @@ use Rattle.sa_runs.specs.Asking.{acknowledgements}
 use Rattle.smp_wire.specs.FabricState.{FabricState}
 use Rattle.subnet_core.specs.Answering.{AnswersUnder, AsksOnce, AsksUnder, IsStep, StepsTo}
 use Rattle.subnet_core.specs.BringUp.{Stands}
-use Rattle.subnet_core.specs.Roster.{RosterState}
+use Rattle.subnet_core.specs.Inventory.{InventoryState}
 use Rattle.subnet_core.specs.Senders.{MadComes, MadsCome}
 use Rattle.subnet_core.specs.declared.answering.Answer.{Answer}
 use Rattle.subnet_model.specs.Delivery.{asking_key, manager_key}
@@ -41,19 +41,19 @@ abbrev pub left_answered : List SubnetPort → SubnetPort → List (List ℕ) �
 left_answered ports own left state = answered_in_turn (answer ports own) left state
 
 -- these events so far, with what these ACKs still bring, are all; without a key no ACK is left
-abbrev pub Finishes : RosterState → Administration → AskCommand → SubnetPort → Option ℕ → List (List ℕ) → List Event → Administration → Type 0
-Finishes roster old command own (Some key) left events state =
-    (map event_of events ++ map (reply_to own key) (left_answered roster.configuration.ports own left state).0
-    ≡ map (reply_to own key) (all_answered roster.configuration.ports own command.mad old).0)
-    × ((left_answered roster.configuration.ports own left state).1 ≡ (all_answered roster.configuration.ports own command.mad old).1)
-Finishes roster old command own None left events state =
-    (left ≡ []) × IsStep (asked subnet_administration roster.configuration (Some own) command.mad old) events state
+abbrev pub Finishes : InventoryState → Administration → AskCommand → SubnetPort → Option ℕ → List (List ℕ) → List Event → Administration → Type 0
+Finishes inventory old command own (Some key) left events state =
+    (map event_of events ++ map (reply_to own key) (left_answered inventory.configuration.ports own left state).0
+    ≡ map (reply_to own key) (all_answered inventory.configuration.ports own command.mad old).0)
+    × ((left_answered inventory.configuration.ports own left state).1 ≡ (all_answered inventory.configuration.ports own command.mad old).1)
+Finishes inventory old command own None left events state =
+    (left ≡ []) × IsStep (asked subnet_administration inventory.configuration (Some own) command.mad old) events state
 
 -- while ACKs are left
-pub record OnTheWay (roster : RosterState) (routes : RoutesState) (old : RegistryState) (was : FabricState) (command : AskCommand)
+pub record OnTheWay (inventory : InventoryState) (routes : RoutesState) (old : RegistryState) (was : FabricState) (command : AskCommand)
     (left : List (List ℕ)) (events : List Event) (registry : RegistryState) (fabric : FabricState) : Type 0 where
-  pub told : (own : SubnetPort) → IsSender roster.configuration.ports (asked_as command true) own
-      → Finishes roster old.administration command own (answering_key roster.configuration.ports own) left events registry.administration
+  pub reported : (own : SubnetPort) → IsSender inventory.configuration.ports (asked_as command true) own
+      → Finishes inventory old.administration command own (answering_key inventory.configuration.ports own) left events registry.administration
   pub nobody : (HasPort was.nodes command.port_guid → ⊥) → (left ≡ []) × (events ≡ []) × (registry ≡ old) × (fabric ≡ was)
   pub refused : (at : PortRef) (own : AdapterState) (refusal : Refusal) → adapter_at was.nodes at ≡ Some own → own.port_guid ≡ command.port_guid
       → given_to_ask own command ≡ Err refusal
@@ -61,7 +61,7 @@ pub record OnTheWay (roster : RosterState) (routes : RoutesState) (old : Registr
   pub acked : List (List ℕ)
   pub answered : MadsCome was fabric command.port_guid (command.mad ∷ acked) events
   pub cabling : cabling_of fabric ≡ cabling_of was
-  pub stands : Stands roster routes registry fabric
+  pub stands : Stands inventory routes registry fabric
 
 -- one MAD more comes
 mads_come_more : (was mid left : FabricState) (port_guid : ℕ) (mads : List (List ℕ)) (ack : List ℕ) (events more : List Event)
@@ -87,21 +87,21 @@ mads_come_more was mid left port_guid (mad ∷ mads) ack events more before one 
 no_acks : (mads : List (List ℕ)) → mads ≡ [] → acknowledgements mads ≡ []
 no_acks mads none = rw none refl
 
-module _ (roster : RosterState) (routes : RoutesState) (old : RegistryState) (was : FabricState) (command : AskCommand) where
+module _ (inventory : InventoryState) (routes : RoutesState) (old : RegistryState) (was : FabricState) (command : AskCommand) where
   abbrev ports : List SubnetPort
-  ports = roster.configuration.ports
+  ports = inventory.configuration.ports
 
   -- ---- after the first MAD
   first_finishes : (own : SubnetPort) (key : Option ℕ) → asking_key own.keys ≡ key → (given : Answer) (state : Administration)
       → AsksUnder ports own key command.mad old.administration given state
-      → Finishes roster old.administration command own (option_and_then (manager_key ports) key) (acknowledgements given.mads.items) given.events.items state
+      → Finishes inventory old.administration command own (option_and_then (manager_key ports) key) (acknowledgements given.mads.items) given.events.items state
   first_finishes own None is given state asks =
       (no_acks given.mads.items asks.0, rw is (asks.1, asks.2))
   first_finishes own (Some key) is given state asks = by (manager_key ports key) refl asks
     where
       by : (under : Option ℕ) → manager_key ports key ≡ under
           → AnswersUnder under own (answer ports own command.mad old.administration) old.administration given state
-          → Finishes roster old.administration command own under (acknowledgements given.mads.items) given.events.items state
+          → Finishes inventory old.administration command own under (acknowledgements given.mads.items) given.events.items state
       by None none asks = (no_acks given.mads.items asks.0, rw (is, none) (asks.1, asks.2))
       by (Some under) is_under asks =
           let first = answer ports own command.mad old.administration in
@@ -114,10 +114,10 @@ module _ (roster : RosterState) (routes : RoutesState) (old : RegistryState) (wa
             ap (λ (rest : Answered). rest.1) same,
           )
 
-  pub begins : (given : Answer) (next : RegistryState) (left : FabricState) → AsksOnce roster routes old was command given next left
-      → OnTheWay roster routes old was command (acknowledgements given.mads.items) given.events.items next left
+  pub begins : (given : Answer) (next : RegistryState) (left : FabricState) → AsksOnce inventory routes old was command given next left
+      → OnTheWay inventory routes old was command (acknowledgements given.mads.items) given.events.items next left
   begins given next left once = record {
-    told = λ own sends. first_finishes own (asking_key own.keys) refl given next.administration (once.told own sends);
+    reported = λ own sends. first_finishes own (asking_key own.keys) refl given next.administration (once.reported own sends);
     nobody = λ none.
         let nothing = once.nobody none in
         (no_acks given.mads.items nothing.0, once.comes.nobody none, nothing.1, nothing.2);
@@ -137,8 +137,8 @@ module _ (roster : RosterState) (routes : RoutesState) (old : RegistryState) (wa
 
     one_more : (own : SubnetPort) (under : Option ℕ) (events : List Event) (state next : Administration) (given : Answer)
         → AnswersUnder under own (answer ports own ack state) state given next
-        → Finishes roster old.administration command own under (ack ∷ rest) events state
-        → Finishes roster old.administration command own under rest (events ++ given.events.items) next
+        → Finishes inventory old.administration command own under (ack ∷ rest) events state
+        → Finishes inventory old.administration command own under rest (events ++ given.events.items) next
     one_more own None events state next given asks before = none_left before.0
     one_more own (Some key) events state next given asks before =
         let first = answer ports own ack state in
@@ -155,19 +155,19 @@ module _ (roster : RosterState) (routes : RoutesState) (old : RegistryState) (wa
 
     one_more_asked : (own : SubnetPort) (key : Option ℕ) (events : List Event) (state next : Administration) (given : Answer)
         → AsksUnder ports own key ack state given next
-        → Finishes roster old.administration command own (option_and_then (manager_key ports) key) (ack ∷ rest) events state
-        → Finishes roster old.administration command own (option_and_then (manager_key ports) key) rest (events ++ given.events.items) next
+        → Finishes inventory old.administration command own (option_and_then (manager_key ports) key) (ack ∷ rest) events state
+        → Finishes inventory old.administration command own (option_and_then (manager_key ports) key) rest (events ++ given.events.items) next
     one_more_asked own None events state next given asks before = none_left before.0
     one_more_asked own (Some key) events state next given asks before = one_more own (manager_key ports key) events state next given asks before
 
     pub goes_on : (events : List Event) (registry next : RegistryState) (fabric left : FabricState) (given : Answer)
-        → OnTheWay roster routes old was command (ack ∷ rest) events registry fabric
-        → AsksOnce roster routes registry fabric (record { port_guid = command.port_guid; mad = ack }) given next left
-        → OnTheWay roster routes old was command rest (events ++ given.events.items) next left
+        → OnTheWay inventory routes old was command (ack ∷ rest) events registry fabric
+        → AsksOnce inventory routes registry fabric (record { port_guid = command.port_guid; mad = ack }) given next left
+        → OnTheWay inventory routes old was command rest (events ++ given.events.items) next left
     goes_on events registry next fabric left given before once = record {
-      told = λ own sends.
-          let asks = once.told own (record { named = sends.named; adapter = sends.adapter }) in
-          one_more_asked own (asking_key own.keys) events registry.administration next.administration given asks (before.told own sends);
+      reported = λ own sends.
+          let asks = once.reported own (record { named = sends.named; adapter = sends.adapter }) in
+          one_more_asked own (asking_key own.keys) events registry.administration next.administration given asks (before.reported own sends);
       nobody = λ none. none_left (before.nobody none).0;
       refused = λ at own refusal there guid gives. none_left (before.refused at own refusal there guid gives).0;
       acked = before.acked ++ ack ∷ [];
@@ -179,18 +179,18 @@ module _ (roster : RosterState) (routes : RoutesState) (old : RegistryState) (wa
 
   -- ---- and after the last
   finished : (own : SubnetPort) (key : Option ℕ) → asking_key own.keys ≡ key → (events : List Event) (state : Administration)
-      → Finishes roster old.administration command own (option_and_then (manager_key ports) key) [] events state
-      → IsStep (asked subnet_administration roster.configuration (Some own) command.mad old.administration) events state
+      → Finishes inventory old.administration command own (option_and_then (manager_key ports) key) [] events state
+      → IsStep (asked subnet_administration inventory.configuration (Some own) command.mad old.administration) events state
   finished own None is events state before = before.1
   finished own (Some key) is events state before = by (manager_key ports key) refl before
     where
-      by : (under : Option ℕ) → manager_key ports key ≡ under → Finishes roster old.administration command own under [] events state
-          → IsStep (asked subnet_administration roster.configuration (Some own) command.mad old.administration) events state
+      by : (under : Option ℕ) → manager_key ports key ≡ under → Finishes inventory old.administration command own under [] events state
+          → IsStep (asked subnet_administration inventory.configuration (Some own) command.mad old.administration) events state
       by None none before = before.1
       by (Some under) is_under before = rw (is, is_under) (sym (append-nil (map event_of events)) ∙ before.0, before.1)
 
-  pub ends : (events : List Event) (registry : RegistryState) (fabric : FabricState) → OnTheWay roster routes old was command [] events registry fabric
-      → StepsTo roster routes routes old was (Ask command) events registry fabric
+  pub ends : (events : List Event) (registry : RegistryState) (fabric : FabricState) → OnTheWay inventory routes old was command [] events registry fabric
+      → StepsTo inventory routes routes old was (Ask command) events registry fabric
   ends events registry fabric before = record {
     comes = record {
       nobody = λ none. (before.nobody none).1;
@@ -198,46 +198,47 @@ module _ (roster : RosterState) (routes : RoutesState) (old : RegistryState) (wa
       acks = before.acked;
       answered = before.answered;
     };
-    told = λ names.
+    reported = λ names.
         let own = names.0 in
-        subst (λ (from : Option SubnetPort). IsStep (asked subnet_administration roster.configuration from command.mad old.administration) events registry.administration)
+        subst (λ (from : Option SubnetPort). IsStep (asked subnet_administration inventory.configuration from command.mad old.administration) events registry.administration)
         (sym names.1.named)
-        (finished own (asking_key own.keys) refl events registry.administration (before.told own names.1));
+        (finished own (asking_key own.keys) refl events registry.administration (before.reported own names.1));
     nobody = λ none. let nothing = before.nobody none in (nothing.2, nothing.3);
     refused = λ refuses.
         let nothing = before.refused refuses.0 refuses.1 refuses.2 refuses.3 refuses.4 refuses.5 in
         (nothing.2, nothing.3);
     routes_stay = refl;
     cabling = before.cabling;
+    kept = tt;
     stands = before.stands;
   }
 
 -- while ACKs are left, whatever the subnet was before the first MAD
-pub record Acknowledges (roster : RosterState) (routes : RoutesState) (command : AskCommand) (acks : List (List ℕ)) (first : List Event)
+pub record Acknowledges (inventory : InventoryState) (routes : RoutesState) (command : AskCommand) (acks : List (List ℕ)) (first : List Event)
     (begun : RegistryState) (from : FabricState) (left : List (List ℕ)) (events : List Event) (registry : RegistryState) (fabric : FabricState) : Type 0 where
   pub way : (old : RegistryState) (was : FabricState) (given : Answer) → acknowledgements given.mads.items ≡ acks → given.events.items ≡ first
-      → AsksOnce roster routes old was command given begun from → OnTheWay roster routes old was command left events registry fabric
-  pub stands : Stands roster routes registry fabric
+      → AsksOnce inventory routes old was command given begun from → OnTheWay inventory routes old was command left events registry fabric
+  pub stands : Stands inventory routes registry fabric
 
-module _ (roster : RosterState) (routes : RoutesState) (command : AskCommand) (acks : List (List ℕ)) (first : List Event)
+module _ (inventory : InventoryState) (routes : RoutesState) (command : AskCommand) (acks : List (List ℕ)) (first : List Event)
     (begun : RegistryState) (from : FabricState) where
-  pub starts_acknowledging : Stands roster routes begun from → Acknowledges roster routes command acks first begun from acks first begun from
+  pub starts_acknowledging : Stands inventory routes begun from → Acknowledges inventory routes command acks first begun from acks first begun from
   starts_acknowledging stands = record {
     way = λ old was given same events once.
-        subst (λ (left : List (List ℕ)). OnTheWay roster routes old was command left first begun from) same
-        (subst (λ (some : List Event). OnTheWay roster routes old was command (acknowledgements given.mads.items) some begun from) events
-        (begins roster routes old was command given begun from once));
+        subst (λ (left : List (List ℕ)). OnTheWay inventory routes old was command left first begun from) same
+        (subst (λ (some : List Event). OnTheWay inventory routes old was command (acknowledgements given.mads.items) some begun from) events
+        (begins inventory routes old was command given begun from once));
     stands = stands;
   }
 
   pub acknowledges_more : (left : List (List ℕ)) (ack : List ℕ) (rest : List (List ℕ)) → left ≡ ack ∷ rest → (events : List Event) (registry next : RegistryState) (fabric after : FabricState)
-      → (given : Answer) → Acknowledges roster routes command acks first begun from left events registry fabric
-      → AsksOnce roster routes registry fabric (record { port_guid = command.port_guid; mad = ack }) given next after
-      → Acknowledges roster routes command acks first begun from rest (events ++ given.events.items) next after
+      → (given : Answer) → Acknowledges inventory routes command acks first begun from left events registry fabric
+      → AsksOnce inventory routes registry fabric (record { port_guid = command.port_guid; mad = ack }) given next after
+      → Acknowledges inventory routes command acks first begun from rest (events ++ given.events.items) next after
   acknowledges_more left ack rest are events registry next fabric after given before once = record {
     way = λ old was begin same begin_events asked_first.
-        goes_on roster routes old was command ack rest events registry next fabric after given
-        (subst (λ (some : List (List ℕ)). OnTheWay roster routes old was command some events registry fabric) are (before.way old was begin same begin_events asked_first))
+        goes_on inventory routes old was command ack rest events registry next fabric after given
+        (subst (λ (some : List (List ℕ)). OnTheWay inventory routes old was command some events registry fabric) are (before.way old was begin same begin_events asked_first))
         once;
     stands = once.stands;
   }

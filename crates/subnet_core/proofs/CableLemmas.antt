@@ -6,8 +6,8 @@ use Rattle.sa_fabric.specs.Served.{IsServed, Serves}
 use Rattle.smp_wire.specs.FabricState.{FabricState}
 use Rattle.subnet_core.specs.Answering.{IsNext, StepsTo}
 use Rattle.subnet_core.specs.BringUp.{Stands, SubnetState}
-use Rattle.subnet_core.specs.Cabling.{RoutesStay}
-use Rattle.subnet_core.specs.Roster.{RosterState}
+use Rattle.subnet_core.specs.Cabling.{IsKept, RoutesStay}
+use Rattle.subnet_core.specs.Inventory.{InventoryState}
 use Rattle.subnet_core.specs.Senders.{HasSender, Refuses}
 use Rattle.subnet_fabric.specs.Standing.{IsNextCabling}
 use Rattle.subnet_model.specs.Configuration.{ConfigurationState}
@@ -18,43 +18,45 @@ use Rattle.subnet_sends.specs.Sends.{event_of}
 use Rattle.subnet_sends.specs.declared.event.Event.{Event}
 use Rattle.updn_routes.specs.Subnet.{RoutesState}
 
-module _ (roster : RosterState) (routes : RoutesState) (registry : RegistryState) (was : FabricState) (stands : Stands roster routes registry was)
-    (next : RoutesState) (left : FabricState) (serves : Serves roster.plan next registry left) where
+module _ (inventory : InventoryState) (routes : RoutesState) (registry : RegistryState) (was : FabricState) (stands : Stands inventory routes registry was)
+    (next : RoutesState) (left : FabricState) (serves : Serves inventory.plan next registry left) where
   -- who is in the subnet stays, and so does what is remembered
-  stands_with : Stands roster next registry left
+  stands_with : Stands inventory next registry left
   stands_with = record {
-    rostered = stands.rostered;
+    inventoried = stands.inventoried;
     configured = stands.configured;
     whole = stands.whole;
     state = stands.state;
-    served = subst (λ (configuration : ConfigurationState). IsServed roster.plan configuration.ports registry.administration.remembered.partitions next left)
+    served = subst (λ (configuration : ConfigurationState). IsServed inventory.plan configuration.ports registry.administration.remembered.partitions next left)
         stands.configured serves.served;
   }
 
   pub steps_by_cable : (command : CableCommand) (events : List Event) → events ≡ []
-      → IsNextCabling roster.plan command.cable.first command.cable.second command.up (cabling_of was) (cabling_of left)
-      → StepsTo roster routes next registry was (Cable command) events registry left
-  steps_by_cable command events none cabling = record {
+      → IsNextCabling inventory.plan command.cable.first command.cable.second command.up (cabling_of was) (cabling_of left)
+      → (cabling_of left ≡ cabling_of was → (left ≡ was) × (next ≡ routes))
+      → StepsTo inventory routes next registry was (Cable command) events registry left
+  steps_by_cable command events none cabling kept = record {
     comes = none;
-    told = λ names. (ap (map event_of) none, refl);
+    reported = λ names. (ap (map event_of) none, refl);
     nobody = λ nobody. absurd (nobody tt);
     refused = λ refuses. absurd refuses;
     routes_stay = tt;
     cabling = cabling;
+    kept = λ same. let all = kept same in (refl, all.0, all.1);
     stands = stands_with;
   }
 
 -- ---- the subnet after a command
-module _ (roster : RosterState) (routes next : RoutesState) (old new : RegistryState) (was left : FabricState) (is_broken : Bool) (whole : is_broken ≡ false) where
+module _ (inventory : InventoryState) (routes next : RoutesState) (old new : RegistryState) (was left : FabricState) (is_broken : Bool) (whole : is_broken ≡ false) where
   abbrev pub before : SubnetState
-  before = record { roster = roster; routes = routes; fabric = was; administration = old.administration; is_broken = is_broken }
+  before = record { inventory = inventory; routes = routes; fabric = was; administration = old.administration; is_broken = is_broken }
 
   abbrev pub after : SubnetState
-  after = record { roster = roster; routes = next; fabric = left; administration = new.administration; is_broken = false }
+  after = record { inventory = inventory; routes = next; fabric = left; administration = new.administration; is_broken = false }
 
   stays : next ≡ routes → (new ≡ old) × (left ≡ was) → after ≡ before
   stays same nothing = λ i. record {
-    roster = roster;
+    inventory = inventory;
     routes = same i;
     fabric = nothing.1 i;
     administration = (nothing.0 i).administration;
@@ -71,13 +73,20 @@ module _ (roster : RosterState) (routes next : RoutesState) (old new : RegistryS
   port_refuses (Ask command) same refuses nothing = stays same nothing
   port_refuses (Cable command) same refuses nothing = absurd refuses
 
-  pub next_of : (command : Command) (events : List Event) → StepsTo roster routes next old was command events new left → IsNext before command after
+  kept_so : (command : Command) → IsKept command (cabling_of left ≡ cabling_of was) ((new ≡ old) × (left ≡ was) × (next ≡ routes))
+      → IsKept command (cabling_of left ≡ cabling_of was) (after ≡ before)
+  kept_so (Send command) kept = tt
+  kept_so (Ask command) kept = tt
+  kept_so (Cable command) kept = λ same. let all = kept same in stays all.2 (all.0, all.1)
+
+  pub next_of : (command : Command) (events : List Event) → StepsTo inventory routes next old was command events new left → IsNext before command after
   next_of command events steps = record {
-    roster = refl;
+    inventory = refl;
     routes = steps.routes_stay;
     cabling = steps.cabling;
     whole = sym whole;
-    administration = λ names. (steps.told names).1;
+    administration = λ names. (steps.reported names).1;
     nobody = λ nobody. nobody_acts command steps.routes_stay nobody (steps.nobody nobody);
     refused = λ refuses. port_refuses command steps.routes_stay refuses (steps.refused refuses);
+    kept = kept_so command steps.kept;
   }

@@ -9,19 +9,19 @@ use Rattle.hex.specs.declared.error.FromHexError.{FromHexError}
 use Rattle.hex.proofs.HexLemmas.{decode_of-ok}
 use Rattle.mad_layout.proofs.LayoutLemmas.{zeros_below}
 use Rattle.mad_layout.proofs.NumberLemmas.{below_append}
-use Rattle.result_words.proofs.StepLemmas.{bind_ok, let_through, same_ok}
-use Rattle.result_words.specs.Steps.{◌>>=◌}
+use Rattle.step_results.proofs.StepLemmas.{bind_ok, let_through, same_ok}
+use Rattle.step_results.specs.Steps.{◌>>=◌}
 use Rattle.rmpp_core.proofs.ReadBackLemmas.{reply_below}
 use Rattle.subnet_model.specs.declared.command.Command.{Command}
 use Rattle.subnet_model.specs.declared.command.Command.TheVariants.{Ask, Send}
 use Rattle.sa_runs.specs.RunData.{CarriesBytes}
 use Rattle.script_lines.proofs.CommandLemmas.{each_line, line_has}
-use Rattle.script_lines.specs.Ask.{ask_spelt, asking, asking_mad, attribute_in, fields_in, method_in, tid_in}
+use Rattle.script_lines.specs.Ask.{ask_encoded, asking, asking_mad, attribute_in, fields_in, method_in, tid_in}
 use Rattle.script_lines.specs.Script.{command_of, commands_in}
-use Rattle.script_lines.specs.Send.{field_of, fitting, payload_of, send_spelt, u16_field}
+use Rattle.script_lines.specs.Send.{field_of, fitting, payload_of, send_encoded, u16_field}
 use Rattle.script_lines.specs.Sender.{sender_of}
-use Rattle.script_lines.specs.SpeltBytes.{Written, bytes_or_fault, filled, spelt, written_in}
-use Rattle.script_lines.specs.SwitchCable.{cable_spelt, named_cable}
+use Rattle.script_lines.specs.EncodedBytes.{Written, bytes_or_fault, filled, encoded, written_in}
+use Rattle.script_lines.specs.SwitchCable.{cable_encoded, named_cable}
 use Rattle.script_lines.specs.declared.script_cause.ScriptCause.{ScriptCause}
 use Rattle.script_lines.specs.declared.script_cause.ScriptCause.TheVariants.{BadField, Malformed}
 use Rattle.subnet_core.specs.Stream.{and_then_those, commands_before_fault}
@@ -39,9 +39,9 @@ filled_below n bytes given below is =
     subst (AllBelowBase 256) (same_ok (bytes ++ replicate (n - length bytes) 0) given passed.1)
     (below_append bytes (replicate (n - length bytes) 0) below (zeros_below (n - length bytes)))
 
-spelt_below : (n : ℕ) (digits given : List ℕ) → spelt n digits ≡ Ok given → AllBelowBase 256 given
-unfolding spelt
-spelt_below n digits given is = by (decode_of digits) refl is
+encoded_below : (n : ℕ) (digits given : List ℕ) → encoded n digits ≡ Ok given → AllBelowBase 256 given
+unfolding encoded
+encoded_below n digits given is = by (decode_of digits) refl is
   where
     by : (decoded : Result (List ℕ) FromHexError) → decode_of digits ≡ decoded → (bytes_or_fault decoded >>= λ bytes. filled n bytes) ≡ Ok given
         → AllBelowBase 256 given
@@ -49,13 +49,13 @@ spelt_below n digits given is = by (decode_of digits) refl is
     by (Err error) e h = absurd cc
 
 payload_below : (written : Option Written) (given : List ℕ) → payload_of written ≡ Ok given → AllBelowBase 256 given
-payload_below (Some written) given is = spelt_below written.size written.digits given is
+payload_below (Some written) given is = encoded_below written.size written.digits given is
 payload_below None given is = absurd cc
 
 -- ---- commands
-send_carries : (plan : TopologyState) (port dlid p_key qp payload : List ℕ) (command : Command) → send_spelt plan port dlid p_key qp payload ≡ Ok command
+send_carries : (plan : TopologyState) (port dlid p_key qp payload : List ℕ) (command : Command) → send_encoded plan port dlid p_key qp payload ≡ Ok command
     → CarriesBytes command
-unfolding send_spelt
+unfolding send_encoded
 send_carries plan port dlid p_key qp payload command is =
     let sender = bind_ok (sender_of plan port) _ command is in
     let written = bind_ok (fitting (written_in payload)) _ command sender.2 in
@@ -67,8 +67,8 @@ send_carries plan port dlid p_key qp payload command is =
     subst CarriesBytes (same_ok made command bytes.2) (payload_below written.0 bytes.0 bytes.1)
 
 ask_carries : (plan : TopologyState) (port how what tid : List ℕ) (fields : List (List ℕ)) (command : Command)
-    → ask_spelt plan port how what tid fields ≡ Ok command → CarriesBytes command
-unfolding ask_spelt
+    → ask_encoded plan port how what tid fields ≡ Ok command → CarriesBytes command
+unfolding ask_encoded
 ask_carries plan port how what tid fields command is =
     let method = bind_ok (ok_or (method_in how) Malformed) _ command is in
     let kind = bind_ok (ok_or (attribute_in what) Malformed) _ command method.2 in
@@ -78,9 +78,9 @@ ask_carries plan port how what tid fields command is =
     let made : Command = Ask (record { port_guid = sender.0; mad = asking_mad method.0 kind.0 number.0 (asking named.0) }) in
     subst CarriesBytes (same_ok made command named.2) (reply_below _ _ _)
 
-cable_carries : (plan : TopologyState) (mended : Bool) (one other : List ℕ) (command : Command) → cable_spelt plan mended one other ≡ Ok command
+cable_carries : (plan : TopologyState) (mended : Bool) (one other : List ℕ) (command : Command) → cable_encoded plan mended one other ≡ Ok command
     → CarriesBytes command
-unfolding cable_spelt
+unfolding cable_encoded
 cable_carries plan mended one other command is =
     let cable = bind_ok (named_cable plan one other) _ command is in
     let made : Command = Command.Cable (record { cable = cable.0; up = mended }) in

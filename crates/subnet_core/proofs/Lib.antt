@@ -24,6 +24,6 @@ pub mod LineCommandLemmas
 pub mod TakeLemmas
 pub mod StreamLemmas
 pub mod ReadLemmas
-pub mod TellLemmas
+pub mod ReportLemmas
 pub mod LineLemmas
-pub mod ToldLemmas
+pub mod ReportedLemmas

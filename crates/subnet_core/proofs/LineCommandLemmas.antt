@@ -1,7 +1,7 @@
 -- Commands of lines that follow one another.
 use Rattle.std.proofs.Common.{ℕ, suc, ◌+◌, ◌≡◌, ◌∙◌, ap, refl, sym, arith, List, [], ◌∷◌, ◌++◌, length, append_assoc, append-nil, Option, Some, None, Result, Ok, Err}
 use Rattle.std.specs.Option.{option_to_list}
-use Rattle.result_words.specs.AtLine.{AtLine, after_lines}
+use Rattle.step_results.specs.AtLine.{AtLine, after_lines}
 use Rattle.script_lines.specs.Script.{command_of, with_line}
 use Rattle.script_lines.specs.declared.script_cause.ScriptCause.{ScriptCause}
 use Rattle.subnet_model.specs.Report.{events_from, state_from}

@@ -1,18 +1,18 @@
 -- One line of a script, as it is taken.
 use Rattle.std.proofs.Common.{ℕ, ◌+◌, ◌≡◌, ◌∙◌, ap, refl, subst, List, [], ◌∷◌, append-nil, Option, Some, None, Result, Ok, Err}
-use Rattle.result_words.specs.AtLine.{on_line}
-use Rattle.result_words.specs.Gives.{Fails}
-use Rattle.result_words.proofs.StepLemmas.{same_err}
+use Rattle.step_results.specs.AtLine.{on_line}
+use Rattle.step_results.specs.Gives.{Fails}
+use Rattle.step_results.proofs.StepLemmas.{same_err}
 use Rattle.sa_runs.specs.Administration.{subnet_administration}
 use Rattle.script_lines.specs.Script.{command_of}
 use Rattle.script_lines.specs.declared.script_cause.ScriptCause.{ScriptCause}
-use Rattle.subnet_core.proofs.PutLemmas.{loses_told, puts_nothing}
+use Rattle.subnet_core.proofs.PutLemmas.{loses_reported, puts_nothing}
 use Rattle.subnet_core.specs.BringUp.{SubnetState}
 use Rattle.subnet_core.specs.EventLines.{report_text}
-use Rattle.subnet_core.specs.Roster.{fault_in, of_text}
+use Rattle.subnet_core.specs.Inventory.{fault_in, of_text}
 use Rattle.subnet_core.specs.Run.{parsed}
 use Rattle.subnet_core.specs.Stream.{commands_before_fault}
-use Rattle.subnet_core.specs.StreamSteps.{Carries, Puts, StreamState, Takes, Tells, first_fault, told_from}
+use Rattle.subnet_core.specs.StreamSteps.{Carries, Puts, StreamState, Takes, Reports, first_fault, reported_from}
 use Rattle.subnet_core.specs.declared.fault.RunFault.{RunFault}
 use Rattle.subnet_core.specs.declared.fault.RunFault.TheVariants.{NoMemory, Topology, Partitions, Sweep, NoLegalPath, Push, Port, Script, SecondScript, Read, Write}
 use Rattle.subnet_model.specs.Report.{step_by}
@@ -32,31 +32,31 @@ is_command number (Err cause) command is = absurd cc
 
 module _ (was : StreamState) (line : List ℕ) (known : Option (List ℕ)) where
   abbrev plan : TopologyState
-  plan = was.subnet.roster.plan
+  plan = was.subnet.inventory.plan
 
   -- ---- it is at fault
   faulty : (number : ℕ) (cause : ScriptCause) → number ≡ was.taken + 1 → command_of plan line ≡ Err cause
       → (first_fault plan (was.taken + 1) (line ∷ []) ≡ Some (record { line = number; cause = cause }))
-      × Puts (told_from was.subnet (line ∷ [])) was.text was.text known known
+      × Puts (reported_from was.subnet (line ∷ [])) was.text was.text known known
   unfolding commands_before_fault first_fault
   faulty number cause counted is = rw (is, counted) (refl, puts_nothing was.text known)
 
   pub unparsed_takes : (X : Type 0) (number : ℕ) (fault : RunFault) → number ≡ was.taken + 1 → Fails (fault_in fault) (parsed plan number line)
       → let answer : Result X RunFault = Err fault in Takes (line ∷ []) answer was was known known
-  unparsed_takes X number NoMemory counted fails = loses_told _ _ _
+  unparsed_takes X number NoMemory counted fails = loses_reported _ _ _
   unparsed_takes X number (Script at cause) counted fails =
-      let told = is_of_line number (command_of plan line) (Script at cause) fails in
-      let found : (number ≡ at) × (told.0 ≡ cause) = (cc, cc) in
-      rw (← found.0, ← found.1) (faulty number told.0 counted told.1)
-  unparsed_takes X number (Topology at cause) counted fails = absurd (let told = is_of_line number (command_of plan line) _ fails in cc)
-  unparsed_takes X number (Partitions at cause) counted fails = absurd (let told = is_of_line number (command_of plan line) _ fails in cc)
-  unparsed_takes X number (Sweep fault) counted fails = absurd (let told = is_of_line number (command_of plan line) _ fails in cc)
-  unparsed_takes X number (NoLegalPath switch node at) counted fails = absurd (let told = is_of_line number (command_of plan line) _ fails in cc)
-  unparsed_takes X number (Push fault) counted fails = absurd (let told = is_of_line number (command_of plan line) _ fails in cc)
-  unparsed_takes X number (Port cause) counted fails = absurd (let told = is_of_line number (command_of plan line) _ fails in cc)
-  unparsed_takes X number (SecondScript at cause) counted fails = absurd (let told = is_of_line number (command_of plan line) _ fails in cc)
-  unparsed_takes X number Read counted fails = absurd (let told = is_of_line number (command_of plan line) _ fails in cc)
-  unparsed_takes X number Write counted fails = absurd (let told = is_of_line number (command_of plan line) _ fails in cc)
+      let reported = is_of_line number (command_of plan line) (Script at cause) fails in
+      let found : (number ≡ at) × (reported.0 ≡ cause) = (cc, cc) in
+      rw (← found.0, ← found.1) (faulty number reported.0 counted reported.1)
+  unparsed_takes X number (Topology at cause) counted fails = absurd (let reported = is_of_line number (command_of plan line) _ fails in cc)
+  unparsed_takes X number (Partitions at cause) counted fails = absurd (let reported = is_of_line number (command_of plan line) _ fails in cc)
+  unparsed_takes X number (Sweep fault) counted fails = absurd (let reported = is_of_line number (command_of plan line) _ fails in cc)
+  unparsed_takes X number (NoLegalPath switch node at) counted fails = absurd (let reported = is_of_line number (command_of plan line) _ fails in cc)
+  unparsed_takes X number (Push fault) counted fails = absurd (let reported = is_of_line number (command_of plan line) _ fails in cc)
+  unparsed_takes X number (Port cause) counted fails = absurd (let reported = is_of_line number (command_of plan line) _ fails in cc)
+  unparsed_takes X number (SecondScript at cause) counted fails = absurd (let reported = is_of_line number (command_of plan line) _ fails in cc)
+  unparsed_takes X number Read counted fails = absurd (let reported = is_of_line number (command_of plan line) _ fails in cc)
+  unparsed_takes X number Write counted fails = absurd (let reported = is_of_line number (command_of plan line) _ fails in cc)
 
   -- ---- it has no command
   pub quiet_takes : (number : ℕ) → number ≡ was.taken + 1 → parsed plan number line ≡ Ok None
@@ -64,50 +64,50 @@ module _ (was : StreamState) (line : List ℕ) (known : Option (List ℕ)) where
   unfolding commands_before_fault first_fault
   quiet_takes number counted quiet =
       let none = is_command number (command_of plan line) None quiet in
-      record { puts = rw none (puts_nothing was.text known); roster = refl; administration = rw none refl; taken = counted; sound = rw none refl }
+      record { puts = rw none (puts_nothing was.text known); inventory = refl; administration = rw none refl; taken = counted; sound = rw none refl }
 
   -- ---- its command is carried out
   module _ (command : Command) (number : ℕ) (counted : number ≡ was.taken + 1) (parsed_as : parsed plan number line ≡ Ok (Some command))
-      (next : SubnetState) (roster : next.roster ≡ was.subnet.roster)
-      (administration : next.administration ≡ (step_by subnet_administration was.subnet.roster.configuration was.subnet.administration command).1) where
-    abbrev told : List ℕ
-    told = report_text was.subnet.roster.configuration.ports (step_by subnet_administration was.subnet.roster.configuration was.subnet.administration command).0
+      (next : SubnetState) (inventory : next.inventory ≡ was.subnet.inventory)
+      (administration : next.administration ≡ (step_by subnet_administration was.subnet.inventory.configuration was.subnet.administration command).1) where
+    abbrev reported : List ℕ
+    reported = report_text was.subnet.inventory.configuration.ports (step_by subnet_administration was.subnet.inventory.configuration was.subnet.administration command).0
 
-    is_told : told_from was.subnet (line ∷ []) ≡ told
+    is_reported : reported_from was.subnet (line ∷ []) ≡ reported
     unfolding commands_before_fault
-    is_told =
+    is_reported =
         rw (is_command number (command_of plan line) (Some command) parsed_as)
-        (ap (report_text was.subnet.roster.configuration.ports) (append-nil (step_by subnet_administration was.subnet.roster.configuration was.subnet.administration command).0))
+        (ap (report_text was.subnet.inventory.configuration.ports) (append-nil (step_by subnet_administration was.subnet.inventory.configuration was.subnet.administration command).0))
 
     module _ (X : Type 0) (left : StreamState) (old new : Option (List ℕ)) where
-      carried : Puts told was.text left.text old new → left.subnet ≡ next → left.taken ≡ number → Carries (line ∷ []) was left old new
+      carried : Puts reported was.text left.text old new → left.subnet ≡ next → left.taken ≡ number → Carries (line ∷ []) was left old new
       unfolding commands_before_fault first_fault
       carried puts subnet taken =
           let is = is_command number (command_of plan line) (Some command) parsed_as in
           record {
-            puts = rw is_told puts;
-            roster = ap (λ subnet. subnet.roster) subnet ∙ roster;
+            puts = rw is_reported puts;
+            inventory = ap (λ subnet. subnet.inventory) subnet ∙ inventory;
             administration = rw is (ap (λ subnet. subnet.administration) subnet ∙ administration);
             taken = taken ∙ counted;
             sound = rw is refl;
           }
 
-      told_takes : (answer : Result X RunFault) → Tells told answer (record { subnet = next; text = was.text; taken = number }) left old new
+      reported_takes : (answer : Result X RunFault) → Reports reported answer (record { subnet = next; text = was.text; taken = number }) left old new
           → Takes (line ∷ []) answer was left old new
-      told_takes (Ok done) tells = carried tells.0 tells.1 tells.2
-      told_takes (Err NoMemory) tells = rw is_told tells
-      told_takes (Err Write) tells = rw is_told tells
-      told_takes (Err (Topology line cause)) tells = absurd tells
-      told_takes (Err (Partitions line cause)) tells = absurd tells
-      told_takes (Err (Sweep fault)) tells = absurd tells
-      told_takes (Err (NoLegalPath switch node at)) tells = absurd tells
-      told_takes (Err (Push fault)) tells = absurd tells
-      told_takes (Err (Port cause)) tells = absurd tells
-      told_takes (Err (Script line cause)) tells = absurd tells
-      told_takes (Err (SecondScript line cause)) tells = absurd tells
-      told_takes (Err Read) tells = absurd tells
+      reported_takes (Ok done) reports = carried reports.0 reports.1 reports.2
+      reported_takes (Err NoMemory) reports = rw is_reported reports
+      reported_takes (Err Write) reports = rw is_reported reports
+      reported_takes (Err (Topology line cause)) reports = absurd reports
+      reported_takes (Err (Partitions line cause)) reports = absurd reports
+      reported_takes (Err (Sweep fault)) reports = absurd reports
+      reported_takes (Err (NoLegalPath switch node at)) reports = absurd reports
+      reported_takes (Err (Push fault)) reports = absurd reports
+      reported_takes (Err (Port cause)) reports = absurd reports
+      reported_takes (Err (Script line cause)) reports = absurd reports
+      reported_takes (Err (SecondScript line cause)) reports = absurd reports
+      reported_takes (Err Read) reports = absurd reports
 
-      pub said_takes : (answer : Result X RunFault) (said : List ℕ) → said ≡ told
-          → Tells said answer (record { subnet = next; text = was.text; taken = number }) left old new → Takes (line ∷ []) answer was left old new
-      said_takes answer said same tells =
-          told_takes answer (subst (λ text. Tells text answer (record { subnet = next; text = was.text; taken = number }) left old new) same tells)
+      pub said_takes : (answer : Result X RunFault) (said : List ℕ) → said ≡ reported
+          → Reports said answer (record { subnet = next; text = was.text; taken = number }) left old new → Takes (line ∷ []) answer was left old new
+      said_takes answer said same reports =
+          reported_takes answer (subst (λ text. Reports text answer (record { subnet = next; text = was.text; taken = number }) left old new) same reports)

@@ -49,17 +49,17 @@ puts_some_of first second text text' old new one = record {
 }
 
 -- ---- without a write
-pub puts_behind : (told text : List ℕ) (known : Option (List ℕ)) → Puts told text (text ++ told) known known
-puts_behind told text known = record { written = []; appended = appends_nothing known; same = refl }
+pub puts_behind : (reported text : List ℕ) (known : Option (List ℕ)) → Puts reported text (text ++ reported) known known
+puts_behind reported text known = record { written = []; appended = appends_nothing known; same = refl }
 
 pub puts_nothing : (text : List ℕ) (known : Option (List ℕ)) → Puts [] text text known known
 puts_nothing text known = record { written = []; appended = appends_nothing known; same = append-nil text }
 
-pub loses_all : (told text : List ℕ) (known : Option (List ℕ)) → PutsSome told text [] known known
-loses_all told text known = record { written = []; lost = text ++ told; appended = appends_nothing known; same = refl }
+pub loses_all : (reported text : List ℕ) (known : Option (List ℕ)) → PutsSome reported text [] known known
+loses_all reported text known = record { written = []; lost = text ++ reported; appended = appends_nothing known; same = refl }
 
-pub loses_told : (told text : List ℕ) (known : Option (List ℕ)) → PutsSome told text text known known
-loses_told told text known = record { written = []; lost = told; appended = appends_nothing known; same = refl }
+pub loses_reported : (reported text : List ℕ) (known : Option (List ℕ)) → PutsSome reported text text known known
+loses_reported reported text known = record { written = []; lost = reported; appended = appends_nothing known; same = refl }
 
 -- ---- by one
 pub all_written : (text : List ℕ) (old new : Option (List ℕ)) → Appends old new text → Puts [] text [] old new
@@ -76,23 +76,23 @@ part_written text old new part = record {
 }
 
 -- ---- at the end, where nothing waited before the first
-module _ (told text : List ℕ) (old middle new : Option (List ℕ)) where
-  pub ends_whole : Puts told [] text old middle → Appends middle new text → Appends old new told
+module _ (reported text : List ℕ) (old middle new : Option (List ℕ)) where
+  pub ends_whole : Puts reported [] text old middle → Appends middle new text → Appends old new reported
   ends_whole puts appended = rw puts.same (write_more old middle new puts.written text puts.appended appended)
 
-  pub ends_in_part : Puts told [] text old middle → AppendsPart middle new text → AppendsPart old new told
+  pub ends_in_part : Puts reported [] text old middle → AppendsPart middle new text → AppendsPart old new reported
   ends_in_part puts part =
-      begins_with told (puts.written ++ take part.0 text) (drop part.0 text) old new
+      begins_with reported (puts.written ++ take part.0 text) (drop part.0 text) old new
       (puts.same ∙ ap (λ (s : List ℕ). puts.written ++ s) (sym (take-append-drop part.0 text)) ∙ sym (append_assoc puts.written (take part.0 text) (drop part.0 text)))
       (write_more old middle new puts.written (take part.0 text) puts.appended part.1)
 
-  pub some_ends_whole : PutsSome told [] text old middle → Appends middle new text → AppendsPart old new told
+  pub some_ends_whole : PutsSome reported [] text old middle → Appends middle new text → AppendsPart old new reported
   some_ends_whole puts appended =
-      begins_with told (puts.written ++ text) puts.lost old new puts.same (write_more old middle new puts.written text puts.appended appended)
+      begins_with reported (puts.written ++ text) puts.lost old new puts.same (write_more old middle new puts.written text puts.appended appended)
 
-  pub some_ends_in_part : PutsSome told [] text old middle → AppendsPart middle new text → AppendsPart old new told
+  pub some_ends_in_part : PutsSome reported [] text old middle → AppendsPart middle new text → AppendsPart old new reported
   some_ends_in_part puts part =
-      begins_with told (puts.written ++ take part.0 text) (drop part.0 text ++ puts.lost) old new
+      begins_with reported (puts.written ++ take part.0 text) (drop part.0 text ++ puts.lost) old new
       (puts.same
       ∙ append_assoc puts.written text puts.lost
       ∙ ap (λ (s : List ℕ). puts.written ++ (s ++ puts.lost)) (sym (take-append-drop part.0 text))

@@ -8,7 +8,7 @@ use Rattle.subnet_core.proofs.PartLemmas.{lines_are, pieces_on, same_lines, whol
 use Rattle.subnet_core.proofs.TakeLemmas.{carries_on, takes_on, takes_nothing}
 use Rattle.subnet_core.specs.StreamSteps.{begun_behind, begun_by_parts, lines_behind, lines_of_parts, rest_of}
 use Rattle.subnet_core.proofs.PutLemmas.{puts_on, puts_some_on}
-use Rattle.subnet_core.specs.StreamSteps.{Carries, Puts, PutsSome, ReadsOn, StopsSo, StreamState, Takes, Tells, told_from}
+use Rattle.subnet_core.specs.StreamSteps.{Carries, Puts, PutsSome, ReadsOn, StopsSo, StreamState, Takes, Reports, reported_from}
 use Rattle.subnet_core.specs.declared.fault.RunFault.{RunFault}
 use Rattle.subnet_core.specs.declared.fault.RunFault.TheVariants.{NoMemory, Topology, Partitions, Sweep, NoLegalPath, Push, Port, Script, SecondScript, Read, Write}
 
@@ -53,17 +53,17 @@ same_end X Y (SecondScript line cause) taken was left old new stops = absurd sto
 module _ (lines : List (List ℕ)) (was between left : StreamState) (old middle new : Option (List ℕ)) (carries : Carries lines was between old middle) where
   pub carries_written : Puts [] between.text left.text middle new × (left.subnet ≡ between.subnet) × (left.taken ≡ between.taken) → Carries lines was left old new
   carries_written written = record {
-    puts = rw (append-nil (told_from was.subnet lines)) at (puts_on (told_from was.subnet lines) [] was.text between.text left.text old middle new carries.puts written.0);
-    roster = rw written.1 carries.roster;
+    puts = rw (append-nil (reported_from was.subnet lines)) at (puts_on (reported_from was.subnet lines) [] was.text between.text left.text old middle new carries.puts written.0);
+    inventory = rw written.1 carries.inventory;
     administration = rw written.1 carries.administration;
     taken = written.2 ∙ carries.taken;
     sound = carries.sound;
   }
 
-  some_written : PutsSome [] between.text left.text middle new → PutsSome (told_from was.subnet lines) was.text left.text old new
-  some_written some = rw (append-nil (told_from was.subnet lines)) at (puts_some_on (told_from was.subnet lines) [] was.text between.text left.text old middle new carries.puts some)
+  some_written : PutsSome [] between.text left.text middle new → PutsSome (reported_from was.subnet lines) was.text left.text old new
+  some_written some = rw (append-nil (reported_from was.subnet lines)) at (puts_some_on (reported_from was.subnet lines) [] was.text between.text left.text old middle new carries.puts some)
 
-  pub stops_unwritten : (X Y : Type 0) (fault : RunFault) → let answer : Result X RunFault = Err fault in Tells [] answer between left middle new
+  pub stops_unwritten : (X Y : Type 0) (fault : RunFault) → let answer : Result X RunFault = Err fault in Reports [] answer between left middle new
       → let ends : Result Y RunFault = Err fault in Takes lines ends was left old new
   stops_unwritten X Y NoMemory stops = some_written stops
   stops_unwritten X Y Write stops = some_written stops

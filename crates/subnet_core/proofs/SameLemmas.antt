@@ -1,4 +1,4 @@
--- That the tests of code for equal commands and events tell equal ones.
+-- That the tests of code for equal commands and events report equal ones.
 use Rattle.std.proofs.Common.{ℕ, ◌≡◌, ◌==◌, ◌&&◌, Bool, true, false, List, [], ◌∷◌, map, filter, if◌then◌else◌, Decides, ap, refl}
 use Rattle.std.proofs.lemmas.Bool.{and_from, and_parts}
 use Rattle.std.proofs.lemmas.Bool.Decides.{Decides-eqb}
@@ -138,7 +138,7 @@ refusal_decides ReservedDlid PortNotActive = (λ e. absurd cc, λ same. absurd c
 refusal_decides ReservedDlid QpZero = (λ e. absurd cc, λ same. absurd cc)
 refusal_decides ReservedDlid ReservedDlid = (λ e. refl, λ same. refl)
 
--- what is told of an event says all of it
+-- what is reported of an event says all of it
 abbrev packet_in : Outcome → Packet → Packet
 packet_in (RecvOutcome packet) other = packet
 packet_in (RefusedOutcome refusal) other = other

@@ -8,7 +8,7 @@ use Rattle.fabric_parts.specs.Cable.{is_cabled}
 use Rattle.fabric_parts.specs.Lid.{manager_lid}
 use Rattle.fabric_parts.specs.NodeType.{is_switch_type}
 use Rattle.fabric_parts.specs.declared.cable.PortRef.{PortRef}
-use Rattle.result_words.proofs.ListLemmas.{all_have}
+use Rattle.step_results.proofs.ListLemmas.{all_have}
 use Rattle.subnet_model.specs.Configuration.{ConfigurationState}
 use Rattle.subnet_model.specs.Configured.{HaveLidsInOrder}
 use Rattle.subnet_model.specs.Delivery.{port_with_guid}
@@ -24,7 +24,7 @@ use Rattle.topo_file.specs.Node.{is_switch_at, port_guid_at}
 use Rattle.topo_file.specs.Sound.{is_port}
 use Rattle.topo_file.specs.Topology.{TopologyState}
 use Rattle.subnet_core.specs.Laws.{EachCommandNamesASender}
-use Rattle.subnet_core.specs.Roster.{IsRostered, RosterState}
+use Rattle.subnet_core.specs.Inventory.{IsInventoried, InventoryState}
 use Rattle.subnet_core.specs.Senders.{NamesSender}
 use Rattle.script_lines.proofs.CommandLemmas.{commands_name_what_is_there, line_names}
 use Rattle.script_lines.specs.Laws.{IsSendingPort, NamesWhatIsThere}
@@ -60,13 +60,13 @@ sends_from plan guid from = record {
   guid_is = from.guid_is;
 }
 
--- ---- the roster lists each such port
-module _ (roster : RosterState) (is : IsRostered roster) where
+-- ---- the inventory lists each such port
+module _ (inventory : InventoryState) (is : IsInventoried inventory) where
   abbrev plan : TopologyState
-  plan = roster.plan
+  plan = inventory.plan
 
   abbrev ports : List SubnetPort
-  ports = roster.configuration.ports
+  ports = inventory.configuration.ports
 
   ends : AreEndPorts is.partitions plan ports
   ends =
@@ -100,15 +100,15 @@ module _ (roster : RosterState) (is : IsRostered roster) where
   names_sender (Cable command) from = tt
 
 -- what a line gives, if it gives a command
-pub line_names_sender : (roster : RosterState) → IsRostered roster → (line : List ℕ) (given : Option Command)
-    → command_of roster.plan line ≡ Ok given → IfSome given (NamesSender roster.configuration.ports)
-line_names_sender roster is line None read = tt
-line_names_sender roster is line (Some command) read = names_sender roster is command (line_names roster.plan line command read)
+pub line_names_sender : (inventory : InventoryState) → IsInventoried inventory → (line : List ℕ) (given : Option Command)
+    → command_of inventory.plan line ≡ Ok given → IfSome given (NamesSender inventory.configuration.ports)
+line_names_sender inventory is line None read = tt
+line_names_sender inventory is line (Some command) read = names_sender inventory is command (line_names inventory.plan line command read)
 
 pub commands_name_senders : EachCommandNamesASender
-commands_name_senders roster is script commands given =
-    All-weaker (NamesWhatIsThere roster.plan) (NamesSender roster.configuration.ports) (names_sender roster is) commands
-    (commands_name_what_is_there roster.plan script commands given)
+commands_name_senders inventory is script commands given =
+    All-weaker (NamesWhatIsThere inventory.plan) (NamesSender inventory.configuration.ports) (names_sender inventory is) commands
+    (commands_name_what_is_there inventory.plan script commands given)
 
 -- ---- the subnet manager's port is the first of the list, and a channel adapter's
 pub record IsManager (ports : List SubnetPort) (manager : SubnetPort) : Type 0 where
@@ -116,32 +116,32 @@ pub record IsManager (ports : List SubnetPort) (manager : SubnetPort) : Type 0 w
   pub named : port_with_guid ports manager.guid ≡ Some manager
   pub adapter : is_switch_type manager.node_type ≡ false
 
-pub manager_is_listed : (roster : RosterState) → IsRostered roster → (manager : SubnetPort) × IsManager roster.configuration.ports manager
-manager_is_listed roster is =
-    by roster.configuration.ports (ends roster is).lids (ends roster is).manager listed.0 listed.1.named listed.1.adapter
+pub manager_is_listed : (inventory : InventoryState) → IsInventoried inventory → (manager : SubnetPort) × IsManager inventory.configuration.ports manager
+manager_is_listed inventory is =
+    by inventory.configuration.ports (ends inventory is).lids (ends inventory is).manager listed.0 listed.1.named listed.1.adapter
   where
-    parts : (not (is_switch_at roster.plan.nodes roster.plan.sm.node) ≡ true) × (is_port roster.plan.nodes roster.plan.sm ≡ true)
-    parts = and_parts (not (is_switch_at roster.plan.nodes roster.plan.sm.node)) (is_port roster.plan.nodes roster.plan.sm) is.topology.manager_port
+    parts : (not (is_switch_at inventory.plan.nodes inventory.plan.sm.node) ≡ true) × (is_port inventory.plan.nodes inventory.plan.sm ≡ true)
+    parts = and_parts (not (is_switch_at inventory.plan.nodes inventory.plan.sm.node)) (is_port inventory.plan.nodes inventory.plan.sm) is.topology.manager_port
 
-    adapter : is_switch_at roster.plan.nodes roster.plan.sm.node ≡ false
-    adapter = not-true (is_switch_at roster.plan.nodes roster.plan.sm.node) parts.0
+    adapter : is_switch_at inventory.plan.nodes inventory.plan.sm.node ≡ false
+    adapter = not-true (is_switch_at inventory.plan.nodes inventory.plan.sm.node) parts.0
 
-    listed : (port : SubnetPort) × IsListed roster is (port_guid_at roster.plan.nodes roster.plan.sm) port
-    listed = adapter_listed roster is (port_guid_at roster.plan.nodes roster.plan.sm) (record {
-      at = roster.plan.sm;
-      there = rw adapter (and_from (is_port roster.plan.nodes roster.plan.sm) (is_cabled roster.plan.cables roster.plan.sm) parts.1 is.topology.manager_cabled);
+    listed : (port : SubnetPort) × IsListed inventory is (port_guid_at inventory.plan.nodes inventory.plan.sm) port
+    listed = adapter_listed inventory is (port_guid_at inventory.plan.nodes inventory.plan.sm) (record {
+      at = inventory.plan.sm;
+      there = rw adapter (and_from (is_port inventory.plan.nodes inventory.plan.sm) (is_cabled inventory.plan.cables inventory.plan.sm) parts.1 is.topology.manager_cabled);
       adapter = adapter;
       guid_is = refl;
     })
 
-    by : (ports : List SubnetPort) → HaveLidsInOrder ports → All (λ port. port.lid ≡ 1 → port.guid ≡ port_guid_at roster.plan.nodes roster.plan.sm) ports
-        → (port : SubnetPort) → port_with_guid ports (port_guid_at roster.plan.nodes roster.plan.sm) ≡ Some port → is_switch_type port.node_type ≡ false
+    by : (ports : List SubnetPort) → HaveLidsInOrder ports → All (λ port. port.lid ≡ 1 → port.guid ≡ port_guid_at inventory.plan.nodes inventory.plan.sm) ports
+        → (port : SubnetPort) → port_with_guid ports (port_guid_at inventory.plan.nodes inventory.plan.sm) ≡ Some port → is_switch_type port.node_type ≡ false
         → (manager : SubnetPort) × IsManager ports manager
     by [] lids manager port named adapter = absurd (none-some port named)
     by (one ∷ ports) lids manager port named adapter =
         let lid : one.lid ≡ 1 = cc in
-        let guid = All-head (λ port. port.lid ≡ 1 → port.guid ≡ port_guid_at roster.plan.nodes roster.plan.sm) one ports manager lid in
-        let here : port_with_guid (one ∷ ports) (port_guid_at roster.plan.nodes roster.plan.sm) ≡ Some one = rw (eq-eqb one.guid (port_guid_at roster.plan.nodes roster.plan.sm) guid) refl in
+        let guid = All-head (λ port. port.lid ≡ 1 → port.guid ≡ port_guid_at inventory.plan.nodes inventory.plan.sm) one ports manager lid in
+        let here : port_with_guid (one ∷ ports) (port_guid_at inventory.plan.nodes inventory.plan.sm) ≡ Some one = rw (eq-eqb one.guid (port_guid_at inventory.plan.nodes inventory.plan.sm) guid) refl in
         let same : one ≡ port = same_Some one port (sym here ∙ named) in (
           one,
           record {

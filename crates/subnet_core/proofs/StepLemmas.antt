@@ -10,7 +10,7 @@ use Rattle.subnet_sends.specs.Sends.{event_of}
 use Rattle.subnet_sends.specs.declared.event.Event.{Event}
 
 -- what is reported from the start is the report
-pub told_from_start : (configuration : ConfigurationState) (commands : List Command) (first events : List Event) (state : Administration) → first ≡ [] → state ≡ at_start configuration
+pub reported_from_start : (configuration : ConfigurationState) (commands : List Command) (first events : List Event) (state : Administration) → first ≡ [] → state ≡ at_start configuration
     → map event_of events ≡ map event_of first ++ events_from (step_by subnet_administration configuration) state commands
     → map event_of events ≡ report_by subnet_administration configuration commands
-told_from_start configuration commands first events state none fresh carried = carried ∙ rw (none, fresh) refl
+reported_from_start configuration commands first events state none fresh carried = carried ∙ rw (none, fresh) refl

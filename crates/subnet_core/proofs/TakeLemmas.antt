@@ -3,7 +3,7 @@ use Rattle.std.proofs.Common.{ℕ, true, ◌==◌, ◌+◌, ◌≡◌, ◌∙◌
 use Rattle.std.specs.Prelude.{OnOk}
 use Rattle.std.proofs.lemmas.Bool.Decides.{nat_tests}
 use Rattle.std.proofs.lemmas.Grind.{flat_map-append}
-use Rattle.result_words.specs.AtLine.{AtLine}
+use Rattle.step_results.specs.AtLine.{AtLine}
 use Rattle.script_lines.specs.declared.script_cause.ScriptCause.{ScriptCause}
 use Rattle.subnet_model.specs.Report.{events_from, state_from}
 use Rattle.subnet_core.proofs.LineCommandLemmas.{commands_begin, events_on, faulty_on, sound_on, states_on}
@@ -21,50 +21,50 @@ use Rattle.subnet_model.specs.Configuration.{ConfigurationState}
 use Rattle.subnet_model.specs.Report.{step_by}
 use Rattle.subnet_model.specs.declared.command.Command.{Command}
 use Rattle.subnet_model.specs.declared.event.PortEvent.{PortEvent}
-use Rattle.subnet_core.specs.StreamSteps.{Carries, StreamState, Takes, told_from}
+use Rattle.subnet_core.specs.StreamSteps.{Carries, StreamState, Takes, reported_from}
 use Rattle.subnet_core.specs.EventLines.{line_text, report_text}
 
 abbrev stepping : ConfigurationState → Administration → Command → List PortEvent × Administration
 stepping configuration = step_by subnet_administration configuration
 
--- ---- what lines tell, one part of them and then another
+-- ---- what lines report, one part of them and then another
 module _ (was : SubnetState) (first second : List (List ℕ)) where
-  more_told : (number : ℕ) → first_fault was.roster.plan number first ≡ None → (next : SubnetState) → next.roster ≡ was.roster
-      → next.administration ≡ state_from (stepping was.roster.configuration) was.administration (commands_before_fault was.roster.plan first)
-      → told_from was (first ++ second) ≡ told_from was first ++ told_from next second
-  more_told number sound next roster administration =
-      let plan = was.roster.plan in
-      let step = stepping was.roster.configuration in
+  more_reported : (number : ℕ) → first_fault was.inventory.plan number first ≡ None → (next : SubnetState) → next.inventory ≡ was.inventory
+      → next.administration ≡ state_from (stepping was.inventory.configuration) was.administration (commands_before_fault was.inventory.plan first)
+      → reported_from was (first ++ second) ≡ reported_from was first ++ reported_from next second
+  more_reported number sound next inventory administration =
+      let plan = was.inventory.plan in
+      let step = stepping was.inventory.configuration in
       let commands = commands_before_fault plan first in
       let others = commands_before_fault plan second in
-      rw (roster, administration)
-      (ap (λ all. report_text was.roster.configuration.ports (events_from step was.administration all)) (sound_on plan number first second sound).0
-      ∙ ap (report_text was.roster.configuration.ports) (events_on step was.administration commands others)
-      ∙ flat_map-append (line_text was.roster.configuration.ports) (events_from step was.administration commands) (events_from step (state_from step was.administration commands) others))
+      rw (inventory, administration)
+      (ap (λ all. report_text was.inventory.configuration.ports (events_from step was.administration all)) (sound_on plan number first second sound).0
+      ∙ ap (report_text was.inventory.configuration.ports) (events_on step was.administration commands others)
+      ∙ flat_map-append (line_text was.inventory.configuration.ports) (events_from step was.administration commands) (events_from step (state_from step was.administration commands) others))
 
-  begins_told : (more : List ℕ) × (told_from was (first ++ second) ≡ told_from was first ++ more)
-  begins_told =
-      let plan = was.roster.plan in
-      let step = stepping was.roster.configuration in
+  begins_reported : (more : List ℕ) × (reported_from was (first ++ second) ≡ reported_from was first ++ more)
+  begins_reported =
+      let plan = was.inventory.plan in
+      let step = stepping was.inventory.configuration in
       let begun = commands_begin plan first second in
       let state = state_from step was.administration (commands_before_fault plan first) in (
-        report_text was.roster.configuration.ports (events_from step state begun.0),
-        ap (λ all. report_text was.roster.configuration.ports (events_from step was.administration all)) begun.1
-            ∙ ap (report_text was.roster.configuration.ports) (events_on step was.administration (commands_before_fault plan first) begun.0)
-            ∙ flat_map-append (line_text was.roster.configuration.ports) (events_from step was.administration (commands_before_fault plan first)) (events_from step state begun.0),
+        report_text was.inventory.configuration.ports (events_from step state begun.0),
+        ap (λ all. report_text was.inventory.configuration.ports (events_from step was.administration all)) begun.1
+            ∙ ap (report_text was.inventory.configuration.ports) (events_on step was.administration (commands_before_fault plan first) begun.0)
+            ∙ flat_map-append (line_text was.inventory.configuration.ports) (events_from step was.administration (commands_before_fault plan first)) (events_from step state begun.0),
       )
 
-  same_told : (number : ℕ) (at : AtLine ScriptCause) → first_fault was.roster.plan number first ≡ Some at
-      → told_from was (first ++ second) ≡ told_from was first
-  same_told number at faulty =
-      ap (λ all. report_text was.roster.configuration.ports (events_from (stepping was.roster.configuration) was.administration all)) (faulty_on was.roster.plan number first second at faulty).0
+  same_reported : (number : ℕ) (at : AtLine ScriptCause) → first_fault was.inventory.plan number first ≡ Some at
+      → reported_from was (first ++ second) ≡ reported_from was first
+  same_reported number at faulty =
+      ap (λ all. report_text was.inventory.configuration.ports (events_from (stepping was.inventory.configuration) was.administration all)) (faulty_on was.inventory.plan number first second at faulty).0
 
 -- ---- nothing
 pub takes_nothing : (was : StreamState) (known : Option (List ℕ)) → Carries [] was was known known
 unfolding commands_before_fault first_fault
 takes_nothing was known = record {
   puts = puts_nothing was.text known;
-  roster = refl;
+  inventory = refl;
   administration = refl;
   taken = omega arith;
   sound = refl;
@@ -85,39 +85,39 @@ on_ok (Err error) p = tt
 module _ (first second : List (List ℕ)) (was between left : StreamState) (old middle new : Option (List ℕ)) where
   -- ---- lines that are carried out, and then others
   module _ (one : Carries first was between old middle) where
-    told : told_from was.subnet (first ++ second) ≡ told_from was.subnet first ++ told_from between.subnet second
-    told = more_told was.subnet first second (was.taken + 1) one.sound between.subnet one.roster one.administration
+    reported : reported_from was.subnet (first ++ second) ≡ reported_from was.subnet first ++ reported_from between.subnet second
+    reported = more_reported was.subnet first second (was.taken + 1) one.sound between.subnet one.inventory one.administration
 
     counted : (was.taken + 1) + length first ≡ between.taken + 1
     counted = rw one.taken (omega arith)
 
     -- the fault of the others is that of all
-    faults : first_fault was.subnet.roster.plan (was.taken + 1) (first ++ second) ≡ first_fault between.subnet.roster.plan (between.taken + 1) second
+    faults : first_fault was.subnet.inventory.plan (was.taken + 1) (first ++ second) ≡ first_fault between.subnet.inventory.plan (between.taken + 1) second
     faults =
-        (sound_on was.subnet.roster.plan (was.taken + 1) first second one.sound).1
-        ∙ rw (one.roster, counted) refl
+        (sound_on was.subnet.inventory.plan (was.taken + 1) first second one.sound).1
+        ∙ rw (one.inventory, counted) refl
 
     pub carries_on : Carries second between left middle new → Carries (first ++ second) was left old new
     carries_on two = record {
-      puts = rw told (puts_on (told_from was.subnet first) (told_from between.subnet second) was.text between.text left.text old middle new one.puts two.puts);
-      roster = two.roster ∙ one.roster;
+      puts = rw reported (puts_on (reported_from was.subnet first) (reported_from between.subnet second) was.text between.text left.text old middle new one.puts two.puts);
+      inventory = two.inventory ∙ one.inventory;
       administration =
           two.administration
-          ∙ rw (one.roster, one.administration)
-          (sym (ap (state_from (stepping was.subnet.roster.configuration) was.subnet.administration) (sound_on was.subnet.roster.plan (was.taken + 1) first second one.sound).0
-          ∙ states_on (stepping was.subnet.roster.configuration) was.subnet.administration (commands_before_fault was.subnet.roster.plan first) (commands_before_fault was.subnet.roster.plan second)));
+          ∙ rw (one.inventory, one.administration)
+          (sym (ap (state_from (stepping was.subnet.inventory.configuration) was.subnet.administration) (sound_on was.subnet.inventory.plan (was.taken + 1) first second one.sound).0
+          ∙ states_on (stepping was.subnet.inventory.configuration) was.subnet.administration (commands_before_fault was.subnet.inventory.plan first) (commands_before_fault was.subnet.inventory.plan second)));
       taken = let n = one.taken in let m = two.taken in let l = length-append first second in omega (arith, n, m, l);
       sound = faults ∙ two.sound;
     }
 
-    some_on : PutsSome (told_from between.subnet second) between.text left.text middle new
-        → PutsSome (told_from was.subnet (first ++ second)) was.text left.text old new
-    some_on two = rw told (puts_some_on (told_from was.subnet first) (told_from between.subnet second) was.text between.text left.text old middle new one.puts two)
+    some_on : PutsSome (reported_from between.subnet second) between.text left.text middle new
+        → PutsSome (reported_from was.subnet (first ++ second)) was.text left.text old new
+    some_on two = rw reported (puts_some_on (reported_from was.subnet first) (reported_from between.subnet second) was.text between.text left.text old middle new one.puts two)
 
     pub takes_on : {X : Type 0} (answer : Result X RunFault) → Takes second answer between left middle new → Takes (first ++ second) answer was left old new
     takes_on (Ok done) two = carries_on two
     takes_on (Err (Script line cause)) two =
-        (faults ∙ two.0, rw told (puts_on (told_from was.subnet first) (told_from between.subnet second) was.text between.text left.text old middle new one.puts two.1))
+        (faults ∙ two.0, rw reported (puts_on (reported_from was.subnet first) (reported_from between.subnet second) was.text between.text left.text old middle new one.puts two.1))
     takes_on (Err NoMemory) two = some_on two
     takes_on (Err Write) two = some_on two
     takes_on (Err Read) two = absurd two
@@ -131,16 +131,16 @@ module _ (first second : List (List ℕ)) (was between left : StreamState) (old 
 
 -- ---- lines that are not carried out whole: of those behind them nothing is taken
 module _ (first second : List (List ℕ)) (was left : StreamState) (old new : Option (List ℕ)) where
-  some_of : PutsSome (told_from was.subnet first) was.text left.text old new → PutsSome (told_from was.subnet (first ++ second)) was.text left.text old new
+  some_of : PutsSome (reported_from was.subnet first) was.text left.text old new → PutsSome (reported_from was.subnet (first ++ second)) was.text left.text old new
   some_of some =
-      let begun = begins_told was.subnet first second in
-      rw begun.1 (puts_some_of (told_from was.subnet first) begun.0 was.text left.text old new some)
+      let begun = begins_reported was.subnet first second in
+      rw begun.1 (puts_some_of (reported_from was.subnet first) begun.0 was.text left.text old new some)
 
   pub takes_no_more : (X Y : Type 0) (fault : RunFault) → let answer : Result X RunFault = Err fault in Takes first answer was left old new
       → let ends : Result Y RunFault = Err fault in Takes (first ++ second) ends was left old new
   takes_no_more X Y (Script line cause) one = (
-    (faulty_on was.subnet.roster.plan (was.taken + 1) first second _ one.0).1,
-    rw (same_told was.subnet first second (was.taken + 1) _ one.0) one.1,
+    (faulty_on was.subnet.inventory.plan (was.taken + 1) first second _ one.0).1,
+    rw (same_reported was.subnet first second (was.taken + 1) _ one.0) one.1,
   )
   takes_no_more X Y NoMemory one = some_of one
   takes_no_more X Y Write one = some_of one

@@ -11,8 +11,8 @@ use Rattle.fabric_parts.specs.declared.cable.Cable.{Cable}
 use Rattle.fabric_parts.specs.declared.cable.PortRef.{PortRef}
 use Rattle.fabric_parts.specs.declared.node_type.NodeType.{NodeType}
 use Rattle.fabric_parts.specs.declared.node_type.NodeType.TheVariants.{Switch, ChannelAdapter}
-use Rattle.result_words.proofs.StepLemmas.{bind_done, bind_ok, let_through, not_stopped, same_ok}
-use Rattle.result_words.specs.AtLine.{after_lines, on_line}
+use Rattle.step_results.proofs.StepLemmas.{bind_done, bind_ok, let_through, not_stopped, same_ok}
+use Rattle.step_results.specs.AtLine.{after_lines, on_line}
 use Rattle.text_words.specs.Lines.{lines, words_of}
 use Rattle.topo_file.proofs.AcceptedLemmas.{new_cable_is, new_node_is}
 use Rattle.topo_file.proofs.SoundLemmas.{nothing_sound, sound_rooted, sound_still, sound_with}
@@ -21,8 +21,8 @@ use Rattle.topo_file.specs.Cable.{may_join, port_at}
 use Rattle.topo_file.specs.Connectivity.{is_connected}
 use Rattle.topo_file.specs.Node.{HasGuids, is_one_too_many, is_switch_at, lacks_guids, last_guid, place_of, ports_at}
 use Rattle.topo_file.specs.Sound.{IsSound, IsSoundSoFar, ends_at_ports, is_manager_port, is_port, on_adapter}
-use Rattle.topo_file.specs.Topology.{DraftState, TopologyState, after_line, after_words, cable_of, cable_spelt, declarations_of, manager_of, manager_spelt, name_of, new_node}
-use Rattle.topo_file.specs.Topology.{node_of, node_spelt, nothing, number_up_to, plan_of, port_of, is_root, root_of, root_spelt, topology_of, whole, with_cable, with_manager, with_node, with_root}
+use Rattle.topo_file.specs.Topology.{DraftState, TopologyState, after_line, after_words, cable_of, cable_encoded, declarations_of, manager_of, manager_encoded, name_of, new_node}
+use Rattle.topo_file.specs.Topology.{node_of, node_encoded, nothing, number_up_to, plan_of, port_of, is_root, root_of, root_encoded, topology_of, whole, with_cable, with_manager, with_node, with_root}
 use Rattle.topo_file.specs.declared.fault.TopologyCause.{TopologyCause}
 use Rattle.topo_file.specs.declared.fault.TopologyCause.TheVariants.{DuplicateGuid, DuplicateName, NoSuchPort, OverLimit, PortTaken, RootNotSwitch, WrongCableEnds, WrongManager}
 use Rattle.topo_file.specs.declared.node.Node.{Node}
@@ -43,7 +43,7 @@ new_fits nodes node made h =
     subst (Fits nodes) (same_ok node made room.1) (less (2 ^ 64) (last_guid node) (or_parts (nat_le (2 ^ 64) (last_guid node)) _ guids.0).0, room.0)
 
 node_fits : (kind : NodeType) (nodes : List Node) (words : List (List ℕ)) (made : Node) → node_of kind nodes words ≡ Ok made → Fits nodes made
-unfolding node_of node_spelt
+unfolding node_of node_encoded
 node_fits kind nodes [] made h = absurd cc
 node_fits kind nodes (a ∷ []) made h = absurd cc
 node_fits kind nodes (a ∷ b ∷ []) made h = absurd cc
@@ -66,7 +66,7 @@ port_is nodes place number port h = by (nat_le 1 number && nat_le number (ports_
 
 cable_ends : (nodes : List Node) (cables : List Cable) (words : List (List ℕ)) (made : Cable) → cable_of nodes cables words ≡ Ok made
     → ends_at_ports nodes made ≡ true
-unfolding cable_of cable_spelt
+unfolding cable_of cable_encoded
 cable_ends nodes cables [] made h = absurd cc
 cable_ends nodes cables (one ∷ []) made h = absurd cc
 cable_ends nodes cables (one ∷ other ∷ []) made h =
@@ -89,7 +89,7 @@ IsNewRoot nodes roots root = (is_switch_at nodes root ≡ true) × (is_root root
 
 root_is : (nodes : List Node) (roots : List ℕ) (words : List (List ℕ)) (made : ℕ) → root_of nodes roots words ≡ Ok made
     → IsNewRoot nodes roots made
-unfolding root_of root_spelt
+unfolding root_of root_encoded
 root_is nodes roots [] made h = absurd cc
 root_is nodes roots (word ∷ []) made h =
     let name = bind_ok (name_of word) _ made h in
@@ -102,7 +102,7 @@ root_is nodes roots (word ∷ more ∷ rest) made h = absurd cc
 -- a manager's port is one of an adapter
 manager_is : (so_far : DraftState) (number : ℕ) (words : List (List ℕ)) (made : _)
     → manager_of so_far.nodes so_far.manager number words ≡ Ok made → is_manager_port so_far.nodes made.port ≡ true
-unfolding manager_of manager_spelt
+unfolding manager_of manager_encoded
 manager_is so_far number [] made h = absurd cc
 manager_is so_far number (word ∷ []) made h =
     let nodes = so_far.nodes in
@@ -163,9 +163,9 @@ module _ (number : ℕ) (so_far next : DraftState) (sound : IsSoundSoFar so_far)
   one_line line h = let words = bind_ok (ok_or (words_of line) _) _ next h in after_all words.0 words.2
 
 -- ---- and so does the whole text
-told : {X Cause : Type 0} (number : ℕ) (r : Result X Cause) (x : X) → on_line number r ≡ Ok x → r ≡ Ok x
-told number (Ok y) x h = ap (λ (z : _). Ok z) (same_ok y x h)
-told number (Err cause) x h = absurd cc
+reported : {X Cause : Type 0} (number : ℕ) (r : Result X Cause) (x : X) → on_line number r ≡ Ok x → r ≡ Ok x
+reported number (Ok y) x h = ap (λ (z : _). Ok z) (same_ok y x h)
+reported number (Err cause) x h = absurd cc
 
 all_lines : (number : ℕ) (so_far all : DraftState) (text : List (List ℕ)) → IsSoundSoFar so_far
     → after_lines after_line number so_far text ≡ Ok all → IsSoundSoFar all
@@ -173,7 +173,7 @@ unfolding after_lines
 all_lines number so_far all [] sound h = subst IsSoundSoFar (same_ok so_far all h) sound
 all_lines number so_far all (line ∷ text) sound h =
     let next = bind_ok (on_line number (after_line number so_far line)) _ all h in
-    let still = one_line number so_far next.0 sound line (told number (after_line number so_far line) next.0 next.1) in
+    let still = one_line number so_far next.0 sound line (reported number (after_line number so_far line) next.0 next.1) in
     all_lines (number + 1) next.0 all text still next.2
 
 there : {X Cause : Type 0} (o : Option X) (cause : Cause) (x : X) → ok_or o cause ≡ Ok x → o ≡ Some x
@@ -184,7 +184,7 @@ whole_is_sound : (all : DraftState) (plan : TopologyState) → IsSoundSoFar all 
 unfolding whole
 whole_is_sound all plan sound h =
     let manager = bind_ok (on_line 0 (ok_or all.manager WrongManager)) (plan_of all) plan h in
-    let is = there all.manager WrongManager manager.0 (told 0 (ok_or all.manager WrongManager) manager.0 manager.1) in
+    let is = there all.manager WrongManager manager.0 (reported 0 (ok_or all.manager WrongManager) manager.0 manager.1) in
     let cabled = not_stopped (not (is_cabled all.cables manager.0.port)) _ _ plan manager.2 in
     let joined = not_stopped (not (is_connected all.nodes all.cables)) _ _ plan cabled.1 in
     subst IsSound (same_ok _ plan joined.1) (record {

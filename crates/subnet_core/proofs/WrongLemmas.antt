@@ -1,7 +1,7 @@
--- Two ports that share no partition: the second event of a report is the first one where the other port does nothing.
-use Rattle.std.proofs.Common.{ℕ, ◌≡◌, zero, suc, List, [], ◌∷◌, ap}
+-- Two ports that share no partition: the second event of a report is the first one where the other port does nothing; and one is not near the other.
+use Rattle.std.proofs.Common.{ℕ, ◌≡◌, zero, suc, Bool, true, false, List, [], ◌∷◌, ap}
 use Rattle.sa_groups.specs.Examples.{adapter}
-use Rattle.subnet_core.specs.WrongRules.{CountedEvent, CountedEventsTellOfFarPorts}
+use Rattle.subnet_core.specs.WrongRules.{AllPortsAreNotNear, CountedEvent, CountedEventsReportOfFarPorts}
 use Rattle.subnet_model.specs.Configuration.{ConfigurationState}
 use Rattle.subnet_model.specs.declared.command.Command.{Command}
 use Rattle.subnet_model.specs.declared.command.Command.TheVariants.{Send}
@@ -17,7 +17,12 @@ abbrev first_number : List CountedEvent → ℕ
 first_number [] = 0
 first_number (one ∷ others) = one.number
 
-pub counted_events_tell_of_far_ports : CountedEventsTellOfFarPorts
-counted_events_tell_of_far_ports law =
-    let told : suc (suc zero) ≡ suc zero = ap first_number (law apart 0x111 (refused_of 0x121 ∷ refused_of 0x111 ∷ [])) in
+pub counted_events_report_of_far_ports : CountedEventsReportOfFarPorts
+counted_events_report_of_far_ports law =
+    let reported : suc (suc zero) ≡ suc zero = ap first_number (law apart 0x111 (refused_of 0x121 ∷ refused_of 0x111 ∷ [])) in
+    absurd (cc)
+
+pub all_ports_are_not_near : AllPortsAreNotNear
+all_ports_are_not_near law =
+    let listed : true ≡ false = law apart.ports 0x111 0x121 in
     absurd (cc)

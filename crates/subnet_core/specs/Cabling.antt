@@ -25,3 +25,9 @@ abbrev pub RoutesStay : Command → (was next : RoutesState) → Type 0
 RoutesStay (Send command) was next = next ≡ was
 RoutesStay (Ask command) was next = next ≡ was
 RoutesStay (Cable command) was next = Unit {0}
+
+-- a command to cut a cable, or to mend it, that leaves the cables as they are leaves all as it was; of others nothing is said
+abbrev pub IsKept : Command → (same_cables all_stays : Type 0) → Type 0
+IsKept (Send command) same_cables all_stays = Unit {0}
+IsKept (Ask command) same_cables all_stays = Unit {0}
+IsKept (Cable command) same_cables all_stays = same_cables → all_stays

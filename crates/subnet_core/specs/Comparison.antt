@@ -1,15 +1,13 @@
 -- What a comparison of two scripts says of a port: whether they agree on the commands of the ports near it, and whether its
 -- events are equal.
 use Rattle.std.specs.Prelude.{ℕ, ◌≡◌, ◌↔◌, true, List, Option, Result, Ok, Err}
-use Rattle.std.specs.List.{All}
-use Rattle.result_words.specs.Steps.{◌>>=◌}
+use Rattle.step_results.specs.Steps.{◌>>=◌}
 use Rattle.sa_runs.specs.Administration.{subnet_administration}
 use Rattle.script_lines.specs.NamedPort.{named_adapter_port}
 use Rattle.script_lines.specs.Script.{commands_in}
 use Rattle.script_lines.specs.declared.script_cause.ScriptCause.{ScriptCause}
-use Rattle.subnet_core.specs.BringUp.{FailsWith, WithFabric, up_from}
-use Rattle.subnet_core.specs.Roster.{RosterState, fault_in, of_text, roster_of}
-use Rattle.subnet_core.specs.Senders.{NamesSender}
+use Rattle.subnet_core.specs.Fate.{FailsWith, WithFabric, up_from}
+use Rattle.subnet_core.specs.Inventory.{InventoryState, fault_in, of_text, inventory_of}
 use Rattle.subnet_core.specs.declared.comparing.Comparison.{Comparison}
 use Rattle.subnet_core.specs.declared.fault.RunFault.{RunFault}
 use Rattle.subnet_core.specs.declared.fault.RunFault.TheVariants.{Port, Script, SecondScript}
@@ -64,9 +62,9 @@ two_runs configuration scripts = record {
 -- and before these topology and partitions, and then the fabric
 unfoldable pub two_runs_of : List ℕ → Option (List ℕ) → (first second port : List ℕ) → Option RunFault → Result TwoRunsState RunFault
 two_runs_of topology partitions first second port stop = do
-  roster ← up_from (roster_of topology partitions) stop
-  scripts ← two_scripts_of roster.plan first second port
-  Ok (two_runs roster.configuration scripts)
+  inventory ← up_from (inventory_of topology partitions) stop
+  scripts ← two_scripts_of inventory.plan first second port
+  Ok (two_runs inventory.configuration scripts)
 
 -- a fault of a script, where that is the second
 abbrev pub of_second : RunFault → RunFault
@@ -78,15 +76,7 @@ pub record Compares (runs : TwoRunsState) (comparison : Comparison) : Type 0 whe
   pub scripts_agree : (comparison.scripts_agree ≡ true) ↔ (runs.first.commands ≡ runs.second.commands)
   pub events_equal : (comparison.events_equal ≡ true) ↔ (runs.first.events ≡ runs.second.events)
 
--- the answer compares what comes of the texts and of the fabric, or is their fault, unless memory was refused
-abbrev pub ComparesRuns : Result Comparison RunFault → Result RosterState RunFault → (Option RunFault → Result TwoRunsState RunFault) → Type 0
-ComparesRuns (Ok comparison) given answer = (runs : TwoRunsState) × WithFabric given (λ stop. answer stop ≡ Ok runs) × Compares runs comparison
-ComparesRuns (Err fault) given answer = FailsWith given (fault_in fault) answer
-
--- ---- one run in the subnet, where that is brought up again: each command names a sender of it
-abbrev pub NameSenders : Result RosterState RunFault → List Command → Type 0
-NameSenders given commands = (roster : RosterState) → given ≡ Ok roster → All (NamesSender roster.configuration.ports) commands
-
-abbrev pub RunsAgain : Result PortRunState RunFault → Result RosterState RunFault → ℕ → List Command → Type 0
-RunsAgain (Ok run) given p commands = (roster : RosterState) × (given ≡ Ok roster) × (run ≡ port_run roster.configuration p commands)
-RunsAgain (Err fault) given p commands = FailsWith given (fault_in fault) (up_from given)
+-- the answer compares what comes of the texts and of the fabric, or is their fault, unless an allocation failed
+abbrev pub ComparesRuns : Result Comparison RunFault → (Option RunFault → Type 0) → (Option RunFault → Result TwoRunsState RunFault) → Type 0
+ComparesRuns (Ok comparison) Becomes answer = (runs : TwoRunsState) × WithFabric Becomes (λ stop. answer stop ≡ Ok runs) × Compares runs comparison
+ComparesRuns (Err fault) Becomes answer = FailsWith Becomes (fault_in fault) answer

@@ -4,7 +4,7 @@ use Rattle.sa_fabric.specs.declared.answering.AnswerFault.TheVariants as answeri
 use Rattle.subnet_core.specs.declared.fault.StepFault.{StepFault}
 use Rattle.subnet_core.specs.declared.fault.StepFault.TheVariants as step
 
--- memory was refused; a switch of a fabric that is served takes its masks, so that the second never comes
+-- an allocation failed; a switch of a fabric that is served takes its masks, so that the second never comes
 abbrev pub step_fault_of : AnswerFault → StepFault
 step_fault_of answering.NoMemory = step.NoMemory
 step_fault_of (answering.Push fault) = step.Broken

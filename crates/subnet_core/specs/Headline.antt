@@ -13,7 +13,7 @@ use Rattle.sa_runs.specs.Administration.{subnet_administration}
 use Rattle.sa_runs.specs.RunData.{HasItsData}
 use Rattle.sa_runs.specs.Sources.{NotedEvent, noted_after, noted_in, noted_report, noted_step}
 use Rattle.subnet_ports.specs.Ports.{configuration_of, ports_of}
-use Rattle.subnet_core.specs.Roster.{partitions_for}
+use Rattle.subnet_core.specs.Inventory.{partitions_for}
 use Rattle.script_lines.specs.Script.{commands_in}
 
 -- the events of a run at p, with what is noted beside them: of each answer the bytes of records, and where each comes from

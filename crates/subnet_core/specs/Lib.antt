@@ -1,6 +1,7 @@
 pub mod Lookup
 pub mod Fault
-pub mod Roster
+pub mod Inventory
+pub mod Fate
 pub mod BringUp
 pub mod Run
 pub mod Senders
@@ -13,6 +14,7 @@ pub mod WholeLines
 pub mod Listing
 pub mod Headline
 pub mod Comparison
+pub mod RunsAgain
 pub mod Stream
 pub mod StreamSteps
 pub mod WrongRules

@@ -2,19 +2,20 @@
 use Rattle.std.specs.Prelude.{ℕ, List, [], ◌∷◌, ◌++◌, codes}
 use Rattle.std.specs.List.{flat_map, enumerate_from}
 use Rattle.std.specs.Option.{option_map_or}
-use Rattle.std.specs.Int.{w16, w64, to_be_bytes}
+use Rattle.std.specs.Int.{w16, to_be_bytes}
 use Rattle.pkey_rules.specs.KeyTable.{find_base}
 use Rattle.partition_file.specs.declared.heading.Heading.{Heading}
 use Rattle.subnet_model.specs.Configuration.{ConfigurationState}
 use Rattle.subnet_model.specs.declared.subnet_port.SubnetPort.{SubnetPort}
 use Rattle.line_parts.specs.Lines.{heading_line, member_line}
-use Rattle.line_parts.specs.Parts.{hex_text, port_text}
+use Rattle.line_parts.specs.Ports.{port_text}
+use Rattle.text_parts.specs.Parts.{guid_text, hex_text}
 
 -- `port LID GUID PORT`
 abbrev pub port_line : SubnetPort → List ℕ
 port_line port =
     codes "port " ++ hex_text (to_be_bytes w16 port.lid)
-    ++ codes " " ++ hex_text (to_be_bytes w64 port.guid)
+    ++ codes " " ++ guid_text port.guid
     ++ codes " " ++ port_text port ++ 10 ∷ []
 
 -- the line of a port that holds a key of this base

@@ -1,9 +1,9 @@
 -- What a whole run answers, from its texts alone and from what becomes of the fabric.
 use Rattle.std.specs.Prelude.{ℕ, List, Option, Result, Ok}
-use Rattle.result_words.specs.AtLine.{on_line}
-use Rattle.result_words.specs.Steps.{◌>>=◌}
-use Rattle.subnet_core.specs.BringUp.{up_from}
-use Rattle.subnet_core.specs.Roster.{of_text, roster_of}
+use Rattle.step_results.specs.AtLine.{on_line}
+use Rattle.step_results.specs.Steps.{◌>>=◌}
+use Rattle.subnet_core.specs.Fate.{up_from}
+use Rattle.subnet_core.specs.Inventory.{of_text, inventory_of}
 use Rattle.script_lines.specs.Script.{command_of, commands_in}
 use Rattle.subnet_core.specs.declared.fault.RunFault.{RunFault}
 use Rattle.subnet_core.specs.declared.fault.RunFault.TheVariants.{Script}
@@ -25,8 +25,8 @@ abbrev pub parsed : TopologyState → ℕ → List ℕ → Result (Option Comman
 parsed plan number line = of_text Script (on_line number (command_of plan line))
 
 -- what is reported of these commands, one after the other from the start, where subnet administration answers
-abbrev pub told_of : ConfigurationState → List Command → ReportState
-told_of configuration commands = record {
+abbrev pub reported_of : ConfigurationState → List Command → ReportState
+reported_of configuration commands = record {
   ports = configuration.ports;
   events = report_by subnet_administration configuration commands;
 }
@@ -34,6 +34,6 @@ told_of configuration commands = record {
 -- topology and partitions first, then the fabric, then the whole script, and only then its commands
 unfoldable pub report_of : List ℕ → Option (List ℕ) → List ℕ → Option RunFault → Result ReportState RunFault
 report_of topology partitions script stop = do
-  roster ← up_from (roster_of topology partitions) stop
-  commands ← of_text Script (commands_in roster.plan script)
-  Ok (told_of roster.configuration commands)
+  inventory ← up_from (inventory_of topology partitions) stop
+  commands ← of_text Script (commands_in inventory.plan script)
+  Ok (reported_of inventory.configuration commands)

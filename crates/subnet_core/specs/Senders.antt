@@ -3,7 +3,7 @@ use Rattle.std.specs.Prelude.{ℕ, ◌≡◌, true, false, List, [], ◌∷◌, 
 use Rattle.data_packet.specs.declared.packet.Packet.{Packet}
 use Rattle.data_packet.specs.declared.refusal.Refusal.{Refusal}
 use Rattle.fabric_parts.specs.declared.cable.PortRef.{PortRef}
-use Rattle.packet_ways.specs.Deliveries.{AreDeliveries, DeliveryState, HasPort, adapter_at}
+use Rattle.delivery_laws.specs.Deliveries.{AreDeliveries, DeliveryState, HasPort, adapter_at}
 use Rattle.port_model.specs.AdapterState.{AdapterState}
 use Rattle.smp_wire.specs.FabricState.{FabricState}
 use Rattle.smp_wire.specs.declared.node.Node.{Node}

@@ -1,7 +1,7 @@
 -- How a script is carried out while it is read, piece by piece and line by line: the clauses of `src/stream.rt`.
 use Rattle.std.specs.Prelude.{ℕ, ◌≡◌, ◌+◌, List, [], ◌∷◌, ◌++◌, length, Option, Some, None, Result, Ok, Err, if◌then◌else◌}
 use Rattle.std.specs.Io.KnownBytes.{Appends, Consumes, IsAtEnd}
-use Rattle.result_words.specs.AtLine.{AtLine}
+use Rattle.step_results.specs.AtLine.{AtLine}
 use Rattle.sa_runs.specs.Administration.{subnet_administration}
 use Rattle.script_lines.specs.Script.{command_of}
 use Rattle.script_lines.specs.declared.script_cause.ScriptCause.{ScriptCause}
@@ -15,7 +15,7 @@ use Rattle.subnet_model.specs.declared.command.Command.{Command}
 use Rattle.text_words.specs.Lines.{ends_in, is_line_end, lines}
 use Rattle.topo_file.specs.Topology.{TopologyState}
 
--- the subnet that carries it out, what is told and still to be written, and how many lines were taken
+-- the subnet that carries it out, what is reported and still to be written, and how many lines were taken
 pub record StreamState : Type 0 where
   pub subnet : SubnetState
   pub text : List ℕ
@@ -23,25 +23,25 @@ pub record StreamState : Type 0 where
 
 -- ---- texts on their way to a writer
 -- this text was put behind the one that waits: some of both was written, the rest waits
-pub record Puts (told text text' : List ℕ) (old new : Option (List ℕ)) : Type 0 where
+pub record Puts (reported text text' : List ℕ) (old new : Option (List ℕ)) : Type 0 where
   pub written : List ℕ
   pub appended : Appends old new written
-  pub same : text ++ told ≡ written ++ text'
+  pub same : text ++ reported ≡ written ++ text'
 
 -- or some of it, and the rest is lost
-pub record PutsSome (told text text' : List ℕ) (old new : Option (List ℕ)) : Type 0 where
+pub record PutsSome (reported text text' : List ℕ) (old new : Option (List ℕ)) : Type 0 where
   pub written : List ℕ
   pub lost : List ℕ
   pub appended : Appends old new written
-  pub same : text ++ told ≡ (written ++ text') ++ lost
+  pub same : text ++ reported ≡ (written ++ text') ++ lost
 
--- events are told
-abbrev pub Tells : {X : Type 0} → (told : List ℕ) → Result X RunFault → (was left : StreamState) → (old new : Option (List ℕ)) → Type 0
-Tells told (Ok done) was left old new =
-    Puts told was.text left.text old new × (left.subnet ≡ was.subnet) × (left.taken ≡ was.taken)
-Tells told (Err NoMemory) was left old new = PutsSome told was.text left.text old new
-Tells told (Err Write) was left old new = PutsSome told was.text left.text old new
-Tells told (Err fault) was left old new = ⊥
+-- events are reported
+abbrev pub Reports : {X : Type 0} → (reported : List ℕ) → Result X RunFault → (was left : StreamState) → (old new : Option (List ℕ)) → Type 0
+Reports reported (Ok done) was left old new =
+    Puts reported was.text left.text old new × (left.subnet ≡ was.subnet) × (left.taken ≡ was.taken)
+Reports reported (Err NoMemory) was left old new = PutsSome reported was.text left.text old new
+Reports reported (Err Write) was left old new = PutsSome reported was.text left.text old new
+Reports reported (Err fault) was left old new = ⊥
 
 -- ---- lines that are taken, whole
 abbrev pub or_later : Result (Option Command) ScriptCause → ℕ → Option (AtLine ScriptCause) → Option (AtLine ScriptCause)
@@ -53,30 +53,30 @@ unfoldable pub first_fault : TopologyState → ℕ → List (List ℕ) → Optio
 first_fault plan number [] = None
 first_fault plan number (line ∷ rest) = or_later (command_of plan line) number (first_fault plan (number + 1) rest)
 
--- what these tell in a subnet that stands so
-abbrev pub told_from : SubnetState → List (List ℕ) → List ℕ
-told_from subnet lines =
-    report_text subnet.roster.configuration.ports
-    (events_from (step_by subnet_administration subnet.roster.configuration) subnet.administration
-    (commands_before_fault subnet.roster.plan lines))
+-- what these report in a subnet that stands so
+abbrev pub reported_from : SubnetState → List (List ℕ) → List ℕ
+reported_from subnet lines =
+    report_text subnet.inventory.configuration.ports
+    (events_from (step_by subnet_administration subnet.inventory.configuration) subnet.administration
+    (commands_before_fault subnet.inventory.plan lines))
 
 -- all of them are carried out
 pub record Carries (lines : List (List ℕ)) (was left : StreamState) (old new : Option (List ℕ)) : Type 0 where
-  pub puts : Puts (told_from was.subnet lines) was.text left.text old new
-  pub roster : left.subnet.roster ≡ was.subnet.roster
+  pub puts : Puts (reported_from was.subnet lines) was.text left.text old new
+  pub inventory : left.subnet.inventory ≡ was.subnet.inventory
   pub administration : left.subnet.administration
-      ≡ state_from (step_by subnet_administration was.subnet.roster.configuration) was.subnet.administration
-      (commands_before_fault was.subnet.roster.plan lines)
+      ≡ state_from (step_by subnet_administration was.subnet.inventory.configuration) was.subnet.administration
+      (commands_before_fault was.subnet.inventory.plan lines)
   pub taken : left.taken ≡ was.taken + length lines
-  pub sound : first_fault was.subnet.roster.plan (was.taken + 1) lines ≡ None
+  pub sound : first_fault was.subnet.inventory.plan (was.taken + 1) lines ≡ None
 
 abbrev pub Takes : {X : Type 0} → List (List ℕ) → Result X RunFault → (was left : StreamState) → (old new : Option (List ℕ)) → Type 0
 Takes lines (Ok done) was left old new = Carries lines was left old new
 Takes lines (Err (Script line cause)) was left old new =
-    (first_fault was.subnet.roster.plan (was.taken + 1) lines ≡ Some (record { line = line; cause = cause }))
-    × Puts (told_from was.subnet lines) was.text left.text old new
-Takes lines (Err NoMemory) was left old new = PutsSome (told_from was.subnet lines) was.text left.text old new
-Takes lines (Err Write) was left old new = PutsSome (told_from was.subnet lines) was.text left.text old new
+    (first_fault was.subnet.inventory.plan (was.taken + 1) lines ≡ Some (record { line = line; cause = cause }))
+    × Puts (reported_from was.subnet lines) was.text left.text old new
+Takes lines (Err NoMemory) was left old new = PutsSome (reported_from was.subnet lines) was.text left.text old new
+Takes lines (Err Write) was left old new = PutsSome (reported_from was.subnet lines) was.text left.text old new
 Takes lines (Err fault) was left old new = ⊥
 
 -- ---- a script, as far as it is read

@@ -1,6 +1,7 @@
--- A way to tell what happens at a port that would tell of far ports, too.
-use Rattle.std.specs.Prelude.{ℕ, ◌≡◌, ◌==◌, suc, List, [], ◌∷◌, filter}
+-- Ways to report what happens at a port, and to list the ports near it, that would show far ports, too.
+use Rattle.std.specs.Prelude.{ℕ, ◌≡◌, ◌==◌, suc, List, [], ◌∷◌, filter, map}
 use Rattle.sa_runs.specs.Administration.{subnet_administration}
+use Rattle.subnet_core.specs.Laws.{ListsNear}
 use Rattle.subnet_model.specs.Configuration.{ConfigurationState}
 use Rattle.subnet_model.specs.Near.{is_near}
 use Rattle.subnet_model.specs.Report.{report_by}
@@ -27,5 +28,9 @@ CountedEventsDependOnNear =
     (configuration : ConfigurationState) (p : ℕ) (commands : List Command)
     → counted_at configuration p commands ≡ counted_at configuration p (commands_of (is_near configuration.ports p) commands)
 
-abbrev pub CountedEventsTellOfFarPorts : Type 0
-CountedEventsTellOfFarPorts = CountedEventsDependOnNear → ⊥
+abbrev pub CountedEventsReportOfFarPorts : Type 0
+CountedEventsReportOfFarPorts = CountedEventsDependOnNear → ⊥
+
+-- a list of all ports has far ones, too
+abbrev pub AllPortsAreNotNear : Type 0
+AllPortsAreNotNear = ListsNear (λ ports p. map (λ port. port.guid) ports) → ⊥

@@ -1,11 +1,11 @@
 //! How a port that asks acknowledges a table that answers it in segments.
 
 ghost use Rattle.std.specs.Prelude.{◌≡◌, ◌<◌, ◌≤◌, ◌+◌, ◌^◌, IfOk};
-ghost use Rattle.sa_runs.specs.Asking.{ack_mad, acknowledgements, acks_of, is_first_segment, segments_told};
+ghost use Rattle.sa_runs.specs.Asking.{ack_mad, acknowledgements, acks_of, is_first_segment, segments_reported};
 
 use bitflags::Flags;
 use mad_layout::{Header, Mad, Method, RmppFlags, RmppHeader, RmppKind, SA_DATA_BYTES, SaMad};
-use rmpp_core::reply_mad;
+use rmpp_core::{RMPP_VERSION, SEGMENT_PAYLOAD, sa_mad};
 use std::alloc::{AllocError, Global};
 
 /// The MADs by which a port acknowledges those that answer it: one for each segment of a table, in order, and none where
@@ -22,25 +22,27 @@ pub(crate) fn acknowledgements(alloc: Global, mads: &[Mad]) -> Result<Vec<Mad>, 
     if !is_first_segment(&rmpp) {
         return Ok(Vec::new(alloc));
     }
-    let count = segments_told(rmpp.payload_length_or_new_window_last);
+    let count = segments_reported(rmpp.payload_length_or_new_window_last);
     acks_of(alloc, &Header::read(first), count)
 }
 
 fn is_first_segment(rmpp: &RmppHeader) -> bool
     ensures { result ≡ is_first_segment rmpp.now }
 {
-    rmpp.version == 1
+    rmpp.version == RMPP_VERSION
         && rmpp.kind == RmppKind::Data.code()
         && rmpp.flags().contains(RmppFlags::ACTIVE)
         && rmpp.flags().contains(RmppFlags::FIRST)
 }
 
-/// How many segments a table has whose first one tells this length: each counts for 20 bytes more than its data.
-fn segments_told(length: u32) -> u32
-    ensures value { result ≡ segments_told length }
+/// How many segments a table has whose first one reports this length: each counts for 20 bytes more than its data.
+fn segments_reported(length: u32) -> u32
+    ensures value { result ≡ segments_reported length }
     ensures few { result < 2 ^ 31 }
 {
-    ((u64::from(length) + 219) / 220).max(1) as u32
+    u64::from(length)
+        .div_ceil(u64::from(SEGMENT_PAYLOAD))
+        .max(1) as u32
 }
 
 /// The ACKs of so many segments.
@@ -65,7 +67,7 @@ fn ack_mad(segment: &Header, count: u32, number: u32) -> Mad
         ..*segment
     };
     let rmpp = RmppHeader {
-        version: 1,
+        version: RMPP_VERSION,
         kind: RmppKind::Ack.code(),
         response_time: 0,
         flags: RmppFlags::ACTIVE.bits(),
@@ -79,5 +81,5 @@ fn ack_mad(segment: &Header, count: u32, number: u32) -> Mad
         component_mask: 0,
         data: [0; SA_DATA_BYTES],
     };
-    reply_mad(&header, &rmpp, &fields)
+    sa_mad(&header, &rmpp, &fields)
 }

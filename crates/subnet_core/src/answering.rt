@@ -9,10 +9,10 @@ ghost use Rattle.subnet_model.specs.declared.command.Command.TheVariants.{Ask, C
 
 use crate::acknowledging::acknowledgements;
 use crate::bringing_up::keys_of;
-use crate::roster::Roster;
+use crate::inventory::Inventory;
 use fabric_wire::{Delivery, Fabric};
 use mad_layout::Mad;
-use sa_fabric::{Administrator, AnswerFault, answer, recable};
+use sa_fabric::{Administrator, AnswerFault, Listed, answer, recable};
 use std::alloc::Global;
 use subnet_model::{AskCommand, CableCommand, Command, SendCommand};
 use subnet_sends::{Event, Sent, ask, manager_key, reply, send};
@@ -25,6 +25,15 @@ pub(crate) struct Answer {
     pub(crate) mads: Vec<Mad>,
     /// The events, in order.
     pub(crate) events: Vec<Event>,
+}
+
+/// A request to subnet administration, as the fabric delivers it.
+#[derive(Clone, Copy)]
+struct Request<'a> {
+    /// The GUID of the port that sends it, as the command names it. The SLID of its packet is the LID of that port.
+    port: u64,
+    /// Where the fabric delivers it.
+    deliveries: &'a [Delivery],
 }
 
 impl Answer {
@@ -43,78 +52,76 @@ impl Answer {
 /// Carries out a command over the fabric, with subnet administration.
 pub(crate) fn carried_out(
     alloc: Global,
-    roster: &Roster,
+    inventory: &Inventory,
     routes: &mut Routes,
     fabric: &mut Fabric,
     administrator: &mut Administrator,
     command: &Command,
 ) -> Result<Vec<Event>, AnswerFault>
-    requires { Stands roster.now routes.old administrator.old fabric.old }
+    requires { Stands inventory.now routes.old administrator.old fabric.old }
     ensures steps { IfOk result (λ events.
-        StepsTo roster.now routes.old routes.new administrator.old fabric.old command.now events.items administrator.new fabric.new) }
+        StepsTo inventory.now routes.old routes.new administrator.old fabric.old command.now events.items administrator.new fabric.new) }
     ensures no_push { IfErr result (λ fault. fault ≡ AnswerFault.NoMemory) }
 {
     match command {
-        Command::Send(command) => sent(alloc, roster, routes, fabric, administrator, command),
-        Command::Ask(command) => asked(alloc, roster, routes, fabric, administrator, command),
-        Command::Cable(command) => recabled(alloc, roster, routes, fabric, administrator, command),
+        Command::Send(command) => sent(alloc, inventory, routes, fabric, administrator, command),
+        Command::Ask(command) => asked(alloc, inventory, routes, fabric, administrator, command),
+        Command::Cable(command) => recabled(
+            alloc,
+            inventory,
+            routes,
+            fabric,
+            administrator,
+            command,
+        ),
     }
 }
 
 /// Carries out a command to cut a cable, or to mend it. Nothing happens at ports.
 fn recabled(
     alloc: Global,
-    roster: &Roster,
+    inventory: &Inventory,
     routes: &mut Routes,
     fabric: &mut Fabric,
     administrator: &Administrator,
     command: &CableCommand,
 ) -> Result<Vec<Event>, AnswerFault>
-    requires { Stands roster.now routes.old administrator.now fabric.old }
+    requires { Stands inventory.now routes.old administrator.now fabric.old }
     ensures steps { IfOk result (λ events.
-        StepsTo roster.now routes.old routes.new administrator.now fabric.old (Cable command.now) events.items administrator.now fabric.new) }
+        StepsTo inventory.now routes.old routes.new administrator.now fabric.old (Cable command.now) events.items administrator.now fabric.new) }
     ensures no_push { IfErr result (λ fault. fault ≡ AnswerFault.NoMemory) }
 {
-    let keys = keys_of(alloc, roster.configuration().ports())?;
-    recable(
-        alloc,
-        roster.topology(),
-        fabric,
-        routes,
-        administrator,
-        &keys,
-        command.cable,
-        command.up,
-    )?;
+    let keys = keys_of(alloc, inventory.configuration().ports())?;
+    let listed = Listed {
+        topology: inventory.topology(),
+        keys: &keys,
+    };
+    recable(alloc, listed, fabric, routes, administrator, command)?;
     Ok(Vec::new(alloc))
 }
 
 /// Carries out a command to send.
 fn sent(
     alloc: Global,
-    roster: &Roster,
+    inventory: &Inventory,
     routes: &Routes,
     fabric: &mut Fabric,
     administrator: &mut Administrator,
     command: &SendCommand,
 ) -> Result<Vec<Event>, AnswerFault>
-    requires { Stands roster.now routes.now administrator.old fabric.old }
+    requires { Stands inventory.now routes.now administrator.old fabric.old }
     ensures steps { IfOk result (λ events.
-        StepsTo roster.now routes.now routes.now administrator.old fabric.old (Send command.now) events.items administrator.new fabric.new) }
+        StepsTo inventory.now routes.now routes.now administrator.old fabric.old (Send command.now) events.items administrator.new fabric.new) }
     ensures no_push { IfErr result (λ fault. fault ≡ AnswerFault.NoMemory) }
 {
     match send(alloc, fabric, command)? {
         Sent::Events(events) => Ok(events),
         Sent::Request(deliveries) => {
-            let given = answered(
-                alloc,
-                roster,
-                routes,
-                fabric,
-                administrator,
-                command.port_guid,
-                &deliveries,
-            )?;
+            let request = Request {
+                port: command.port_guid,
+                deliveries: &deliveries,
+            };
+            let given = answered(alloc, inventory, routes, fabric, administrator, request)?;
             Ok(given.events)
         }
     }
@@ -123,18 +130,18 @@ fn sent(
 /// Carries out a command to ask: what answers it in segments the port acknowledges, in the same way as it asked.
 fn asked(
     alloc: Global,
-    roster: &Roster,
+    inventory: &Inventory,
     routes: &Routes,
     fabric: &mut Fabric,
     administrator: &mut Administrator,
     command: &AskCommand,
 ) -> Result<Vec<Event>, AnswerFault>
-    requires { Stands roster.now routes.now administrator.old fabric.old }
+    requires { Stands inventory.now routes.now administrator.old fabric.old }
     ensures steps { IfOk result (λ events.
-        StepsTo roster.now routes.now routes.now administrator.old fabric.old (Ask command.now) events.items administrator.new fabric.new) }
+        StepsTo inventory.now routes.now routes.now administrator.old fabric.old (Ask command.now) events.items administrator.new fabric.new) }
     ensures no_push { IfErr result (λ fault. fault ≡ AnswerFault.NoMemory) }
 {
-    let first = asked_once(alloc, roster, routes, fabric, administrator, command)?;
+    let first = asked_once(alloc, inventory, routes, fabric, administrator, command)?;
     let mut events = first.events;
     let acks = acknowledgements(alloc, &first.mads)?;
     for ack in &acks {
@@ -142,7 +149,7 @@ fn asked(
             port_guid: command.port_guid,
             mad: *ack,
         };
-        let mut more = asked_once(alloc, roster, routes, fabric, administrator, &next)?;
+        let mut more = asked_once(alloc, inventory, routes, fabric, administrator, &next)?;
         events.append(&mut more.events)?;
     }
     Ok(events)
@@ -151,28 +158,26 @@ fn asked(
 /// Has the port ask this one MAD.
 fn asked_once(
     alloc: Global,
-    roster: &Roster,
+    inventory: &Inventory,
     routes: &Routes,
     fabric: &mut Fabric,
     administrator: &mut Administrator,
     command: &AskCommand,
 ) -> Result<Answer, AnswerFault>
-    requires { Stands roster.now routes.now administrator.old fabric.old }
+    requires { Stands inventory.now routes.now administrator.old fabric.old }
     ensures once { IfOk result (λ given.
-        AsksOnce roster.now routes.now administrator.old fabric.old command.now given administrator.new fabric.new) }
+        AsksOnce inventory.now routes.now administrator.old fabric.old command.now given administrator.new fabric.new) }
     ensures no_push { IfErr result (λ fault. fault ≡ AnswerFault.NoMemory) }
 {
     match ask(alloc, fabric, command)? {
         Sent::Events(events) => Ok(Answer::none(alloc, events)),
-        Sent::Request(deliveries) => answered(
-            alloc,
-            roster,
-            routes,
-            fabric,
-            administrator,
-            command.port_guid,
-            &deliveries,
-        ),
+        Sent::Request(deliveries) => {
+            let request = Request {
+                port: command.port_guid,
+                deliveries: &deliveries,
+            };
+            answered(alloc, inventory, routes, fabric, administrator, request)
+        }
     }
 }
 
@@ -180,36 +185,35 @@ fn asked_once(
 /// its MADs are carried back.
 fn answered(
     alloc: Global,
-    roster: &Roster,
+    inventory: &Inventory,
     routes: &Routes,
     fabric: &mut Fabric,
     administrator: &mut Administrator,
-    port: u64,
-    deliveries: &[Delivery],
+    request: Request<'_>,
 ) -> Result<Answer, AnswerFault>
-    requires { Stands roster.now routes.now administrator.old fabric.old }
-    ensures answers { IfOk result (λ given. AnswersRequests roster.now administrator.old port deliveries.now given administrator.new) }
-    ensures none { deliveries.now ≡ [] → IfOk result (λ given. (given.mads.items ≡ []) × (given.events.items ≡ [])
+    requires { Stands inventory.now routes.now administrator.old fabric.old }
+    ensures answers { IfOk result (λ given. AnswersRequests inventory.now administrator.old request.entry.port request.entry.deliveries.now given administrator.new) }
+    ensures none { request.entry.deliveries.now ≡ [] → IfOk result (λ given. (given.mads.items ≡ []) × (given.events.items ≡ [])
         × (administrator.new ≡ administrator.old) × (fabric.new ≡ fabric.old)) }
-    ensures back { IfOk result (λ given. AreSentBack fabric.new deliveries.now given.events.items) }
-    ensures stands { OnOk result (Stands roster.now routes.now administrator.new fabric.new) }
+    ensures back { IfOk result (λ given. AreSentBack fabric.new request.entry.deliveries.now given.events.items) }
+    ensures stands { OnOk result (Stands inventory.now routes.now administrator.new fabric.new) }
     ensures cabling { OnOk result (cabling_of fabric.new ≡ cabling_of fabric.old) }
     ensures no_push { IfErr result (λ fault. fault ≡ AnswerFault.NoMemory) }
 {
-    let Some(request) = deliveries.first() else {
+    let Some(delivery) = request.deliveries.first() else {
         return Ok(Answer::none(alloc, Vec::new(alloc)));
     };
-    let packet = request.packet();
-    let Some(key) = manager_key(roster.configuration().ports(), packet.p_key) else {
+    let packet = delivery.packet();
+    let Some(key) = manager_key(inventory.configuration().ports(), packet.p_key) else {
         return Ok(Answer::none(alloc, Vec::new(alloc)));
     };
     let mads = answer(
         fabric,
         routes,
         administrator,
-        port,
+        request.port,
         packet.payload.as_slice(),
     )?;
-    let events = reply(alloc, fabric, request, key, &mads)?;
+    let events = reply(alloc, fabric, delivery, key, &mads)?;
     Ok(Answer { mads, events })
 }

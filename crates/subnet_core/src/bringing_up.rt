@@ -3,14 +3,15 @@
 ghost use Rattle.std.specs.Prelude.{◌≡◌, ◌≤◌, length, Err, IfOk};
 ghost use Rattle.std.specs.List.{Contains};
 ghost use Rattle.std.specs.Option.{option_copied};
-ghost use Rattle.subnet_core.specs.BringUp.{Answers, ComesTo, IsStarted, up_from};
-ghost use Rattle.subnet_core.specs.Roster.{IsRostered, roster_of};
+ghost use Rattle.subnet_core.specs.BringUp.{Becomes, ComesTo, IsStarted};
+ghost use Rattle.subnet_core.specs.Fate.{Answers, up_from};
+ghost use Rattle.subnet_core.specs.Inventory.{IsInventoried, inventory_of};
 ghost use Rattle.subnet_fabric.specs.BringUp.{HasNoPath, Stops};
 ghost use Rattle.subnet_fabric.specs.Laws.{all_keys};
 ghost use Rattle.subnet_model.specs.Configured.{HaveLidsInOrder};
 
 use crate::fault::RunFault;
-use crate::roster::{Roster, read_roster};
+use crate::inventory::{Inventory, read_inventory};
 use crate::subnet::Subnet;
 use pkey_rules::{KeyTable, PARTITIONS};
 use std::alloc::{AllocError, Global};
@@ -25,25 +26,25 @@ pub fn bring_up(
     topology: &[u8],
     partitions: Option<&[u8]>,
 ) -> Result<Subnet, RunFault>
-    ensures exact { Answers (λ subnet. subnet.roster) result (roster_of topology.now (option_copied partitions.entry))
-        (up_from (roster_of topology.now (option_copied partitions.entry))) }
+    ensures exact { Answers (λ subnet. subnet.inventory) result (Becomes (inventory_of topology.now (option_copied partitions.entry)))
+        (up_from (inventory_of topology.now (option_copied partitions.entry))) }
     ensures started { IfOk result IsStarted }
-    ensures rostered { IfOk result (λ subnet. IsRostered subnet.roster) }
+    ensures inventoried { IfOk result (λ subnet. IsInventoried subnet.inventory) }
 {
-    let roster = read_roster(alloc, topology, partitions)?;
-    let up = fabric_of(alloc, &roster)?;
-    roster.known_listed();
-    Ok(Subnet::new(alloc, roster, up)?)
+    let inventory = read_inventory(alloc, topology, partitions)?;
+    let up = fabric_of(alloc, &inventory)?;
+    inventory.known_listed();
+    Ok(Subnet::new(alloc, inventory, up)?)
 }
 
-/// The fabric of a roster, brought up.
-fn fabric_of(alloc: Global, roster: &Roster) -> Result<BroughtUp, RunFault>
-    ensures { ComesTo roster.now result }
+/// The fabric of an inventory, brought up.
+fn fabric_of(alloc: Global, inventory: &Inventory) -> Result<BroughtUp, RunFault>
+    ensures { ComesTo inventory.now result }
 {
-    let keys = keys_of(alloc, roster.configuration().ports())?;
-    match bring_up_fabric(alloc, roster.topology(), &keys) {
+    let keys = keys_of(alloc, inventory.configuration().ports())?;
+    match bring_up_fabric(alloc, inventory.topology(), &keys) {
         Ok(up) => Ok(up),
-        Err(fault) => Err(told(roster, fault)),
+        Err(fault) => Err(reported(inventory, fault)),
     }
 }
 
@@ -62,24 +63,24 @@ pub(crate) fn keys_of(
 }
 
 /// The same fault, with names in place of LIDs.
-fn told(roster: &Roster, fault: FabricFault) -> RunFault
-    requires { Stops roster.now.plan fault }
-    ensures { ComesTo roster.now (Err result) }
+fn reported(inventory: &Inventory, fault: FabricFault) -> RunFault
+    requires { Stops inventory.now.plan fault }
+    ensures { ComesTo inventory.now (Err result) }
 {
     match fault {
         FabricFault::NoMemory => RunFault::NoMemory,
         FabricFault::Sweep(fault) => RunFault::Sweep(fault),
-        FabricFault::NoLegalPath { switch, port } => no_legal_path(roster, switch, port),
+        FabricFault::NoLegalPath { switch, port } => no_legal_path(inventory, switch, port),
         FabricFault::Push(fault) => RunFault::Push(fault),
     }
 }
 
-fn no_legal_path(roster: &Roster, switch: u16, port: u16) -> RunFault
-    requires { HasNoPath roster.now.plan switch port }
-    ensures { ComesTo roster.now (Err result) }
+fn no_legal_path(inventory: &Inventory, switch: u16, port: u16) -> RunFault
+    requires { HasNoPath inventory.now.plan switch port }
+    ensures { ComesTo inventory.now (Err result) }
 {
-    roster.known_listed();
-    let ports = roster.configuration().ports();
+    inventory.known_listed();
+    let ports = inventory.configuration().ports();
     let from = port_with_lid(ports, switch);
     let to = port_with_lid(ports, port);
     RunFault::NoLegalPath {

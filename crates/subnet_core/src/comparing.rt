@@ -3,11 +3,12 @@
 ghost use Rattle.std.specs.Prelude.{◌≡◌, ◌↔◌, true, map, All, IfErr, IfOk};
 ghost use Rattle.std.specs.Option.{option_copied};
 ghost use Rattle.script_lines.specs.Script.{commands_in};
-ghost use Rattle.subnet_core.specs.BringUp.{IsStarted};
+ghost use Rattle.subnet_core.specs.BringUp.{Becomes, IsStarted};
 ghost use Rattle.script_lines.specs.NamedPort.{named_adapter_port};
-ghost use Rattle.subnet_core.specs.Comparison.{Compares, ComparesRuns, NameSenders, RunsAgain, of_port, of_second, port_run};
+ghost use Rattle.subnet_core.specs.Comparison.{Compares, ComparesRuns, of_port, of_second, port_run};
+ghost use Rattle.subnet_core.specs.RunsAgain.{NameSenders, RunsAgain};
 ghost use Rattle.subnet_core.specs.Comparison.{two_runs_of, two_scripts_of};
-ghost use Rattle.subnet_core.specs.Roster.{RunGives, of_text, roster_of};
+ghost use Rattle.subnet_core.specs.Inventory.{RunGives, of_text, inventory_of};
 ghost use Rattle.subnet_core.specs.Senders.{NamesSender};
 ghost use Rattle.subnet_core.specs.declared.fault.RunFault.TheVariants.{NoMemory, SecondScript};
 ghost use Rattle.subnet_model.specs.Near.{is_near};
@@ -26,7 +27,7 @@ use subnet_sends::Event;
 /// What two scripts in one subnet have in common for a port.
 #[derive(Clone, Copy, Debug, PartialEq, Eq)]
 pub struct Comparison {
-    /// Whether they have the same commands of the ports near it, however these are spelt, and whatever other ports do.
+    /// Whether they have the same commands of the ports near it, however these are encoded, and whatever other ports do.
     pub scripts_agree: bool,
     /// Whether the port's events are the same.
     pub events_equal: bool,
@@ -43,11 +44,11 @@ pub fn compare(
     second: &[u8],
     port: &[u8],
 ) -> Result<Comparison, RunFault>
-    // Each truth value is what it says of the two runs, unless their fabric is not brought up or memory is refused.
-    ensures exact { ComparesRuns result (roster_of topology.now (option_copied partitions.entry))
+    // Each truth value is what it says of the two runs, unless their fabric is not brought up or an allocation fails.
+    ensures exact { ComparesRuns result (Becomes (inventory_of topology.now (option_copied partitions.entry)))
         (two_runs_of topology.now (option_copied partitions.entry) first.now second.now port.now) }
     // What a port receives depends only on the ports that share a partition with it.
-    ensures private { IfOk result (λ comparison. comparison.scripts_agree ≡ true → comparison.events_equal ≡ true) }
+    ensures apart { IfOk result (λ comparison. comparison.scripts_agree ≡ true → comparison.events_equal ≡ true) }
 {
     in_turn(alloc, topology, partitions, first, second, port)
 }
@@ -60,7 +61,7 @@ fn in_turn(
     second: &[u8],
     port: &[u8],
 ) -> Result<Comparison, RunFault>
-    ensures { ComparesRuns result (roster_of topology.now (option_copied partitions.entry))
+    ensures { ComparesRuns result (Becomes (inventory_of topology.now (option_copied partitions.entry)))
         (two_runs_of topology.now (option_copied partitions.entry) first.now second.now port.now) }
 {
     let subnet = bring_up(alloc, topology, partitions)?;
@@ -95,11 +96,11 @@ fn two_scripts_of(
     second: &[u8],
     port: &[u8],
 ) -> Result<TwoScripts, RunFault>
-    ensures exact { RunGives (λ scripts. scripts) result (two_scripts_of subnet.now.roster.plan first.now second.now port.now) }
-    ensures first { IfOk result (λ scripts. All (NamesSender subnet.now.roster.configuration.ports) scripts.first) }
-    ensures second { IfOk result (λ scripts. All (NamesSender subnet.now.roster.configuration.ports) scripts.second) }
+    ensures exact { RunGives (λ scripts. scripts) result (two_scripts_of subnet.now.inventory.plan first.now second.now port.now) }
+    ensures first { IfOk result (λ scripts. All (NamesSender subnet.now.inventory.configuration.ports) scripts.first) }
+    ensures second { IfOk result (λ scripts. All (NamesSender subnet.now.inventory.configuration.ports) scripts.second) }
 {
-    subnet.roster().known_listed();
+    subnet.inventory().known_listed();
     let port = named_port(subnet, port)?;
     let first = commands_in(alloc, subnet, first)?;
     let second = second_commands_in(alloc, subnet, second)?;
@@ -112,9 +113,9 @@ fn two_scripts_of(
 
 /// The GUID of the port of a channel adapter that a word names.
 fn named_port(subnet: &Subnet, word: &[u8]) -> Result<u64, RunFault>
-    ensures { result ≡ of_port (named_adapter_port subnet.now.roster.plan word.now) }
+    ensures { result ≡ of_port (named_adapter_port subnet.now.inventory.plan word.now) }
 {
-    match subnet.roster().named_adapter_port(word) {
+    match subnet.inventory().named_adapter_port(word) {
         Ok(port) => Ok(port),
         Err(cause) => Err(RunFault::Port(cause)),
     }
@@ -127,7 +128,7 @@ fn second_commands_in(
     script: &[u8],
 ) -> Result<Vec<Command>, RunFault>
     ensures { RunGives (λ commands. commands.items) result
-        (of_text SecondScript (commands_in subnet.now.roster.plan script.now)) }
+        (of_text SecondScript (commands_in subnet.now.inventory.plan script.now)) }
 {
     match commands_in(alloc, subnet, script) {
         Ok(commands) => Ok(commands),
@@ -165,8 +166,8 @@ impl Model for PortRun {
 /// Carries out commands from the start, and keeps what concerns the port of that GUID.
 fn port_run(subnet: Subnet, port: u64, commands: Vec<Command>) -> Result<PortRun, RunFault>
     requires started { IsStarted subnet }
-    requires senders { All (NamesSender subnet.roster.configuration.ports) commands.items }
-    ensures run { IfOk result (λ run. run ≡ port_run subnet.roster.configuration port commands.items) }
+    requires senders { All (NamesSender subnet.inventory.configuration.ports) commands.items }
+    ensures run { IfOk result (λ run. run ≡ port_run subnet.inventory.configuration port commands.items) }
     ensures fault { IfErr result (λ fault. fault ≡ NoMemory) }
 {
     let mut near = commands;
@@ -188,8 +189,8 @@ fn run_again(
     port: u64,
     commands: Vec<Command>,
 ) -> Result<PortRun, RunFault>
-    requires { NameSenders (roster_of topology.now (option_copied partitions)) commands.items }
-    ensures { RunsAgain result (roster_of topology.now (option_copied partitions.entry)) port commands.items }
+    requires { NameSenders (inventory_of topology.now (option_copied partitions)) commands.items }
+    ensures { RunsAgain result (inventory_of topology.now (option_copied partitions.entry)) port commands.items }
 {
     let subnet = bring_up(alloc, topology, partitions)?;
     port_run(subnet, port, commands)

@@ -8,10 +8,11 @@ ghost use Rattle.subnet_core.specs.EventLines.{name_text, trimmed, payload_text,
 
 use crate::lookup::{PortIndex, places_by_guid};
 use data_packet::{PAYLOAD_BYTES, Packet};
-use line_parts::{digits_of, push_decimal, push_hex, push_port};
+use line_parts::push_port;
 use std::alloc::{AllocError, Global};
 use subnet_model::SubnetPort;
 use subnet_sends::Event;
+use text_parts::{digits_of, push_decimal, push_hex};
 
 /// The lines of these events, one each.
 pub(crate) fn report_text(

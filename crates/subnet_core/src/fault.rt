@@ -13,7 +13,7 @@ use topo_file::TopologyCause;
 /// Why a run did not complete. Of several faults the first in this order is answered.
 #[derive(Debug, Drop, PartialEq, Eq, Error)]
 pub enum RunFault {
-    /// Memory was refused.
+    /// Out of memory.
     #[error("out of memory")]
     NoMemory,
     /// The first fault of the topology.
@@ -71,7 +71,7 @@ pub enum RunFault {
     /// The script is not read to its end: a read of it fails, or no end comes within the reads that it is given.
     #[error("the script is not read to its end")]
     Read,
-    /// What is told does not go out: a write takes nothing, is interrupted or fails, or the flush at the end fails.
+    /// What is reported does not go out: a write takes nothing, is interrupted or fails, or the flush at the end fails.
     #[error("what is told does not go out")]
     Write,
 }
@@ -101,7 +101,7 @@ impl<T: Drop> From<AllocFailed<T>> for RunFault {
 /// Why a step did not complete.
 #[derive(Clone, Copy, Debug, PartialEq, Eq, Error)]
 pub enum StepFault {
-    /// Memory was refused.
+    /// Out of memory.
     #[error("out of memory")]
     NoMemory,
     /// Memory was refused in an earlier step.
@@ -130,7 +130,7 @@ impl From<StepFault> for RunFault {
 
     ghost from_gives = { λ _ e. e ≡ run.NoMemory };
 
-    /// Either way memory was refused.
+    /// Either way an allocation failed.
     fn from(_fault: StepFault) -> RunFault {
         RunFault::NoMemory
     }

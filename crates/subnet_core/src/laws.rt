@@ -1,16 +1,16 @@
 //! The laws of scripts that are accepted, and of what becomes of a fabric. Each function's contract is its law; it
 //! does nothing.
 
-ghost use Rattle.subnet_core.specs.Laws.{EachCommandNamesASender, OneFabricIsLeft, OneThingBecomesOfAFabric, StreamsKeepPartitionsApart, TextsHaveOneAnswer};
+ghost use Rattle.subnet_core.specs.Laws.{EachCommandNamesASender, NearIsListed, OneFabricIsLeft, OneThingBecomesOfAFabric, StreamsKeepPartitionsApart, TextsHaveOneAnswer, TwoRunsAgree};
 ghost use Rattle.subnet_core.specs.WholeLines.{ReportLinesAreWhole};
-ghost use Rattle.subnet_core.specs.WrongRules.{CountedEventsTellOfFarPorts};
+ghost use Rattle.subnet_core.specs.WrongRules.{AllPortsAreNotNear, CountedEventsReportOfFarPorts};
 
-/// Each command that a script gives names a port of a channel adapter that the roster lists.
+/// Each command that a script gives names a port of a channel adapter that the inventory lists.
 pub fn each_command_names_a_sender()
     ensures { EachCommandNamesASender }
 {}
 
-/// The fabric of a roster that texts give never both comes up and is stopped, and no two faults stop it: what becomes of it
+/// The fabric of an inventory that texts give never both comes up and is stopped, and no two faults stop it: what becomes of it
 /// depends on the texts alone, and not on the order in which a sweep finds switches.
 pub fn one_thing_becomes_of_a_fabric()
     ensures { OneThingBecomesOfAFabric }
@@ -34,12 +34,28 @@ pub fn texts_have_one_answer()
 
 /// Events that bear their place in the whole report, as by a line number or by a counter over all ports, do not depend on
 /// the ports near a port alone. So those of a report bear none.
-pub fn counted_events_tell_of_far_ports()
-    ensures { CountedEventsTellOfFarPorts }
+pub fn counted_events_report_of_far_ports()
+    ensures { CountedEventsReportOfFarPorts }
 {}
 
-/// What [`run_stream`](crate::run_stream) tells, wherever it ends, keeps partitions apart: at each port the events are those
+/// What [`run_stream`](crate::run_stream) reports, wherever it ends, keeps partitions apart: at each port the events are those
 /// that the commands of the ports near it alone would bring it, and each packet, and each record, comes from a port near it.
 pub fn streams_keep_partitions_apart()
     ensures { StreamsKeepPartitionsApart }
+{}
+
+/// Of two scripts for one subnet, in which the commands of the ports near a port are the same, the two reports have the same events
+/// of that port.
+pub fn two_runs_agree()
+    ensures { TwoRunsAgree }
+{}
+
+/// [`Subnet::near`](crate::Subnet::near) lists a port if and only if it is near.
+pub fn near_is_listed()
+    ensures { NearIsListed }
+{}
+
+/// A list of all ports has one that is far.
+pub fn all_ports_are_not_near()
+    ensures { AllPortsAreNotNear }
 {}

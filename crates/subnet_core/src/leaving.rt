@@ -2,11 +2,11 @@
 
 ghost use Rattle.std.specs.Prelude.{◌≡◌, Some, IfErr, IfOk};
 ghost use Rattle.std.specs.Option.{option_copied};
-ghost use Rattle.result_words.specs.Gives.{Fails};
+ghost use Rattle.step_results.specs.Gives.{Fails};
 ghost use Rattle.script_lines.specs.Script.{commands_in};
 ghost use Rattle.subnet_core.specs.After.{IsLeft, IsLeftBy};
 ghost use Rattle.subnet_core.specs.BringUp.{IsStarted};
-ghost use Rattle.subnet_core.specs.Roster.{fault_in, of_text, roster_of};
+ghost use Rattle.subnet_core.specs.Inventory.{fault_in, of_text, inventory_of};
 ghost use Rattle.subnet_core.specs.declared.fault.RunFault.TheVariants.{Script};
 
 use crate::bringing_up::bring_up;
@@ -16,7 +16,7 @@ use crate::subnet::Subnet;
 use std::alloc::Global;
 
 /// The subnet of a topology under a partition file, or without one, as a script leaves it, if there is one. The subnet is
-/// brought up, and the whole script is read, before anything of it is carried out; what it tells is dropped.
+/// brought up, and the whole script is read, before anything of it is carried out; what it reports is dropped.
 ///
 /// Cables that it cut stay cut: so routes, tables and masks are those that packets go by after its last line.
 pub fn left_by(
@@ -25,7 +25,7 @@ pub fn left_by(
     partitions: Option<&[u8]>,
     script: Option<&[u8]>,
 ) -> Result<Subnet, RunFault>
-    ensures { IsLeft (roster_of topology.now (option_copied partitions.entry)) (option_copied script.entry) result }
+    ensures { IsLeft (inventory_of topology.now (option_copied partitions.entry)) (option_copied script.entry) result }
 {
     let subnet = bring_up(alloc, topology, partitions)?;
     match script {
@@ -37,12 +37,12 @@ pub fn left_by(
 /// The subnet after a script.
 fn after(alloc: Global, subnet: Subnet, script: &[u8]) -> Result<Subnet, RunFault>
     requires { IsStarted subnet }
-    ensures roster { IfOk result (λ left. left.roster ≡ subnet.roster) }
+    ensures inventory { IfOk result (λ left. left.inventory ≡ subnet.inventory) }
     ensures left { IfOk result (IsLeftBy (Some script.now)) }
-    ensures fault { IfErr result (λ fault. Fails (fault_in fault) (of_text Script (commands_in subnet.roster.plan script.now))) }
+    ensures fault { IfErr result (λ fault. Fails (fault_in fault) (of_text Script (commands_in subnet.inventory.plan script.now))) }
 {
     let mut left = subnet;
-    left.roster().known_listed();
+    left.inventory().known_listed();
     let commands = commands_in(alloc, &left, script)?;
     left.run_through(&commands)?;
     // What a subnet meets is known once its fabric is looked at.

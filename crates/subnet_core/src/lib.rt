@@ -1,12 +1,12 @@
 //! Whole runs: the texts of a topology, of partitions and of a script in, a report out.
 //!
 //! [`run`] is the call that the product is named for. Its clause `exact` says that its answer is what
-//! the three texts stand for (`specs/Run.antt`), and its clause `private` that what a port receives
+//! the three texts stand for (`specs/Run.antt`), and its clause `apart` that what a port receives
 //! depends only on the ports that share a partition with it (`specs/Headline.antt`). [`bring_up`],
 //! [`Subnet::parse`] and [`Subnet::step`] do the same piece by piece, and [`Report::text`] prints it. A subnet is brought
 //! up over the simulated fabric of its topology, and `specs/BringUp.antt` says when that fails; each step carries its
 //! command over that fabric (`specs/Senders.antt`), and gives the events, and leaves the memberships, that the list of ports
-//! gives (`specs/Answering.antt`). Who is in a subnet takes no fabric: [`read_roster`] reads it, and [`Roster::listing`] prints it (`specs/Listing.antt`).
+//! gives (`specs/Answering.antt`). Who is in a subnet takes no fabric: [`read_inventory`] reads it, and [`Inventory::listing`] prints it (`specs/Listing.antt`).
 #![tactic(auto)]
 
 mod acknowledging;
@@ -15,12 +15,12 @@ mod bringing_up;
 mod comparing;
 mod event_lines;
 mod fault;
+mod inventory;
 mod laws;
 mod leaving;
 mod listing;
 mod lookup;
 mod report;
-mod roster;
 mod running;
 mod stream;
 mod streaming;
@@ -29,14 +29,14 @@ mod subnet;
 pub use crate::bringing_up::bring_up;
 pub use crate::comparing::{Comparison, compare};
 pub use crate::fault::{RunFault, StepFault};
+pub use crate::inventory::{Inventory, read_inventory};
 pub use crate::laws::{
-    counted_events_tell_of_far_ports, each_command_names_a_sender, one_fabric_is_left,
-    one_thing_becomes_of_a_fabric, report_lines_are_whole, streams_keep_partitions_apart,
-    texts_have_one_answer,
+    all_ports_are_not_near, counted_events_report_of_far_ports, each_command_names_a_sender,
+    near_is_listed, one_fabric_is_left, one_thing_becomes_of_a_fabric, report_lines_are_whole,
+    streams_keep_partitions_apart, texts_have_one_answer, two_runs_agree,
 };
 pub use crate::leaving::left_by;
 pub use crate::report::Report;
-pub use crate::roster::{Roster, read_roster};
 pub use crate::running::run;
 pub use crate::streaming::run_stream;
 pub use crate::subnet::Subnet;

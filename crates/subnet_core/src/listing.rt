@@ -4,10 +4,11 @@ ghost use Rattle.std.specs.Prelude.{◌≡◌, ◌++◌, [], ◌∷◌, OnOk, If
 ghost use Rattle.std.specs.List.{flat_map, enumerate_from};
 ghost use Rattle.subnet_core.specs.Listing.{listing_text, member_text, partition_text, port_line};
 
-use line_parts::{push_heading_line, push_hex, push_member_line, push_port};
+use line_parts::{push_heading_line, push_member_line, push_port};
 use partition_file::Heading;
 use std::alloc::{AllocError, Global};
 use subnet_model::{Configuration, SubnetPort};
+use text_parts::{push_guid, push_hex};
 
 /// The lines of the ports and partitions of a subnet.
 pub(crate) fn listing_text(
@@ -37,7 +38,7 @@ fn push_port_line(text: &mut Vec<u8>, port: &SubnetPort) -> Result<(), AllocErro
     text.extend_from_slice(b"port ")?;
     push_hex(text, &port.lid.to_be_bytes())?;
     text.extend_from_slice(b" ")?;
-    push_hex(text, &port.guid.to_be_bytes())?;
+    push_guid(text, port.guid)?;
     text.extend_from_slice(b" ")?;
     push_port(text, port)?;
     text.push(b'\n')?;

@@ -49,7 +49,7 @@ impl<'a> PortIndex<'a> {
     }
 }
 
-/// The place of the port of each GUID. Later ports come first, so that the first of a GUID stays. Memory alone can be refused.
+/// The place of the port of each GUID. Later ports come first, so that the first of a GUID stays. It can only run out of memory.
 pub(crate) fn places_by_guid(
     alloc: Global,
     ports: &[SubnetPort],

@@ -2,10 +2,11 @@
 
 ghost use Rattle.std.specs.Prelude.{IfOk};
 ghost use Rattle.std.specs.Option.{option_copied};
-ghost use Rattle.result_words.specs.AtLine.{on_line};
+ghost use Rattle.step_results.specs.AtLine.{on_line};
 ghost use Rattle.subnet_core.specs.Headline.{KeepsPartitionsApart};
-ghost use Rattle.subnet_core.specs.BringUp.{Answers};
-ghost use Rattle.subnet_core.specs.Roster.{GiveRosters, RunGives, of_text, roster_of};
+ghost use Rattle.subnet_core.specs.BringUp.{Becomes};
+ghost use Rattle.subnet_core.specs.Fate.{Answers};
+ghost use Rattle.subnet_core.specs.Inventory.{GiveInventories, RunGives, of_text, inventory_of};
 ghost use Rattle.subnet_core.specs.Run.{report_of};
 ghost use Rattle.script_lines.specs.Script.{commands_in, with_line};
 ghost use Rattle.subnet_core.specs.declared.fault.RunFault.TheVariants.{Script};
@@ -26,11 +27,11 @@ pub fn run(
     partitions: Option<&[u8]>,
     script: &[u8],
 ) -> Result<Report, RunFault>
-    // The answer is what the texts stand for, unless their fabric is not brought up or memory is refused.
-    ensures exact { Answers (λ report. report) result (roster_of topology.now (option_copied partitions.entry))
+    // The answer is what the texts stand for, unless their fabric is not brought up or an allocation fails.
+    ensures exact { Answers (λ report. report) result (Becomes (inventory_of topology.now (option_copied partitions.entry)))
         (report_of topology.now (option_copied partitions.entry) script.now) }
     // What a port receives depends only on the ports that share a partition with it.
-    ensures private { IfOk result (λ report.
+    ensures apart { IfOk result (λ report.
         KeepsPartitionsApart topology.now (option_copied partitions.entry) script.now report.events) }
 {
     in_turn(alloc, topology, partitions, script)
@@ -42,13 +43,13 @@ fn in_turn(
     partitions: Option<&[u8]>,
     script: &[u8],
 ) -> Result<Report, RunFault>
-    ensures exact { Answers (λ report. report) result (roster_of topology.now (option_copied partitions.entry))
+    ensures exact { Answers (λ report. report) result (Becomes (inventory_of topology.now (option_copied partitions.entry)))
         (report_of topology.now (option_copied partitions.entry) script.now) }
-    ensures rosters { IfOk result (λ _. GiveRosters topology.now (option_copied partitions.entry)) }
+    ensures inventories { IfOk result (λ _. GiveInventories topology.now (option_copied partitions.entry)) }
 {
     let subnet = bring_up(alloc, topology, partitions)?;
     let commands = commands_in(alloc, &subnet, script)?;
-    subnet.roster().known_listed();
+    subnet.inventory().known_listed();
     Ok(subnet.report(&commands)?)
 }
 
@@ -59,7 +60,7 @@ pub(crate) fn commands_in(
     script: &[u8],
 ) -> Result<Vec<Command>, RunFault>
     ensures { RunGives (λ commands. commands.items) result
-        (of_text Script (commands_in subnet.now.roster.plan script.now)) }
+        (of_text Script (commands_in subnet.now.inventory.plan script.now)) }
 {
     let mut commands = Vec::new(alloc);
     let mut number = 0;
@@ -78,7 +79,7 @@ fn take_line(
     line: &[u8],
 ) -> Result<(), RunFault>
     ensures { RunGives (λ _. commands.new.items) result
-        (of_text Script (on_line number (with_line subnet.now.roster.plan number commands.old.items line.now))) }
+        (of_text Script (on_line number (with_line subnet.now.inventory.plan number commands.old.items line.now))) }
 {
     if let Some(command) = subnet.parse(number, line)? {
         commands.push(command)?;

@@ -2,9 +2,9 @@
 
 ghost use Rattle.std.specs.Prelude.{◌≡◌, ◌+◌, ◌≤◌, ◌<◌, ◌^◌, ◌∷◌, [], true, length, map, IfOk, IsErrOf, OnOk};
 ghost use Rattle.sa_replies.specs.State.{at_start};
-ghost use Rattle.subnet_core.specs.Stream.{CarriesOut, reported};
+ghost use Rattle.subnet_core.specs.Stream.{CarriesOut, report_so_far};
 ghost use Rattle.subnet_core.specs.EventLines.{line_text, report_text};
-ghost use Rattle.subnet_core.specs.StreamSteps.{ReadsOn, Takes, Tells, begun_by_parts, lines_of_parts, rest_of};
+ghost use Rattle.subnet_core.specs.StreamSteps.{ReadsOn, Takes, Reports, begun_by_parts, lines_of_parts, rest_of};
 ghost use Rattle.subnet_sends.specs.Sends.{event_of};
 ghost use Rattle.std.specs.Io.KnownBytes.{Appends};
 ghost use Rattle.text_streams.specs.Reading.{AreInTime, IsEndless};
@@ -23,10 +23,10 @@ use subnet_sends::Event;
 use text_streams::{Output, PIECE, READS, Reader, write_whole};
 use text_words::Lines;
 
-/// What is told waits until it has so many bytes.
+/// What is reported waits until it has so many bytes.
 const TEXT_BYTES: usize = 8192;
 
-/// A subnet that carries out a script, and what is told and still to be written.
+/// A subnet that carries out a script, and what is reported and still to be written.
 #[derive(Drop)]
 pub(crate) struct Stream {
     alloc: Global,
@@ -48,15 +48,15 @@ impl Model for Stream {
 
     ghost view = { λ stream. record { subnet = stream.subnet; text = stream.text.items; taken = stream.taken } };
 
-    ghost invariant = { λ stream. Finds stream.subnet.roster.configuration.ports (get nat_eq stream.places) };
+    ghost invariant = { λ stream. Finds stream.subnet.inventory.configuration.ports (get nat_eq stream.places) };
 }
 
 impl Stream {
-    /// Before the first line. Memory alone can be refused.
+    /// Before the first line. It can only run out of memory.
     pub(crate) fn new(alloc: Global, subnet: Subnet) -> Result<Stream, AllocError>
         ensures { IfOk result (λ stream. stream ≡ record { subnet = subnet; text = []; taken = 0 }) }
     {
-        let places = places_by_guid(alloc, subnet.roster().configuration().ports())?;
+        let places = places_by_guid(alloc, subnet.inventory().configuration().ports())?;
         Ok(Stream {
             alloc,
             subnet,
@@ -67,7 +67,7 @@ impl Stream {
         })
     }
 
-    /// Carries a script out from the start, and writes all that is told.
+    /// Carries a script out from the start, and writes all that is reported.
     pub(crate) fn run<R: Reader, W: Output>(
         &mut self,
         reader: &mut R,
@@ -75,10 +75,10 @@ impl Stream {
     ) -> Result<(), RunFault>
         requires text { self.old.text ≡ [] }
         requires taken { self.old.taken ≡ 0 }
-        requires fresh { self.old.subnet.administration ≡ at_start self.old.subnet.roster.configuration }
-        ensures exact { CarriesOut _ self.old.subnet.roster result (R.remaining reader.old) (R.remaining reader.new)
+        requires fresh { self.old.subnet.administration ≡ at_start self.old.subnet.inventory.configuration }
+        ensures exact { CarriesOut _ self.old.subnet.inventory result (R.remaining reader.old) (R.remaining reader.new)
             (W.contents writer.old) (W.contents writer.new) }
-        ensures in_time { R.waits reader.old ≡ true → AreInTime (reported self.old.subnet.roster) (R.remaining reader.old)
+        ensures in_time { R.waits reader.old ≡ true → AreInTime (report_so_far self.old.subnet.inventory) (R.remaining reader.old)
             (W.contents writer.old) (R.moments reader.old) (R.moments reader.new) }
         ensures endless { R.is_sure reader.old ≡ true → IsErrOf result RunFault.Read → IsEndless (R.remaining reader.old) }
         ensures sure { W.is_sure writer.old ≡ true → IsErrOf result RunFault.Write → ⊥ }
@@ -90,7 +90,7 @@ impl Stream {
         ended
     }
 
-    /// Takes what is read of the script, and answers why it ends. What is told and not written yet waits then.
+    /// Takes what is read of the script, and answers why it ends. What is reported and not written yet waits then.
     fn carry_out<R: Reader, W: Output>(
         &mut self,
         reader: &mut R,
@@ -98,10 +98,10 @@ impl Stream {
     ) -> Result<(), RunFault>
         requires text { self.old.text ≡ [] }
         requires taken { self.old.taken ≡ 0 }
-        requires fresh { self.old.subnet.administration ≡ at_start self.old.subnet.roster.configuration }
+        requires fresh { self.old.subnet.administration ≡ at_start self.old.subnet.inventory.configuration }
         ensures reads { ReadsOn _ result self.old self.new (R.remaining reader.old) (R.remaining reader.new)
             (W.contents writer.old) (W.contents writer.new) }
-        ensures in_time { R.waits reader.old ≡ true → AreInTime (reported self.old.subnet.roster) (R.remaining reader.old)
+        ensures in_time { R.waits reader.old ≡ true → AreInTime (report_so_far self.old.subnet.inventory) (R.remaining reader.old)
             (W.contents writer.old) (R.moments reader.old) (R.moments reader.new) }
         ensures endless { R.is_sure reader.old ≡ true → IsErrOf result RunFault.Read → IsEndless (R.remaining reader.old) }
         ensures sure { W.is_sure writer.old ≡ true → IsErrOf result RunFault.Write → ⊥ }
@@ -121,9 +121,9 @@ impl Stream {
         Err(RunFault::Read)
     }
 
-    /// Writes what is told, if the next read may have to wait, so that a partner sees it before its next line.
+    /// Writes what is reported, if the next read may have to wait, so that a partner sees it before its next line.
     fn catch_up<R: Reader, W: Output>(&mut self, reader: &R, writer: &mut W) -> Result<(), RunFault>
-        ensures tells { Tells [] result self.old self.new (W.contents writer.old) (W.contents writer.new) }
+        ensures reports { Reports [] result self.old self.new (W.contents writer.old) (W.contents writer.new) }
         ensures written { R.waits reader.now ≡ true → OnOk result (self.new.text ≡ []) }
         ensures sure { W.is_sure writer.old ≡ true → IsErrOf result RunFault.Write → ⊥ }
         ensures stays { W.is_sure writer.old ≡ true → W.is_sure writer.new ≡ true }
@@ -196,7 +196,7 @@ impl Stream {
         taken
     }
 
-    /// Carries out a line, and tells what comes of it.
+    /// Carries out a line, and reports what comes of it.
     fn take_line<W: Output>(&mut self, line: &[u8], writer: &mut W) -> Result<(), RunFault>
         requires { self.old.taken + 1 < 2 ^ 64 }
         ensures takes { Takes (line.now ∷ []) result self.old self.new (W.contents writer.old) (W.contents writer.new) }
@@ -209,34 +209,37 @@ impl Stream {
         match command {
             Some(command) => {
                 let events = self.subnet.step(&command)?;
-                self.tell(&events, writer)
+                self.write_reports(&events, writer)
             }
             None => Ok(()),
         }
     }
 
-    /// Tells of these events.
-    fn tell<W: Output>(&mut self, events: &[Event], writer: &mut W) -> Result<(), RunFault>
-        ensures tells { Tells (report_text self.old.subnet.roster.configuration.ports (map event_of events.now)) result self.old self.new
+    /// Reports of these events.
+    fn write_reports<W: Output>(&mut self, events: &[Event], writer: &mut W) -> Result<(), RunFault>
+        ensures reports { Reports (report_text self.old.subnet.inventory.configuration.ports (map event_of events.now)) result self.old self.new
             (W.contents writer.old) (W.contents writer.new) }
         ensures sure { W.is_sure writer.old ≡ true → IsErrOf result RunFault.Write → ⊥ }
         ensures stays { W.is_sure writer.old ≡ true → W.is_sure writer.new ≡ true }
     {
         for event in events {
-            self.tell_one(event, writer)?;
+            self.report_one(event, writer)?;
         }
         Ok(())
     }
 
-    /// Tells of one event, once there is room for its line.
-    fn tell_one<W: Output>(&mut self, event: &Event, writer: &mut W) -> Result<(), RunFault>
-        ensures tells { Tells (line_text self.old.subnet.roster.configuration.ports (event_of event.now)) result self.old self.new
+    /// Reports of one event, once there is room for its line.
+    fn report_one<W: Output>(&mut self, event: &Event, writer: &mut W) -> Result<(), RunFault>
+        ensures reports { Reports (line_text self.old.subnet.inventory.configuration.ports (event_of event.now)) result self.old self.new
             (W.contents writer.old) (W.contents writer.new) }
         ensures sure { W.is_sure writer.old ≡ true → IsErrOf result RunFault.Write → ⊥ }
         ensures stays { W.is_sure writer.old ≡ true → W.is_sure writer.new ≡ true }
     {
         self.make_room(writer)?;
-        let ports = PortIndex::new(self.subnet.roster().configuration().ports(), &self.places);
+        let ports = PortIndex::new(
+            self.subnet.inventory().configuration().ports(),
+            &self.places,
+        );
         if push_line(&mut self.text, &ports, event).is_err() {
             // What the text has of the line is not known.
             self.text.clear();
@@ -256,7 +259,7 @@ impl Stream {
 
     /// Makes room for a line.
     fn make_room<W: Output>(&mut self, writer: &mut W) -> Result<(), RunFault>
-        ensures tells { Tells [] result self.old self.new (W.contents writer.old) (W.contents writer.new) }
+        ensures reports { Reports [] result self.old self.new (W.contents writer.old) (W.contents writer.new) }
         ensures sure { W.is_sure writer.old ≡ true → IsErrOf result RunFault.Write → ⊥ }
         ensures stays { W.is_sure writer.old ≡ true → W.is_sure writer.new ≡ true }
     {
@@ -266,9 +269,9 @@ impl Stream {
         self.write_out(writer)
     }
 
-    /// Writes what is told, and flushes the writer. If the writer refuses, the rest is lost.
+    /// Writes what is reported, and flushes the writer. If the writer refuses, the rest is lost.
     fn write_out<W: Output>(&mut self, writer: &mut W) -> Result<(), RunFault>
-        ensures tells { Tells [] result self.old self.new (W.contents writer.old) (W.contents writer.new) }
+        ensures reports { Reports [] result self.old self.new (W.contents writer.old) (W.contents writer.new) }
         ensures written { self.new.text ≡ [] }
         ensures sure { W.is_sure writer.old ≡ true → IsErrOf result RunFault.Write → ⊥ }
         ensures stays { W.is_sure writer.old ≡ true → W.is_sure writer.new ≡ true }

@@ -2,8 +2,8 @@
 
 ghost use Rattle.std.specs.Prelude.{◌≡◌, true, IfOk, IsErrOf};
 ghost use Rattle.std.specs.Option.{option_copied};
-ghost use Rattle.subnet_core.specs.Roster.{roster_of};
-ghost use Rattle.subnet_core.specs.Stream.{Streams, reported};
+ghost use Rattle.subnet_core.specs.Inventory.{inventory_of};
+ghost use Rattle.subnet_core.specs.Stream.{Streams, report_so_far};
 ghost use Rattle.text_streams.specs.Reading.{AreInTime, IsEndless};
 
 use crate::bringing_up::bring_up;
@@ -27,11 +27,11 @@ pub fn run_stream<R: Reader, W: Output>(
     reader: &mut R,
     writer: &mut W,
 ) -> Result<(), RunFault>
-    ensures exact { Streams result (roster_of topology.now (option_copied partitions.entry))
+    ensures exact { Streams result (inventory_of topology.now (option_copied partitions.entry))
         (R.remaining reader.old) (R.remaining reader.new) (W.contents writer.old) (W.contents writer.new) }
     // Before each read that may have to wait, what the lines read so far report is written: a partner who reads it can answer.
-    ensures in_time { R.waits reader.old ≡ true → IfOk (roster_of topology.now (option_copied partitions.entry)) (λ roster.
-        AreInTime (reported roster) (R.remaining reader.old) (W.contents writer.old) (R.moments reader.old) (R.moments reader.new)) }
+    ensures in_time { R.waits reader.old ≡ true → IfOk (inventory_of topology.now (option_copied partitions.entry)) (λ inventory.
+        AreInTime (report_so_far inventory) (R.remaining reader.old) (W.contents writer.old) (R.moments reader.old) (R.moments reader.new)) }
     // If no read fails, the script is given up for its length alone; and what a writer takes for sure goes out.
     ensures endless { R.is_sure reader.old ≡ true → IsErrOf result RunFault.Read → IsEndless (R.remaining reader.old) }
     ensures sure { W.is_sure writer.old ≡ true → IsErrOf result RunFault.Write → ⊥ }

@@ -9,15 +9,15 @@ ghost use Rattle.subnet_core.specs.After.{IsThrough};
 ghost use Rattle.subnet_core.specs.Answering.{IsNext};
 ghost use Rattle.subnet_core.specs.BringUp.{IsStarted, IsUp, StaysUp};
 ghost use Rattle.subnet_core.specs.Listing.{listing_text};
-ghost use Rattle.subnet_core.specs.Roster.{RunGives};
-ghost use Rattle.subnet_core.specs.Run.{parsed, told_of};
+ghost use Rattle.subnet_core.specs.Inventory.{RunGives};
+ghost use Rattle.subnet_core.specs.Run.{parsed, reported_of};
 ghost use Rattle.subnet_core.specs.Senders.{Comes, NamesSender};
 ghost use Rattle.subnet_sends.specs.Sends.{event_of};
 
 use crate::answering::carried_out;
 use crate::fault::{RunFault, StepFault};
+use crate::inventory::Inventory;
 use crate::report::Report;
-use crate::roster::Roster;
 use fabric_wire::Fabric;
 use sa_fabric::Administrator;
 use script_lines::command_of;
@@ -34,7 +34,7 @@ use updn_routes::Routes;
 /// refused.
 pub struct Subnet {
     alloc: Global,
-    roster: Roster,
+    inventory: Inventory,
     routes: Routes,
     fabric: Fabric,
     administrator: Administrator,
@@ -46,7 +46,7 @@ impl Drop for Subnet {
     fn drop(self) {
         let Subnet {
             alloc: _,
-            roster: _,
+            inventory: _,
             routes: _,
             fabric: _,
             administrator: _,
@@ -62,28 +62,32 @@ impl Model for Subnet {
     ghost Value = { SubnetState };
 
     ghost view = { λ subnet. record {
-      roster = subnet.roster;
+      inventory = subnet.inventory;
       routes = subnet.routes;
       fabric = subnet.fabric;
       administration = subnet.administrator.administration;
       is_broken = subnet.is_broken;
     } };
 
-    ghost invariant = { λ subnet. subnet.is_broken ≡ false → Stands subnet.roster subnet.routes subnet.administrator subnet.fabric };
+    ghost invariant = { λ subnet. subnet.is_broken ≡ false → Stands subnet.inventory subnet.routes subnet.administrator subnet.fabric };
 }
 
 impl Subnet {
-    /// The subnet of a fabric that is up, before its first command. Memory alone can be refused.
-    pub(crate) fn new(alloc: Global, roster: Roster, up: BroughtUp) -> Result<Subnet, AllocError>
-        requires { IsUp roster up }
+    /// The subnet of a fabric that is up, before its first command. It can only run out of memory.
+    pub(crate) fn new(
+        alloc: Global,
+        inventory: Inventory,
+        up: BroughtUp,
+    ) -> Result<Subnet, AllocError>
+        requires { IsUp inventory up }
         ensures started { IfOk result IsStarted }
-        ensures roster { IfOk result (λ subnet. subnet.roster ≡ roster) }
+        ensures inventory { IfOk result (λ subnet. subnet.inventory ≡ inventory) }
     {
-        roster.known_listed();
-        let administrator = Administrator::of(alloc, roster.configuration())?;
+        inventory.known_listed();
+        let administrator = Administrator::of(alloc, inventory.configuration())?;
         Ok(Subnet {
             alloc,
-            roster,
+            inventory,
             routes: up.routes,
             fabric: up.fabric,
             administrator,
@@ -92,10 +96,10 @@ impl Subnet {
     }
 
     /// Who is in it.
-    pub fn roster(&self) -> &Roster
-        ensures { result.now ≡ self.now.roster }
+    pub fn inventory(&self) -> &Inventory
+        ensures { result.now ≡ self.now.inventory }
     {
-        &self.roster
+        &self.inventory
     }
 
     /// Its one fabric. Where the subnet is not broken it stands with the cables that are in place, with the masks of exactly
@@ -115,44 +119,44 @@ impl Subnet {
     }
 
     /// Who is in it, and its fabric, which then can be asked by SMPs; no command is taken any more.
-    pub fn into_parts(self) -> (Roster, Fabric)
-        ensures parts { (result.0 ≡ self.roster) × (result.1 ≡ self.fabric) }
+    pub fn into_parts(self) -> (Inventory, Fabric)
+        ensures parts { (result.0 ≡ self.inventory) × (result.1 ≡ self.fabric) }
         ensures up { StaysUp self }
     {
         let Subnet {
             alloc: _,
-            roster,
+            inventory,
             routes: _,
             fabric,
             administrator: _,
             is_broken: _,
         } = self;
-        (roster, fabric)
+        (inventory, fabric)
     }
 
-    /// Who is in it, as [`Roster::listing`] prints it.
+    /// Who is in it, as [`Inventory::listing`] prints it.
     pub fn listing(&self) -> Result<Vec<u8>, AllocError>
-        ensures { IfOk result (λ text. text.items ≡ listing_text self.now.roster.configuration) }
+        ensures { IfOk result (λ text. text.items ≡ listing_text self.now.inventory.configuration) }
     {
-        self.roster.listing()
+        self.inventory.listing()
     }
 
     /// The GUIDs of the ports near the port of that GUID, by LID: its own, and those of the ports that share a partition
     /// with it. What the port receives depends on these alone.
     pub fn near(&self, port: u64) -> Result<Vec<u64>, AllocError>
-        ensures { IfOk result (λ guids. guids.items ≡ near self.now.roster.configuration.ports port) }
+        ensures { IfOk result (λ guids. guids.items ≡ near self.now.inventory.configuration.ports port) }
     {
-        near(self.alloc, self.roster.configuration().ports(), port)
+        near(self.alloc, self.inventory.configuration().ports(), port)
     }
 
     /// The command that a line gives; none for a line without words. The line may have its LF and
     /// its comment; `number` stands with a fault, and nothing changes.
     pub fn parse(&self, number: usize, line: &[u8]) -> Result<Option<Command>, RunFault>
-        ensures exact { RunGives (λ command. command) result (parsed self.now.roster.plan number line.now) }
-        ensures sender { IfOk result (λ command. IfSome command (NamesSender self.now.roster.configuration.ports)) }
+        ensures exact { RunGives (λ command. command) result (parsed self.now.inventory.plan number line.now) }
+        ensures sender { IfOk result (λ command. IfSome command (NamesSender self.now.inventory.configuration.ports)) }
     {
-        self.roster.known_listed();
-        match command_of(self.roster.topology(), line) {
+        self.inventory.known_listed();
+        match command_of(self.inventory.topology(), line) {
             Ok(command) => Ok(command),
             Err(cause) => Err(RunFault::Script {
                 line: number,
@@ -166,8 +170,8 @@ impl Subnet {
     /// sent to groups, the masks of the fabric's switches follow. A cable is cut, or mended, where the topology can be brought up
     /// with what is in place then, and the fabric is swept and set up anew; else all stays. That is no event.
     ///
-    /// Once memory was refused the subnet is broken for good: every later step answers `Broken` and changes nothing. Its
-    /// roster stays, so that lines can be parsed and members listed; what it remembers, its routes and its fabric may be
+    /// Once an allocation failed the subnet is broken for good: every later step answers `Broken` and changes nothing. Its
+    /// inventory stays, so that lines can be parsed and members listed; what it remembers, its routes and its fabric may be
     /// anything.
     ///
     /// A command of [`Subnet::parse`] names a listed port of a channel adapter; `comes` holds of any other too.
@@ -175,13 +179,13 @@ impl Subnet {
         // What comes of a command is said by what the ports and switches of the fabric hold.
         ensures comes { IfOk result (λ events. Comes self.old.fabric self.new.fabric command.now events.items) }
         // And it is what the list of ports gives.
-        ensures events { IfOk result (λ events. NamesSender self.old.roster.configuration.ports command.now → map event_of events.items
-            ≡ (step_by subnet_administration self.old.roster.configuration self.old.administration command.now).0) }
+        ensures events { IfOk result (λ events. NamesSender self.old.inventory.configuration.ports command.now → map event_of events.items
+            ≡ (step_by subnet_administration self.old.inventory.configuration self.old.administration command.now).0) }
         ensures next { OnOk result (IsNext self.old command.now self.new) }
         ensures up { OnOk result (StaysUp self.new) }
         ensures broken { IsErrOf result StepFault.Broken ↔ (self.old.is_broken ≡ true) }
         ensures for_good { OnErr result (self.new.is_broken ≡ true) }
-        ensures roster { OnErr result (self.new.roster ≡ self.old.roster) }
+        ensures inventory { OnErr result (self.new.inventory ≡ self.old.inventory) }
         ensures stays { IsErrOf result StepFault.Broken → self.new ≡ self.old }
     {
         if self.is_broken {
@@ -191,7 +195,7 @@ impl Subnet {
         self.is_broken = true;
         let events = carried_out(
             self.alloc,
-            &self.roster,
+            &self.inventory,
             &mut self.routes,
             &mut self.fabric,
             &mut self.administrator,
@@ -203,21 +207,21 @@ impl Subnet {
 
     /// What is reported of commands that are carried out one after another from the start.
     pub(crate) fn report(self, commands: &[Command]) -> Result<Report, StepFault>
-        requires fresh { self.administration ≡ at_start self.roster.configuration }
-        requires senders { All (NamesSender self.roster.configuration.ports) commands.now }
-        ensures { IfOk result (λ report. report ≡ told_of self.roster.configuration commands.now) }
+        requires fresh { self.administration ≡ at_start self.inventory.configuration }
+        requires senders { All (NamesSender self.inventory.configuration.ports) commands.now }
+        ensures { IfOk result (λ report. report ≡ reported_of self.inventory.configuration commands.now) }
     {
         let mut subnet = self;
         let mut events = Vec::new(subnet.alloc);
         subnet.carry_out(&mut events, commands)?;
         let alloc = subnet.alloc;
-        let (roster, _fabric) = subnet.into_parts();
-        Ok(Report::new(alloc, roster.into_configuration(), events))
+        let (inventory, _fabric) = subnet.into_parts();
+        Ok(Report::new(alloc, inventory.into_configuration(), events))
     }
 
-    /// Carries out commands one after another. What they tell is dropped.
+    /// Carries out commands one after another. What they report is dropped.
     pub(crate) fn run_through(&mut self, commands: &[Command]) -> Result<(), StepFault>
-        requires { All (NamesSender self.old.roster.configuration.ports) commands.now }
+        requires { All (NamesSender self.old.inventory.configuration.ports) commands.now }
         ensures { OnOk result (IsThrough commands.now self.old self.new) }
     {
         for command in commands {
@@ -228,10 +232,10 @@ impl Subnet {
 
     /// Carries out commands one after another, and adds their events to those before.
     fn carry_out(&mut self, events: &mut Vec<Event>, commands: &[Command]) -> Result<(), StepFault>
-        requires { All (NamesSender self.old.roster.configuration.ports) commands.now }
+        requires { All (NamesSender self.old.inventory.configuration.ports) commands.now }
         ensures events { OnOk result (map event_of events.new.items ≡ map event_of events.old.items
-            ++ events_from (step_by subnet_administration self.old.roster.configuration) self.old.administration commands.now) }
-        ensures roster { OnOk result (self.new.roster ≡ self.old.roster) }
+            ++ events_from (step_by subnet_administration self.old.inventory.configuration) self.old.administration commands.now) }
+        ensures inventory { OnOk result (self.new.inventory ≡ self.old.inventory) }
     {
         for command in commands {
             let mut more = self.step(command)?;

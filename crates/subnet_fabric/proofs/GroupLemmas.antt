@@ -10,8 +10,8 @@ use Rattle.fabric_parts.specs.declared.cable.PortRef.{PortRef}
 use Rattle.fabric_wire.proofs.EndPortLemmas.{known_distinct}
 use Rattle.fabric_wire.specs.OfTopology.{fabric_of}
 use Rattle.lid_assign.specs.Lids.{lid_in}
-use Rattle.packet_ways.specs.Forwards.{ForwardsByLid}
-use Rattle.packet_ways.specs.Groups.{ForwardsByMlid}
+use Rattle.delivery_laws.specs.Forwards.{ForwardsByLid}
+use Rattle.delivery_laws.specs.Groups.{ForwardsByMlid}
 use Rattle.partition_file.specs.Sound.{IsSound as ArePartitions}
 use Rattle.partition_file.specs.declared.partition.Partition.{Partition}
 use Rattle.port_model.specs.AdapterState.{AdapterState}

@@ -15,7 +15,7 @@ use Rattle.pkey_rules.specs.declared.key_table.TheConstants.{PARTITIONS}
 use Rattle.pkey_rules.specs.KeyTable.{same_base}
 use Rattle.pkey_rules.specs.PKey.{base_of, is_base}
 use Rattle.pkey_rules.specs.StoredKeys.{stored_keys}
-use Rattle.result_words.proofs.ListLemmas.{IsDistinct-nil}
+use Rattle.step_results.proofs.ListLemmas.{IsDistinct-nil}
 use Rattle.table_push.specs.Keys.{key_table}
 
 -- a key is of none of the partitions of other bases

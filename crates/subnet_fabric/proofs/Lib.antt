@@ -21,5 +21,6 @@ pub mod RecabledGroupLemmas
 pub mod RecabledSoundLemmas
 pub mod StandingReachLemmas
 pub mod StandingLookLemmas
+pub mod PlanningLemmas
 pub mod StandingLemmas
 pub mod StandingListedLemmas

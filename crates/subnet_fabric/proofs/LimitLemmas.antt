@@ -19,8 +19,8 @@ use Rattle.fabric_parts.specs.declared.node_type.NodeType.TheVariants.{ChannelAd
 use Rattle.fabric_wire.proofs.OfTopologyGoodLemmas.{good}
 use Rattle.fabric_wire.proofs.OfTopologyLemmas.{port_there, switch_there}
 use Rattle.fabric_wire.specs.OfTopology.{fabric_of}
-use Rattle.result_words.proofs.RisingLemmas.{counted}
-use Rattle.result_words.proofs.ListLemmas.{all_there}
+use Rattle.step_results.proofs.RisingLemmas.{counted}
+use Rattle.step_results.proofs.ListLemmas.{all_there}
 use Rattle.smp_wire.proofs.CableLemmas.{cabled_is_port, itself, same_port}
 use Rattle.smp_wire.specs.FabricState.{is_switch_at as is_switch_in}
 use Rattle.sweep.proofs.CabledLemmas.{far_of}

@@ -1,5 +1,5 @@
 -- A topology's fabric that is brought up with the keys of its end ports is the fabric of their list.
-use Rattle.std.proofs.Common.{ℕ, zero, suc, ◌+◌, ◌-◌, ◌≡◌, ◌<◌, ◌≤◌, ◌==◌, ◌&&◌, ◌∙◌, ap, refl, subst, sym, Bool, true, false, if◌then◌else◌, nat_le, List, [], ◌∷◌, length, slice_get, Option, Some, None, option_map, arith}
+use Rattle.std.proofs.Common.{ℕ, zero, suc, ◌+◌, ◌-◌, ◌≡◌, ◌≤◌, ◌==◌, ◌&&◌, ◌∙◌, ap, refl, subst, sym, Bool, true, false, if◌then◌else◌, nat_le, List, [], ◌∷◌, length, slice_get, Option, Some, None, option_map, arith}
 use Rattle.std.specs.List.{AllByRecursion, enumerate_from}
 use Rattle.std.specs.Option.{option_and_then}
 use Rattle.std.proofs.lemmas.Bool.{and_parts, false≢true}
@@ -17,19 +17,20 @@ use Rattle.fabric_wire.proofs.OfTopologyGoodLemmas.{good}
 use Rattle.fabric_wire.specs.OfTopology.{fabric_of}
 use Rattle.lid_assign.proofs.LawLemmas.{lids_and_guids_name_each_other}
 use Rattle.lid_assign.specs.Lids.{guid_in, lid_in}
-use Rattle.packet_ways.specs.Deliveries.{adapter_at}
-use Rattle.packet_ways.specs.Forwards.{ForwardsByLid, IsCabledPort}
+use Rattle.delivery_laws.specs.Deliveries.{adapter_at}
+use Rattle.delivery_laws.specs.Forwards.{ForwardsByLid, IsCabledPort}
 use Rattle.partition_file.specs.Sound.{IsSound as ArePartitions}
 use Rattle.partition_file.specs.declared.partition.Partition.{Partition}
 use Rattle.pkey_rules.specs.StoredKeys.{stored_keys}
 use Rattle.port_model.specs.AdapterState.{AdapterState}
+use Rattle.table_push.proofs.PortLemmas.{element}
 use Rattle.table_push.proofs.BroughtUpLemmas.{brings_up}
 use Rattle.table_push.proofs.EndLemmas.{end_ports_stay}
 use Rattle.table_push.proofs.ForwardsLemmas.{brought_up_forwards_by_lid}
-use Rattle.table_push.proofs.SeatLemmas.{is_no_switch}
+use Rattle.table_push.proofs.AttachmentLemmas.{is_no_switch}
 use Rattle.table_push.specs.BroughtUp.{IsBroughtUp, RoutesLeadHome}
 use Rattle.table_push.specs.Pushed.{ArePushed, all_pushed}
-use Rattle.result_words.proofs.ListLemmas.{all_have}
+use Rattle.step_results.proofs.ListLemmas.{all_have}
 use Rattle.smp_wire.specs.FabricState.{FabricState, adapter_port}
 use Rattle.smp_wire.specs.declared.node.Node.{Node}
 use Rattle.smp_wire.specs.declared.node.Node.TheVariants.{Switch, Adapter}
@@ -70,11 +71,6 @@ counted_at first (x ∷ xs) (suc k) =
 all_of : {X : Type 0} (P : X → Type 0) (xs : List X) → ((k : ℕ) (x : X) → slice_get xs k ≡ Some x → P x) → AllByRecursion P xs
 all_of P [] each = tt
 all_of P (x ∷ xs) each = (each 0 x refl, all_of P xs (λ k y there. each (suc k) y there))
-
-some_at : {X : Type 0} (xs : List X) (k : ℕ) → k < length xs → (x : X) × (slice_get xs k ≡ Some x)
-some_at [] k within = absurd (omega (arith, within))
-some_at (x ∷ xs) zero within = (x, refl)
-some_at (x ∷ xs) (suc k) within = some_at xs k (omega (arith, within))
 
 low_lid : (lid : ℕ) → lid ≤ 0xbfff → is_multicast lid ≡ false
 low_lid lid low = grind (arith, nat_tests)
@@ -213,7 +209,7 @@ module _ (plan : TopologyState) (partitions : List Partition) (sound : IsSound p
       let named = (lids_and_guids_name_each_other routes.lids one.port_guid one.info.lid home.own_lids).0 (up.lids at one cabled) in
       let k = one.info.lid - 1 in
       let guid_there = by (one.info.lid == 0) named in
-      let port = some_at ports k (omega (arith, as_many, slice_get_within routes.lids k one.port_guid guid_there)) in
+      let port = element ports k (omega (arith, as_many, slice_get_within routes.lids k one.port_guid guid_there)) in
       let end = is_end k port.0 port.1 in
       let guid : port.0.guid ≡ one.port_guid = same_Some port.0.guid one.port_guid (sym (placed k port.0 port.1).guid ∙ guid_there) in
       let here = planned_by (is_end_port plan at) refl in

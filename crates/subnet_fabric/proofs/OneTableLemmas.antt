@@ -3,9 +3,9 @@ use Rattle.std.proofs.Common.{ℕ, zero, suc, ◌≡◌, ◌∙◌, ap, refl, sy
 use Rattle.std.specs.Option.{option_and_then, option_map_or}
 use Rattle.fabric_wire.proofs.OfTopologyGoodLemmas.{good}
 use Rattle.fabric_wire.specs.OfTopology.{fabric_of}
-use Rattle.routes_alike.proofs.ChoiceLemmas.{next_hops_are_the_fabrics}
-use Rattle.routes_alike.proofs.OfFabricLemmas.{has_switch, not_without}
-use Rattle.routes_alike.specs.NextHops.{AreChosenFrom, hop_by}
+use Rattle.route_order_laws.proofs.ChoiceLemmas.{next_hops_are_the_fabrics}
+use Rattle.route_order_laws.proofs.OfFabricLemmas.{has_switch, not_without}
+use Rattle.route_order_laws.specs.NextHops.{AreChosenFrom, hop_by}
 use Rattle.smp_wire.specs.FabricState.{FabricState}
 use Rattle.smp_wire.specs.declared.node.Node.{Node}
 use Rattle.smp_wire.specs.declared.node.Node.TheVariants.{Switch, Adapter}
@@ -25,12 +25,12 @@ use Rattle.updn_routes.specs.Routes.{next_hop}
 use Rattle.updn_routes.specs.Subnet.{RoutesState, place_of}
 
 -- ---- what a push leaves in one node
-told_at : {X : Type 0} (f g : Node → Option X) (a b c d : Node → Node) (nodes : List Node) (k : ℕ)
+reported_at : {X : Type 0} (f g : Node → Option X) (a b c d : Node → Node) (nodes : List Node) (k : ℕ)
     → ((node : Node) → f (a (b (c (d node)))) ≡ g node)
     → option_and_then f (slice_get (map a (map b (map c (map d nodes)))) k) ≡ option_and_then g (slice_get nodes k)
-told_at f g a b c d [] k same = refl
-told_at f g a b c d (node ∷ nodes) zero same = same node
-told_at f g a b c d (node ∷ nodes) (suc k) same = told_at f g a b c d nodes k same
+reported_at f g a b c d [] k same = refl
+reported_at f g a b c d (node ∷ nodes) zero same = same node
+reported_at f g a b c d (node ∷ nodes) (suc k) same = reported_at f g a b c d nodes k same
 
 abbrev table_of : RoutesState → Node → Option (List ℕ)
 table_of routes (Switch held) = Some (option_map_or (linear_table routes) (place_of routes.graph.switches held.node_guid) held.linear)
@@ -39,7 +39,7 @@ table_of routes (Adapter ports) = None
 pushed_at : (routes : RoutesState) (keys : List (List ℕ)) (fabric : FabricState) (k : ℕ)
     → linear_at (all_pushed routes keys fabric) k ≡ option_and_then (table_of routes) (slice_get fabric.nodes k)
 pushed_at routes keys fabric k =
-    told_at linear_of (table_of routes) (switch_by (with_linear routes))
+    reported_at linear_of (table_of routes) (switch_by (with_linear routes))
     (keys_by (λ guid number held. unwrap_or (keys_wanted routes keys guid number) held)) (switch_by (λ guid. set_top (length routes.lids)))
     (infos_by (λ guid number. changed (change_wanted routes guid number))) fabric.nodes k one
   where

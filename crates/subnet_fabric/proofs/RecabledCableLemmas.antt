@@ -1,27 +1,21 @@
 -- Where cables lead before and after one between two ports is cut or mended.
 use Rattle.std.proofs.Common.{◌≡◌, inl, inr, ◌&&◌, not, ◌∙◌, ap, refl, sym, subst, Bool, true, false, if◌then◌else◌, List, [], ◌∷◌, ◌++◌, filter, flat_map, Option, Some, None}
 use Rattle.std.specs.List.{IsDistinct, list_any}
-use Rattle.std.proofs.lemmas.Bool.{and_parts, false≢true, or_cases, or_parts}
+use Rattle.std.proofs.lemmas.Bool.{and_parts, or_cases, or_parts}
 use Rattle.std.proofs.lemmas.Grind.{flat_map-append}
 use Rattle.std.proofs.lemmas.List.{append_assoc}
 use Rattle.fabric_parts.specs.Cable.{far_end, is_same_port}
 use Rattle.fabric_parts.specs.declared.cable.Cable.{Cable}
 use Rattle.fabric_parts.specs.declared.cable.PortRef.{PortRef}
-use Rattle.fabric_wire.proofs.CutLemmas.{Free, apart, between_one, free_first, put_behind, taken_out}
+use Rattle.fabric_wire.proofs.CutLemmas.{Free, apart, between_one, free_first, none_far, put_behind, taken_out}
+use Rattle.fabric_wire.proofs.RecablingLinkLemmas.{split}
 use Rattle.fabric_wire.specs.Cabling.{CablingState, IsOnce, is_between, is_not_between}
 use Rattle.fabric_wire.specs.Recabling.{cabling_with}
-use Rattle.result_words.proofs.DistinctLemmas.{left_part, right_part}
+use Rattle.step_results.proofs.DistinctLemmas.{left_part, right_part}
 use Rattle.smp_wire.proofs.CableLemmas.{far_end_before, itself, ports_turn, same_port}
 use Rattle.smp_wire.specs.Good.{ends_of}
 
 -- ---- far ends
-none_far : (cables : List Cable) (at : PortRef) → Free at cables → far_end cables at ≡ None
-none_far [] at free = refl
-none_far (cable ∷ cables) at free =
-    let one = or_parts (is_same_port at cable.first) _ free in
-    let two = or_parts (is_same_port at cable.second) _ one.1 in
-    sym (far_end_before cable cables at) ∙ rw (ports_turn cable.first at ∙ one.0, ports_turn cable.second at ∙ two.0) (none_far cables at two.1)
-
 -- cables that do not end at a port say nothing of it
 far_past : (before rest : List Cable) (at : PortRef) → Free at before → far_end (before ++ rest) at ≡ far_end rest at
 far_past [] rest at free = refl
@@ -81,22 +75,6 @@ named a b cable up old new between moves = elim (or_cases (is_same_port cable.fi
         subst (λ (at : PortRef). Moves one at up old new) is_two (subst (λ (at : PortRef). Moves at second up old new) is_one moved)
 
 -- ---- one that is there
-record Split (test : Cable → Bool) (cables : List Cable) : Type 0 where
-  before : List Cable
-  cable : Cable
-  behind : List Cable
-  is : cables ≡ before ++ cable ∷ behind
-  passes : test cable ≡ true
-
-split : (test : Cable → Bool) (cables : List Cable) → list_any test cables ≡ true → Split test cables
-split test [] some = absurd (false≢true some)
-split test (cable ∷ cables) some = elim (or_cases (test cable) _ some) [
-  | inl here ↦ record { before = []; cable = cable; behind = cables; is = refl; passes = here }
-  | inr later ↦
-      let rest = split test cables later in
-      record { before = cable ∷ rest.before; cable = rest.cable; behind = rest.behind; is = ap (λ (some : List Cable). cable ∷ some) rest.is; passes = rest.passes }
-]
-
 abbrev Own : List Cable → Type 0
 Own cables = IsDistinct is_same_port (flat_map ends_of cables)
 

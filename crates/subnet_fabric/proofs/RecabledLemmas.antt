@@ -17,7 +17,7 @@ use Rattle.fabric_wire.specs.Cabling.{CablingState}
 use Rattle.fabric_wire.specs.OfTopology.{fabric_of, link_of, links_of, named, node_of, node_of_type}
 use Rattle.fabric_wire.specs.Recabling.{cabling_with, can_change, changed, node_linked}
 use Rattle.port_model.specs.AdapterState.{AdapterState, at_power_up as adapter_at_power_up}
-use Rattle.routes_alike.proofs.OfFabricLemmas.{has_switch}
+use Rattle.route_order_laws.proofs.OfFabricLemmas.{has_switch}
 use Rattle.smp_wire.proofs.CableLemmas.{same_port}
 use Rattle.smp_wire.specs.FabricState.{FabricState, is_port, is_switch, is_switch_at}
 use Rattle.smp_wire.specs.Good.{IsGood, node_guid}
@@ -47,7 +47,7 @@ use Rattle.table_push.specs.Forget.{info_left, left_alone, switch_left, table_le
 use Rattle.table_push.specs.Keys.{keys_wanted}
 use Rattle.table_push.specs.Linear.{linear_table}
 use Rattle.table_push.specs.Nodes.{infos_by, keys_by, numbered, switch_by}
-use Rattle.table_push.specs.Ports.{change_wanted, changed as told_info, stays, with_top}
+use Rattle.table_push.specs.Ports.{change_wanted, changed as reported_info, stays, with_top}
 use Rattle.table_push.specs.Pushed.{all_pushed}
 use Rattle.topo_file.specs.Node.{port_guid}
 use Rattle.topo_file.specs.Topology.{TopologyState}
@@ -199,11 +199,11 @@ module _ (plan : TopologyState) (cabling : CablingState) (keys : List (List ℕ)
         switch_at_power_up node.guid (named node.name) (links_of cables place node.ports) LINEAR_TABLE MULTICAST_TABLE
 
     -- what is pushed to it
-    abbrev told_switch : SwitchState → SwitchState
-    told_switch held = record held {
+    abbrev reported_switch : SwitchState → SwitchState
+    reported_switch held = record held {
       info = with_top (length routes.lids) held.info;
       ports = numbered (λ number port. record port { keys = unwrap_or (keys_wanted routes keys held.node_guid number) port.keys }) 0
-          (numbered (λ number port. record port { info = told_info (change_wanted routes held.node_guid number) port.info }) 0 held.ports);
+          (numbered (λ number port. record port { info = reported_info (change_wanted routes held.node_guid number) port.info }) 0 held.ports);
       linear = option_map_or (linear_table routes) (place_of routes.graph.switches held.node_guid) held.linear;
     }
 
@@ -218,9 +218,9 @@ module _ (plan : TopologyState) (cabling : CablingState) (keys : List (List ℕ)
         let linear = linear_left (linear_table routes) (place_of routes.graph.switches node.guid) (place_of next.graph.switches node.guid)
         (switch_of after.cables place node).linear
         (λ k is none. switch_too a b up was good can keys routes next whole whole_too of of_next assigned assigned_too node.guid k is none) in
-        let told : SwitchState = told_switch (switch_of cabling.cables place node) in
-        ap left_node (ap (linked_at up a place) (switch_linked up b place told)
-        ∙ switch_linked up a place (record told { ports = ports_at up b place told.ports }))
+        let reported : SwitchState = reported_switch (switch_of cabling.cables place node) in
+        ap left_node (ap (linked_at up a place) (switch_linked up b place reported)
+        ∙ switch_linked up a place (record reported { ports = ports_at up b place reported.ports }))
         ∙ (λ i. Switch (record (switch_of after.cables place node) {
           info = with_top 0 (switch_of after.cables place node).info;
           ports = ports i;

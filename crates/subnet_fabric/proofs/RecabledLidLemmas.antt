@@ -7,9 +7,9 @@ use Rattle.std.proofs.lemmas.List.Folds.{list_any-append}
 use Rattle.std.proofs.lemmas.Option.{none-some, same_Some, slice_get-map}
 use Rattle.lid_assign.specs.Lids.{AreLids, adapter_end, end_ports, lid_in, switch_end}
 use Rattle.pkey_rules.specs.declared.end_port.EndPort.{EndPort}
-use Rattle.result_words.proofs.ListLemmas.{all_have, any_map}
-use Rattle.result_words.proofs.PlaceLemmas.{not_there}
-use Rattle.result_words.proofs.RisingLemmas.{rises, same_rising}
+use Rattle.step_results.proofs.ListLemmas.{all_have, any_map}
+use Rattle.step_results.proofs.PlaceLemmas.{not_there}
+use Rattle.step_results.proofs.RisingLemmas.{rises, same_rising}
 use Rattle.subnet_fabric.specs.SetUp.{AreAssigned}
 use Rattle.subnet_model.specs.EndPorts.{lid_of}
 use Rattle.sweep.proofs.EndPortLemmas.{stands, there_is}
@@ -19,7 +19,7 @@ use Rattle.sweep.specs.EndPorts.{FabricPort, end_of_adapter, end_of_switch, end_
 use Rattle.sweep.specs.Graph.{GraphState, IsGraph}
 use Rattle.sweep.specs.declared.graph.GraphPort.{GraphPort}
 use Rattle.sweep.specs.declared.graph.GraphSwitch.{GraphSwitch}
-use Rattle.table_push.proofs.HangLemmas.{found_is}
+use Rattle.table_push.proofs.AttachedLemmas.{found_is}
 use Rattle.table_push.proofs.WantedLemmas.{port_is}
 use Rattle.table_push.specs.Keys.{port_of}
 

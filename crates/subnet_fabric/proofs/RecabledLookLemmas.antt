@@ -10,7 +10,7 @@ use Rattle.fabric_parts.specs.Cable.{far_end, port}
 use Rattle.fabric_parts.specs.declared.cable.Cable.{Cable}
 use Rattle.fabric_parts.specs.declared.cable.PortRef.{PortRef}
 use Rattle.port_model.specs.AdapterState.{AdapterState}
-use Rattle.result_words.proofs.ElementLemmas.{all_same, get_same, or_same}
+use Rattle.step_results.proofs.ElementLemmas.{all_same, get_same, or_same}
 use Rattle.smp_wire.specs.FabricState.{FabricState, all_cables, is_port, is_switch, is_switch_at, port_count}
 use Rattle.smp_wire.specs.Good.{IsGood, IsGoodNode, end_port_guids, has_a_right_count, is_in_order, is_of, is_right, most_ports_of, node_guid}
 use Rattle.smp_wire.specs.Shape.{IsSameShape}

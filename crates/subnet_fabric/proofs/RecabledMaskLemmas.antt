@@ -14,7 +14,7 @@ use Rattle.fabric_wire.proofs.OfTopologyLemmas.{node_at}
 use Rattle.fabric_wire.specs.Cabling.{is_between}
 use Rattle.fabric_wire.specs.OfTopology.{fabric_of, node_of, node_of_type}
 use Rattle.fabric_wire.specs.Recabling.{can_change, candidates, changed, node_linked, nodes_linked}
-use Rattle.result_words.proofs.ListLemmas.{all_alike}
+use Rattle.step_results.proofs.ListLemmas.{all_alike}
 use Rattle.smp_wire.specs.FabricState.{FabricState}
 use Rattle.smp_wire.specs.Good.{IsGood, IsGoodNode}
 use Rattle.smp_wire.specs.declared.node.Node.{Node}

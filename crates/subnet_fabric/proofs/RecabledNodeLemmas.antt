@@ -3,14 +3,14 @@ use Rattle.std.proofs.Common.{ℕ, ◌≡◌, ◌≢◌, ◌-◌, ◌==◌, ◌&
 use Rattle.std.specs.Option.{option_and_then, option_map_or}
 use Rattle.std.proofs.Math.ListN.{length-set}
 use Rattle.std.proofs.lemmas.Bool.{eq-eqb, eqb-true, false≢true}
-use Rattle.fabric_parts.specs.Cable.{far_end, is_cabled, is_same_port}
+use Rattle.fabric_parts.specs.Cable.{far_end, is_cabled}
 use Rattle.fabric_parts.specs.declared.cable.Cable.{Cable}
 use Rattle.fabric_parts.specs.declared.cable.PortRef.{PortRef}
 use Rattle.fabric_parts.specs.declared.node_type.NodeType.TheVariants as node_type
-use Rattle.fabric_wire.proofs.RecablingLemmas.{asked, nodes_alike, port_same, switch_same}
+use Rattle.fabric_wire.proofs.RecablingLemmas.{asked, nodes_alike, not_there, port_same, switch_same}
 use Rattle.fabric_wire.specs.Recabling.{cabling_of, can_change, changed, node_linked, nodes_linked}
-use Rattle.packet_ways.specs.Deliveries.{adapter_at, adapter_ports}
-use Rattle.result_words.proofs.ElementLemmas.{get_other, get_written, or_same}
+use Rattle.delivery_laws.specs.Deliveries.{adapter_at, adapter_ports}
+use Rattle.step_results.proofs.ElementLemmas.{get_other, get_written, or_same}
 use Rattle.smp_wire.specs.FabricState.{FabricState, adapter_port, is_port, is_switch_at}
 use Rattle.smp_wire.specs.Good.{IsGood, node_guid}
 use Rattle.smp_wire.specs.declared.node.Node.{Node}
@@ -66,11 +66,11 @@ nodes_after up a b nodes place =
     by (Some node) = refl
 
 -- ---- what is read of a node whose links change
--- where it does not tell one link of another
-told_after : {X : Type 0} (read : Node → Option X) → ((number : ℕ) (up : Bool) (node : Node) → read (node_linked number up node) ≡ read node)
+-- where it does not report one link of another
+reported_after : {X : Type 0} (read : Node → Option X) → ((number : ℕ) (up : Bool) (node : Node) → read (node_linked number up node) ≡ read node)
     → (up : Bool) (a b : PortRef) (nodes : List Node) (place : ℕ)
     → option_and_then read (slice_get (nodes_linked up a (nodes_linked up b nodes)) place) ≡ option_and_then read (slice_get nodes place)
-told_after read same up a b nodes place =
+reported_after read same up a b nodes place =
     ap (option_and_then read) (nodes_after up a b nodes place) ∙ by (slice_get nodes place)
   where
     one : (at : PortRef) (node : Node) → read (linked_at up at place node) ≡ read node
@@ -121,13 +121,6 @@ adapter_after at number up (Adapter ports) = refl
 
 -- ---- the fabric
 -- a port of another kind of node is another
-pub no_such : (nodes : List Node) (one at : PortRef) → is_switch_at nodes one.node ≡ true → is_switch_at nodes at.node ≡ false → is_same_port one at ≡ false
-no_such nodes one at switch adapter = by (one.node == at.node) refl
-  where
-    by : (b : Bool) → (one.node == at.node) ≡ b → (b && (one.port == at.port)) ≡ false
-    by true same = absurd (false≢true (sym adapter ∙ ap (is_switch_at nodes) (sym (eqb-true one.node at.node same)) ∙ switch))
-    by false same = refl
-
 -- where cables lead to the same, there is a cable or there is none
 pub cabled_same : (old new : List Cable) (at : PortRef) → far_end new at ≡ far_end old at → is_cabled new at ≡ is_cabled old at
 cabled_same old new at same = by (is_cabled old at) refl (is_cabled new at) refl
@@ -156,16 +149,16 @@ module _ (a b : PortRef) (up : Bool) (fabric : FabricState) (good : IsGood fabri
   guid_stays place = or_same node_guid 0 fabric.nodes next.nodes place (nodes_alike up a b fabric.nodes).guids
 
   pub seen_stays : (at : PortRef) → seen_at next at ≡ seen_at fabric at
-  seen_stays at = told_after (λ node. seen_in node at.port) (seen_after at.port) up a b fabric.nodes at.node
+  seen_stays at = reported_after (λ node. seen_in node at.port) (seen_after at.port) up a b fabric.nodes at.node
 
   pub adapter_stays : (at : PortRef) → adapter_at next.nodes at ≡ adapter_at fabric.nodes at
-  adapter_stays at = told_after (λ node. adapter_port (adapter_ports node) at.port) (adapter_after at.port) up a b fabric.nodes at.node
+  adapter_stays at = reported_after (λ node. adapter_port (adapter_ports node) at.port) (adapter_after at.port) up a b fabric.nodes at.node
 
   -- a port of an adapter keeps its cable
   pub cable_stays : (at : PortRef) → is_switch_at fabric.nodes at.node ≡ false → far_end next.cables at ≡ far_end fabric.cables at
   cable_stays at adapter =
       let asks = asked a b up fabric can in
-      moves.elsewhere at (no_such fabric.nodes a at asks.first adapter) (no_such fabric.nodes b at asks.second adapter)
+      moves.elsewhere at (not_there fabric.nodes a at asks.first adapter) (not_there fabric.nodes b at asks.second adapter)
 
   pub end_stays : (at : PortRef) → end_port_in next at ≡ end_port_in fabric at
   end_stays at =
@@ -179,7 +172,7 @@ module _ (a b : PortRef) (up : Bool) (fabric : FabricState) (good : IsGood fabri
       held_was = option_and_then (λ node. held_in node at.port) (slice_get fabric.nodes at.node)
 
       held : held_next ≡ held_was
-      held = told_after (λ node. held_in node at.port) (held_after at.port) up a b fabric.nodes at.node
+      held = reported_after (λ node. held_in node at.port) (held_after at.port) up a b fabric.nodes at.node
 
       by : (b : Bool) → is_switch_at fabric.nodes at.node ≡ b
           → (if (if b then at.port == 0 else is_port next.nodes at && is_cabled next.cables at) then held_next else None)

@@ -13,7 +13,7 @@ use Rattle.fabric_parts.specs.declared.cable.Cable.{Cable}
 use Rattle.fabric_parts.specs.declared.cable.PortRef.{PortRef}
 use Rattle.fabric_wire.specs.OfTopology.{link_of, links_of}
 use Rattle.port_model.specs.AdapterState.{AdapterState}
-use Rattle.result_words.proofs.ElementLemmas.{get_other, get_written}
+use Rattle.step_results.proofs.ElementLemmas.{get_other, get_written}
 use Rattle.subnet_fabric.proofs.RecabledWantedLemmas.{between}
 use Rattle.switch_model.proofs.PortLemmas.{ports_have_links}
 use Rattle.switch_model.specs.Links.{link_of as link_when, port_linked, ports_linked}
@@ -182,17 +182,17 @@ module _ (a b : PortRef) (up : Bool) (place count : ℕ) (old new : List Cable) 
   abbrev pub left_keys : ℕ → SwitchPort → SwitchPort
   left_keys number port = record port { keys = table_left (more number) port.keys }
 
-  abbrev pub told_info : ℕ → SwitchPort → SwitchPort
-  told_info number port = record port { info = changed (one number) port.info }
+  abbrev pub reported_info : ℕ → SwitchPort → SwitchPort
+  reported_info number port = record port { info = changed (one number) port.info }
 
-  abbrev pub told_keys : ℕ → SwitchPort → SwitchPort
-  told_keys number port = record port { keys = unwrap_or (keys number) port.keys }
+  abbrev pub reported_keys : ℕ → SwitchPort → SwitchPort
+  reported_keys number port = record port { keys = unwrap_or (keys number) port.keys }
 
   abbrev power_up : List Cable → List SwitchPort
   power_up cables = ports_from 0 (Internal ∷ links_of cables place count)
 
-  abbrev told : List SwitchPort
-  told = numbered told_keys 0 (numbered told_info 0 (power_up old))
+  abbrev reported : List SwitchPort
+  reported = numbered reported_keys 0 (numbered reported_info 0 (power_up old))
 
   new_at : (cables : List Cable) (number : ℕ) → slice_get (power_up cables) number
       ≡ option_map (port_at_power_up number) (option_map (link_at cables place) (slice_get (numbers count) number))
@@ -205,22 +205,22 @@ module _ (a b : PortRef) (up : Bool) (place count : ℕ) (old new : List Cable) 
       twice_at left_keys left_info 0 ports number
       ∙ ap (λ (n : ℕ). option_map (λ port. left_keys n (left_info n port)) (slice_get ports number)) (zero-add number)
 
-  told_at : (number : ℕ) → slice_get told number ≡ option_map (pushed_port (one number) (keys number)) (slice_get (power_up old) number)
-  told_at number =
-      twice_at told_keys told_info 0 (power_up old) number
-      ∙ ap (λ (n : ℕ). option_map (λ port. told_keys n (told_info n port)) (slice_get (power_up old) number)) (zero-add number)
+  reported_at : (number : ℕ) → slice_get reported number ≡ option_map (pushed_port (one number) (keys number)) (slice_get (power_up old) number)
+  reported_at number =
+      twice_at reported_keys reported_info 0 (power_up old) number
+      ∙ ap (λ (n : ℕ). option_map (λ port. reported_keys n (reported_info n port)) (slice_get (power_up old) number)) (zero-add number)
 
-  pub ports_same : numbered left_keys 0 (numbered left_info 0 (ports_at up a place (ports_at up b place told)))
+  pub ports_same : numbered left_keys 0 (numbered left_info 0 (ports_at up a place (ports_at up b place reported)))
       ≡ numbered left_keys 0 (numbered left_info 0 (power_up new))
   ports_same =
       by_places _ _ (λ number.
-      left_at (ports_at up a place (ports_at up b place told)) number
+      left_at (ports_at up a place (ports_at up b place reported)) number
       ∙ ap (option_map (left_port (other number) (more number)))
-      (port_at up a place (ports_at up b place told) number
+      (port_at up a place (ports_at up b place reported) number
       ∙ ap (option_map (linked_if (is_same_port a (port place number)) up))
-      (port_at up b place told number
+      (port_at up b place reported number
       ∙ ap (option_map (linked_if (is_same_port b (port place number)) up))
-      (told_at number ∙ ap (option_map (pushed_port (one number) (keys number))) (new_at old number))))
+      (reported_at number ∙ ap (option_map (pushed_port (one number) (keys number))) (new_at old number))))
       ∙ by number (slice_get (numbers count) number) (number_is count number)
       ∙ sym (left_at (power_up new) number ∙ ap (option_map (left_port (other number) (more number))) (new_at new number)))
     where

@@ -19,8 +19,8 @@ use Rattle.fabric_wire.specs.OfTopology.{adapter_port_of, fabric_of, link_of, li
 use Rattle.port_model.proofs.AgentLemmas.{new_ports_good}
 use Rattle.port_model.specs.AdapterState.{AdapterState}
 use Rattle.port_model.specs.Good.{IsGoodPort as IsGoodEnd}
-use Rattle.result_words.proofs.DistinctLemmas.{left_part}
-use Rattle.result_words.proofs.ListLemmas.{all_have, all_there}
+use Rattle.step_results.proofs.DistinctLemmas.{left_part}
+use Rattle.step_results.proofs.ListLemmas.{all_have, all_there}
 use Rattle.smp_wire.specs.FabricState.{FabricState, port_count}
 use Rattle.smp_wire.specs.Good.{IsGood, IsGoodNode, ends_of, has_a_right_count, is_right, node_guid}
 use Rattle.smp_wire.specs.declared.node.Node.{Node}
@@ -107,14 +107,14 @@ module _ (routes : RoutesState) (keys : List (List ℕ)) where
   described : (ports : List AdapterState) (k : ℕ) (one : AdapterState) → IsGoodNode (with_all routes keys (Adapter ports)) → slice_get ports k ≡ Some one
       → IsAttribute one.description
   described ports k one all there =
-      (all_have IsGoodEnd (numbered told_keys 1 (numbered told_info 1 ports)) k (told_keys (1 + k) (told_info (1 + k) one)) all
-      (twice_at told_keys told_info 1 ports k ∙ ap (option_map (λ port. told_keys (1 + k) (told_info (1 + k) port))) there)).description
+      (all_have IsGoodEnd (numbered reported_keys 1 (numbered reported_info 1 ports)) k (reported_keys (1 + k) (reported_info (1 + k) one)) all
+      (twice_at reported_keys reported_info 1 ports k ∙ ap (option_map (λ port. reported_keys (1 + k) (reported_info (1 + k) port))) there)).description
     where
-      told_info : ℕ → AdapterState → AdapterState
-      told_info number port = record port { info = with_info routes keys (node_guid (Adapter ports)) number port.info }
+      reported_info : ℕ → AdapterState → AdapterState
+      reported_info number port = record port { info = with_info routes keys (node_guid (Adapter ports)) number port.info }
 
-      told_keys : ℕ → AdapterState → AdapterState
-      told_keys number port = record port { keys = with_table routes keys (node_guid (Adapter (numbered told_info 1 ports))) number port.keys }
+      reported_keys : ℕ → AdapterState → AdapterState
+      reported_keys number port = record port { keys = with_table routes keys (node_guid (Adapter (numbered reported_info 1 ports))) number port.keys }
 
   power_up_good : (of : NodeType) (cables : List Cable) (place : ℕ) (node : PlannedNode) → IsGoodNode (with_all routes keys (node_of_type of cables place node))
       → has_a_right_count (node_of_type of cables place node) ≡ true → IsGoodNode (node_of_type of cables place node)

@@ -1,4 +1,4 @@
--- What the graph of a fabric tells of a port of a switch: by where its cable leads alone.
+-- What the graph of a fabric reports of a port of a switch: by where its cable leads alone.
 use Rattle.std.proofs.Common.{ℕ, zero, suc, ◌≡◌, ◌-◌, ◌<◌, ◌==◌, ◌&&◌, ◌∙◌, nat_le, ap, refl, sym, subst, Bool, true, false, if◌then◌else◌, List, [], ◌∷◌, length, slice_get, Option, Some, None, option_map, arith}
 use Rattle.std.specs.List.{Contains, list_any}
 use Rattle.std.specs.Option.{option_and_then, option_map_or}
@@ -7,7 +7,7 @@ use Rattle.std.proofs.lemmas.Bool.Decides.{nat_tests}
 use Rattle.std.proofs.lemmas.Option.{get_or_from_slice_get, none-some, same_Some, slice_get-map}
 use Rattle.fabric_parts.specs.Cable.{far_end, is_same_port, port}
 use Rattle.fabric_parts.specs.declared.cable.PortRef.{PortRef}
-use Rattle.packet_ways.specs.Deliveries.{adapter_at, adapter_ports, guid_at as port_guid_at}
+use Rattle.delivery_laws.specs.Deliveries.{adapter_at, adapter_ports, guid_at as port_guid_at}
 use Rattle.port_model.specs.AdapterState.{AdapterState}
 use Rattle.smp_wire.proofs.CableLemmas.{cabled_is_port, far_is_port, same_port}
 use Rattle.smp_wire.proofs.PresentLemmas.{present_right}
@@ -26,12 +26,12 @@ use Rattle.sweep.specs.OfFabric.{Found, IsGraphOf, guid_at, link_to, node_at, no
 use Rattle.sweep.specs.declared.graph.GraphLink.{GraphLink}
 use Rattle.sweep.specs.declared.graph.GraphPort.{GraphPort}
 use Rattle.sweep.specs.declared.graph.GraphSwitch.{GraphSwitch}
-use Rattle.table_push.proofs.HangLemmas.{found_is, is_hung}
+use Rattle.table_push.proofs.AttachedLemmas.{found_is, is_hung}
 use Rattle.table_push.proofs.HomeLemmas.{own_switch}
-use Rattle.table_push.proofs.SeatLemmas.{seated}
+use Rattle.table_push.proofs.AttachmentLemmas.{attached}
 use Rattle.table_push.proofs.SiteLemmas.{linked}
-use Rattle.table_push.proofs.WantedLemmas.{hanging_is}
-use Rattle.table_push.specs.Keys.{hanging_at}
+use Rattle.table_push.proofs.WantedLemmas.{attached_is}
+use Rattle.table_push.specs.Keys.{attached_at}
 use Rattle.table_push.specs.Ports.{has_link}
 use Rattle.updn_routes.specs.Subnet.{place_of}
 
@@ -101,18 +101,18 @@ module _ (fabric : FabricState) (graph : GraphState) (good : IsGood fabric) (of 
       ∙ ap (option_map (switch_of fabric)) at.there in
       ap (place_of graph.switches) (sym (ap (guid_at fabric) at.node_is ∙ guid_is)) ∙ own_switch graph at.place one whole stands_there
 
-  -- ---- what hangs on a port of it
+  -- ---- what is attached to a port of it
   module _ (node number : ℕ) (at : IsFoundAt node) where
     abbrev here : PortRef
     here = port node number
 
-    record Hangs : Type 0 where
+    record Attached : Type 0 where
       there : PortRef
       cable : far_end fabric.cables here ≡ Some there
       adapter : is_switch_at fabric.nodes there.node ≡ false
 
-    hangs : (one : GraphPort) → hanging_at graph.ports at.place number ≡ Some one → Hangs
-    hangs one is =
+    attached_here : (one : GraphPort) → attached_at graph.ports at.place number ≡ Some one → Attached
+    attached_here one is =
         let found = found_is (λ other. is_same_port other.at (port at.place number)) graph.ports one is in
         let hung = is_hung fabric graph found.0 one of found.1 in
         let same : one.at ≡ port at.place number = same_port one.at (port at.place number) found.2 in
@@ -124,44 +124,44 @@ module _ (fabric : FabricState) (graph : GraphState) (good : IsGood fabric) (of 
           adapter = hung.adapter;
         }
 
-    nothing_hangs : ((one : GraphPort) → hanging_at graph.ports at.place number ≡ Some one → ⊥) → hanging_at graph.ports at.place number ≡ None
-    nothing_hangs none = by (hanging_at graph.ports at.place number) refl
+    nothing_attached : ((one : GraphPort) → attached_at graph.ports at.place number ≡ Some one → ⊥) → attached_at graph.ports at.place number ≡ None
+    nothing_attached none = by (attached_at graph.ports at.place number) refl
       where
-        by : (o : Option GraphPort) → hanging_at graph.ports at.place number ≡ o → o ≡ None
+        by : (o : Option GraphPort) → attached_at graph.ports at.place number ≡ o → o ≡ None
         by None is = refl
         by (Some one) is = absurd (none one is)
 
     hung_there : (there : PortRef) (one : AdapterState) → far_end fabric.cables here ≡ Some there → adapter_at fabric.nodes there ≡ Some one
-        → option_map (λ hung. hung.port_guid) (hanging_at graph.ports at.place number) ≡ Some one.port_guid
+        → option_map (λ hung. hung.port_guid) (attached_at graph.ports at.place number) ≡ Some one.port_guid
     hung_there there one cable stands_there =
-        let seat = seated fabric graph there one good of (record { there = stands_there; far = here; cable = good_once fabric here there good cable }) in
-        let place : seat.place ≡ at.place =
-        one_place (nodes_of of.layout.found) seat.place at.place node of.layout.once
-        (node_there of.layout.found seat.place seat.found seat.there ∙ ap (λ (n : ℕ). Some n) seat.node) at.among in
-        let is : hanging_at graph.ports at.place number ≡ Some seat.hung =
-        ap (λ (n : ℕ). hanging_at graph.ports n number) (sym place)
-        ∙ (λ i. hanging_at graph.ports (sym seat.at_is i).node (sym seat.at_is i).port) ∙ hanging_is fabric graph seat.index seat.hung of seat.has in
-        ap (option_map (λ (hung : GraphPort). hung.port_guid)) is ∙ ap (λ (guid : ℕ). Some guid) seat.guid_is
+        let attachment = attached fabric graph there one good of (record { there = stands_there; far = here; cable = good_once fabric here there good cable }) in
+        let place : attachment.place ≡ at.place =
+        one_place (nodes_of of.layout.found) attachment.place at.place node of.layout.once
+        (node_there of.layout.found attachment.place attachment.found attachment.there ∙ ap (λ (n : ℕ). Some n) attachment.node) at.among in
+        let is : attached_at graph.ports at.place number ≡ Some attachment.hung =
+        ap (λ (n : ℕ). attached_at graph.ports n number) (sym place)
+        ∙ (λ i. attached_at graph.ports (sym attachment.at_is i).node (sym attachment.at_is i).port) ∙ attached_is fabric graph attachment.index attachment.hung of attachment.has in
+        ap (option_map (λ (hung : GraphPort). hung.port_guid)) is ∙ ap (λ (guid : ℕ). Some guid) attachment.guid_is
 
-    pub hung_is : option_map (λ hung. hung.port_guid) (hanging_at graph.ports at.place number) ≡ hung_guid fabric here
+    pub hung_is : option_map (λ hung. hung.port_guid) (attached_at graph.ports at.place number) ≡ hung_guid fabric here
     hung_is = by (far_end fabric.cables here) refl
       where
         by_port : (there : PortRef) → far_end fabric.cables here ≡ Some there → (o : Option AdapterState) → adapter_at fabric.nodes there ≡ o
-            → option_map (λ (hung : GraphPort). hung.port_guid) (hanging_at graph.ports at.place number) ≡ option_map (λ (one : AdapterState). one.port_guid) o
+            → option_map (λ (hung : GraphPort). hung.port_guid) (attached_at graph.ports at.place number) ≡ option_map (λ (one : AdapterState). one.port_guid) o
         by_port there cable (Some one) stands_there = hung_there there one cable stands_there
         by_port there cable None none =
-            ap (option_map (λ (hung : GraphPort). hung.port_guid)) (nothing_hangs (λ one is.
-            let hung = hangs one is in
+            ap (option_map (λ (hung : GraphPort). hung.port_guid)) (nothing_attached (λ one is.
+            let hung = attached_here one is in
             let same : hung.there ≡ there = same_Some hung.there there (sym hung.cable ∙ cable) in
             adapter_stands fabric.nodes there (slice_get fabric.nodes there.node)
             (ap (λ (p : PortRef). is_switch_at fabric.nodes p.node) (sym same) ∙ hung.adapter)
             (far_is_port fabric.nodes fabric.cables here there (present_right good) cable) none))
 
         by : (o : Option PortRef) → far_end fabric.cables here ≡ o
-            → option_map (λ (hung : GraphPort). hung.port_guid) (hanging_at graph.ports at.place number) ≡ option_and_then (port_guid_at fabric.nodes) o
+            → option_map (λ (hung : GraphPort). hung.port_guid) (attached_at graph.ports at.place number) ≡ option_and_then (port_guid_at fabric.nodes) o
         by None none =
-            ap (option_map (λ (hung : GraphPort). hung.port_guid)) (nothing_hangs (λ one is.
-            let hung = hangs one is in none-some hung.there (sym none ∙ hung.cable)))
+            ap (option_map (λ (hung : GraphPort). hung.port_guid)) (nothing_attached (λ one is.
+            let hung = attached_here one is in none-some hung.there (sym none ∙ hung.cable)))
         by (Some there) cable = by_port there cable (adapter_at fabric.nodes there) refl
 
     -- ---- its link

@@ -8,13 +8,13 @@ use Rattle.fabric_parts.specs.declared.cable.PortRef.{PortRef}
 use Rattle.fabric_wire.proofs.RecablingLemmas.{stays_good}
 use Rattle.fabric_wire.specs.Recabling.{can_change, changed}
 use Rattle.lid_assign.specs.Lids.{lid_in}
-use Rattle.packet_ways.specs.Deliveries.{adapter_ports, guid_at as port_guid_at}
+use Rattle.delivery_laws.specs.Deliveries.{adapter_ports, guid_at as port_guid_at}
 use Rattle.port_model.specs.AdapterState.{AdapterState}
 use Rattle.smp_wire.specs.FabricState.{FabricState, adapter_port, is_switch, is_switch_at}
 use Rattle.smp_wire.specs.Good.{IsGood}
 use Rattle.smp_wire.specs.declared.node.Node.{Node}
 use Rattle.smp_wire.specs.declared.node.Node.TheVariants.{Switch, Adapter}
-use Rattle.routes_alike.proofs.OfFabricLemmas.{has_switch, not_without}
+use Rattle.route_order_laws.proofs.OfFabricLemmas.{has_switch, not_without}
 use Rattle.subnet_fabric.proofs.RecabledCableLemmas.{leads}
 use Rattle.subnet_fabric.proofs.RecabledLidLemmas.{HaveSameEnds, named, one_list, same_named}
 use Rattle.subnet_fabric.proofs.RecabledNodeLemmas.{adapter_stays, end_stays, guid_stays, kind_stays, moves, seen_stays}
@@ -25,7 +25,7 @@ use Rattle.sweep.specs.Graph.{IsGraph}
 use Rattle.sweep.specs.OfFabric.{IsGraphOf, guid_at}
 use Rattle.sweep.specs.declared.graph.GraphPort.{GraphPort}
 use Rattle.sweep.specs.declared.seen.Seen.{Seen}
-use Rattle.table_push.specs.Keys.{adapter_keys, hanging_at, key_table, keys_wanted, port_of, switch_keys}
+use Rattle.table_push.specs.Keys.{adapter_keys, attached_at, key_table, keys_wanted, port_of, switch_keys}
 use Rattle.table_push.specs.Ports.{adapter_change, change_wanted, has_link, stays, switch_change}
 use Rattle.table_push.specs.declared.ports.PortChange.{PortChange}
 use Rattle.updn_routes.specs.Subnet.{RoutesState, place_of}
@@ -60,25 +60,25 @@ whatever f g z (Some x) = refl
 
 -- at a port of a switch
 switch_wants : (routes : RoutesState) (guid place number : ℕ) (hung : Option ℕ) (link : Bool) → place_of routes.graph.switches guid ≡ Some place
-    → option_map (λ one. one.port_guid) (hanging_at routes.graph.ports place number) ≡ hung → has_link routes.graph place number ≡ link
+    → option_map (λ one. one.port_guid) (attached_at routes.graph.ports place number) ≡ hung → has_link routes.graph place number ≡ link
     → change_wanted routes guid number ≡ change_by routes.lids guid number hung link
 unfolding change_wanted
-switch_wants routes guid place number hung link is hangs linked =
+switch_wants routes guid place number hung link is attached linked =
     ap (λ (o : Option ℕ). option_map_or (λ place. switch_change routes guid place number) o (adapter_change routes guid number)) is
     ∙ ap (λ (one : PortChange). if number == 0 then end_change routes.lids guid else one)
     (whatever (λ (one : GraphPort). one.port_guid) (λ one. record stays { enforcement = Some true; active = true })
-    (if has_link routes.graph place number then between else stays) (hanging_at routes.graph.ports place number))
-    ∙ ap₂ (λ (o : Option ℕ) (b : Bool). change_by routes.lids guid number o b) hangs linked
+    (if has_link routes.graph place number then between else stays) (attached_at routes.graph.ports place number))
+    ∙ ap₂ (λ (o : Option ℕ) (b : Bool). change_by routes.lids guid number o b) attached linked
 
 switch_holds : (routes : RoutesState) (keys : List (List ℕ)) (guid place number : ℕ) (hung : Option ℕ) → place_of routes.graph.switches guid ≡ Some place
-    → option_map (λ one. one.port_guid) (hanging_at routes.graph.ports place number) ≡ hung
+    → option_map (λ one. one.port_guid) (attached_at routes.graph.ports place number) ≡ hung
     → keys_wanted routes keys guid number ≡ keys_by routes.lids keys guid number hung
 unfolding keys_wanted
-switch_holds routes keys guid place number hung is hangs =
+switch_holds routes keys guid place number hung is attached =
     ap (λ (o : Option ℕ). option_map_or (λ place. switch_keys routes keys guid place number) o (adapter_keys routes keys guid number)) is
     ∙ ap (λ (one : Option (List ℕ)). if number == 0 then option_map (key_table false) (keys_at routes.lids keys guid) else one)
-    (through (λ (one : GraphPort). one.port_guid) (λ port. option_map (key_table true) (keys_at routes.lids keys port)) (hanging_at routes.graph.ports place number))
-    ∙ ap (keys_by routes.lids keys guid number) hangs
+    (through (λ (one : GraphPort). one.port_guid) (λ port. option_map (key_table true) (keys_at routes.lids keys port)) (attached_at routes.graph.ports place number))
+    ∙ ap (keys_by routes.lids keys guid number) attached
 
 -- at one of an adapter
 adapter_wants : (routes : RoutesState) (guid number : ℕ) → place_of routes.graph.switches guid ≡ None
@@ -117,10 +117,10 @@ switch_has_none at (Some (Switch held)) switch = by (at.port == 0)
     by true = refl
     by false = refl
 
-none_hangs : (nodes : List Node) (there : PortRef) (on : Bool) → is_switch_at nodes there.node ≡ true
+none_attached : (nodes : List Node) (there : PortRef) (on : Bool) → is_switch_at nodes there.node ≡ true
     → option_and_then (port_guid_at nodes) (leads on there) ≡ None
-none_hangs nodes there true switch = switch_has_none there (slice_get nodes there.node) switch
-none_hangs nodes there false switch = refl
+none_attached nodes there true switch = switch_has_none there (slice_get nodes there.node) switch
+none_attached nodes there false switch = refl
 
 leads_so : (nodes : List Node) (there : PortRef) (on : Bool) → is_switch_at nodes there.node ≡ true
     → option_map_or (λ there. is_switch_at nodes there.node) (leads on there) false ≡ on
@@ -261,7 +261,7 @@ module _ (a b : PortRef) (up : Bool) (fabric : FabricState) (good : IsGood fabri
         → far_end fabric.cables here ≡ leads (not up) there → WasBetween
     was_between there some switch_there far =
         let hung : hung_guid fabric here ≡ None =
-        ap (option_and_then (port_guid_at fabric.nodes)) far ∙ none_hangs fabric.nodes there (not up) switch_there in
+        ap (option_and_then (port_guid_at fabric.nodes)) far ∙ none_attached fabric.nodes there (not up) switch_there in
         let link : leads_to_switch fabric here ≡ not up =
         ap (λ (o : Option PortRef). option_map_or (λ there. is_switch_at fabric.nodes there.node) o false) far ∙ leads_so fabric.nodes there (not up) switch_there in
         record {

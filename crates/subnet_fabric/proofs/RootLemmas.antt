@@ -7,7 +7,7 @@ use Rattle.std.proofs.lemmas.Option.{slice_get-map}
 use Rattle.fabric_wire.proofs.OfTopologyGuidLemmas.{guid_of}
 use Rattle.fabric_wire.proofs.OfTopologyLemmas.{node_at, switch_there}
 use Rattle.fabric_wire.specs.OfTopology.{fabric_of, node_of}
-use Rattle.result_words.proofs.ListLemmas.{all_there}
+use Rattle.step_results.proofs.ListLemmas.{all_there}
 use Rattle.smp_wire.specs.FabricState.{FabricState, is_switch, is_switch_at as is_switch_in}
 use Rattle.smp_wire.specs.Good.{node_guid}
 use Rattle.smp_wire.specs.declared.node.Node.{Node}

@@ -1,8 +1,9 @@
 -- What a fabric that stands is once a cable of it is cut, or mended.
 use Rattle.std.proofs.Common.{ℕ, ◌≡◌, ◌==◌, ◌&&◌, ◌||◌, not, ◌∙◌, inl, inr, ap, refl, sym, subst, Bool, true, false, if◌then◌else◌, List, [], ◌∷◌, ◌++◌, filter, map, unwrap_or, Option}
 use Rattle.std.specs.List.{list_all, list_any}
-use Rattle.std.proofs.lemmas.Bool.{and_from, false≢true}
+use Rattle.std.proofs.lemmas.Bool.{and_from, and_parts, false≢true}
 use Rattle.std.proofs.lemmas.List.{append-nil}
+use Rattle.std.proofs.lemmas.Map.Views.{any-filter_same}
 use Rattle.fabric_parts.specs.Cable.{far_end, is_cabled, port}
 use Rattle.fabric_parts.specs.declared.cable.Cable.{Cable}
 use Rattle.fabric_parts.specs.declared.cable.PortRef.{PortRef}
@@ -29,9 +30,10 @@ use Rattle.subnet_fabric.proofs.RecabledSoundLemmas.{what_is_up_is_sound}
 use Rattle.subnet_fabric.proofs.RootLemmas.{are_named, roots_are_switches, same_guid}
 use Rattle.subnet_fabric.proofs.StandingLookLemmas.{AreSeenAlike, big_alike, built_looks, changed_looks, graph_alike, seen_back, set_up_alike}
 use Rattle.subnet_fabric.specs.BringUp.{BroughtUpState, root_guids}
+use Rattle.subnet_fabric.specs.Planning.{MayBePlanned, planned, port_in}
 use Rattle.subnet_fabric.specs.Recabled.{IsUpWith, base_of, with_cables}
-use Rattle.subnet_fabric.specs.SetUp.{IsNotSetUp, IsSetUpBy, are_switches, has_switch}
-use Rattle.subnet_fabric.specs.Standing.{CanBeSetUp, CanComeUp, IsRecabled, IsStanding, MayBePlanned, cabling_after, planned, port_in}
+use Rattle.subnet_fabric.specs.SetUp.{CanBeSetUp, IsNotSetUp, IsSetUpBy, are_switches, has_switch}
+use Rattle.subnet_fabric.specs.Standing.{CanComeUp, IsRecabled, IsStanding, cabling_after}
 use Rattle.subnet_fabric.specs.declared.fault.FabricFault.{FabricFault}
 use Rattle.subnet_fabric.specs.declared.fault.FabricFault.TheVariants as fault
 use Rattle.subnet_ports.specs.Ports.{guid_at}
@@ -96,6 +98,20 @@ nothing_changes a b false was none =
     let more = ap (λ (some : List Cable). was.cut ++ some) two.1 ∙ append-nil was.cut in
     let less = two.0 in
     λ i. record { cables = less i; cut = more i }
+
+-- ---- what can be changed is changed
+none_kept : (a b : PortRef) (cables : List Cable) → list_any (is_between a b) (filter (is_not_between a b) cables) ≡ false
+none_kept a b cables =
+    any-filter_same (is_between a b) (is_not_between a b) false (λ cable between. ap not between) cables
+
+cabling_differs : (a b : PortRef) (up : Bool) (fabric : FabricState) → can_change a b up fabric ≡ true
+    → cabling_with up a b (cabling_of fabric) ≡ cabling_of fabric → ⊥
+cabling_differs a b true fabric can same =
+    let there = (and_parts _ _ (and_parts (is_switch_at fabric.nodes a.node) _ can).1).1 in
+    false≢true (sym (none_kept a b fabric.cut) ∙ ap (λ (one : CablingState). list_any (is_between a b) one.cut) same ∙ there)
+cabling_differs a b false fabric can same =
+    let there = (and_parts _ _ (and_parts (is_switch_at fabric.nodes a.node) _ can).1).1 in
+    false≢true (sym (none_kept a b fabric.cables) ∙ ap (λ (one : CablingState). list_any (is_between a b) one.cables) same ∙ there)
 
 module _ (plan : TopologyState) (keys : List (List ℕ)) (routes : RoutesState) (fabric : FabricState) (sound : IsSound plan) (good : IsGood fabric)
     (standing : IsStanding plan keys routes fabric) where
@@ -297,6 +313,16 @@ module _ (plan : TopologyState) (keys : List (List ℕ)) (routes : RoutesState) 
           };
           masks = done.1;
         }
+
+    -- and other cables are in place
+    pub is_moved : (left : FabricState) (more : RoutesState)
+        → IsSetUpBy (if can_change a b up fabric then next else fabric) (root_guids plan) keys more left → cabling_of left ≡ cabling_of fabric → ⊥
+    is_moved left more set same =
+        let done = recabled_is_as_brought_up plan (cabling_of fabric) (root_guids plan) (root_guids plan) keys routes more fabric left a b up standing.up can set in
+        let cables : left.cables ≡ then_in_place.cables = ap (λ (one : FabricState). one.cables) done.0.set_up.is in
+        let cut : left.cut ≡ then_in_place.cut = done.0.cut in
+        let is : cabling_of left ≡ then_in_place = λ i. record { cables = cables i; cut = cut i } in
+        cabling_differs a b up fabric can (sym is ∙ same)
 
     -- or it is not, and stays
     pub stays_so : (CanBeSetUp next (root_guids plan) → ⊥) → IsRecabled plan keys a b up routes fabric fabric

@@ -9,8 +9,8 @@ use Rattle.fabric_parts.specs.declared.node_type.NodeType.TheVariants as node_ty
 use Rattle.fabric_wire.specs.Cabling.{CablingState, uncut}
 use Rattle.fabric_wire.specs.OfTopology.{fabric_of}
 use Rattle.fabric_wire.specs.Recabling.{cabling_of}
-use Rattle.packet_ways.specs.Forwards.{ForwardsByLid, HoldsBackNothing, IsCabledPort}
-use Rattle.packet_ways.specs.Groups.{ForwardsByMlid}
+use Rattle.delivery_laws.specs.Forwards.{ForwardsByLid, HoldsBackNothing, IsCabledPort}
+use Rattle.delivery_laws.specs.Groups.{ForwardsByMlid}
 use Rattle.partition_file.specs.declared.partition.Partition.{Partition}
 use Rattle.port_model.specs.AdapterState.{AdapterState}
 use Rattle.partition_file.specs.Sound.{IsSound as ArePartitions}
@@ -28,7 +28,7 @@ use Rattle.subnet_fabric.specs.Recabled.{IsUpWith, base_of, with_cables}
 use Rattle.subnet_fabric.specs.Standing.{IsStanding}
 use Rattle.subnet_fabric.specs.StandingLaws.{AStandingFabricIsAsListed, BroughtUpStands, MasksLetItStand, OneCablingFollows, OneFabricStands}
 use Rattle.subnet_model.specs.declared.subnet_port.SubnetPort.{SubnetPort}
-use Rattle.subnet_ports.specs.Ports.{adapter_seat, end_ports, in_order, keyed, ports_of, seat_if_cabled, seats, seats_at, seats_of_type}
+use Rattle.subnet_ports.specs.Ports.{adapter_end_place, end_ports, in_order, keyed, ports_of, end_place_if_cabled, end_places, end_places_at, end_places_of_type}
 use Rattle.subnet_sends.specs.OfFabric.{IsFabricOf, IsListed, IsSetUpAsListed, IsThere}
 use Rattle.sweep.specs.Graph.{GraphState}
 use Rattle.sweep.specs.OfFabric.{IsGraphOf}
@@ -50,40 +50,40 @@ module _ (plan : TopologyState) (cables : List Cable)
   now = with_cables cables plan
 
   module _ (place : ℕ) (node : Node) (adapter : is_switch_at plan.nodes place ≡ false) where
-    seat_stays : (number : ℕ) → seat_if_cabled now node (port place number) ≡ seat_if_cabled plan node (port place number)
-    seat_stays number =
-        ap (λ (cabled : Bool). if cabled then adapter_seat plan.sm node (port place number) ∷ [] else []) (hung (port place number) adapter)
+    end_place_stays : (number : ℕ) → end_place_if_cabled now node (port place number) ≡ end_place_if_cabled plan node (port place number)
+    end_place_stays number =
+        ap (λ (cabled : Bool). if cabled then adapter_end_place plan.sm node (port place number) ∷ [] else []) (hung (port place number) adapter)
 
-    adapter_seats_stay : (numbers : List ℕ)
-        → flat_map (seat_if_cabled now node) (map (λ number. port place number) numbers)
-        ≡ flat_map (seat_if_cabled plan node) (map (λ number. port place number) numbers)
-    adapter_seats_stay [] = refl
-    adapter_seats_stay (number ∷ numbers) =
-        let head = seat_stays number in
-        let tail = adapter_seats_stay numbers in
+    adapter_end_places_stay : (numbers : List ℕ)
+        → flat_map (end_place_if_cabled now node) (map (λ number. port place number) numbers)
+        ≡ flat_map (end_place_if_cabled plan node) (map (λ number. port place number) numbers)
+    adapter_end_places_stay [] = refl
+    adapter_end_places_stay (number ∷ numbers) =
+        let head = end_place_stays number in
+        let tail = adapter_end_places_stay numbers in
         λ i. head i ++ tail i
 
-  seats_stay_at : (of : NodeType) (place : ℕ) (node : Node) → slice_get plan.nodes place ≡ Some node → node.node_type ≡ of
-      → seats_of_type of now place node ≡ seats_of_type of plan place node
-  seats_stay_at node_type.Switch place node there is = refl
-  seats_stay_at node_type.ChannelAdapter place node there is =
+  end_places_stay_at : (of : NodeType) (place : ℕ) (node : Node) → slice_get plan.nodes place ≡ Some node → node.node_type ≡ of
+      → end_places_of_type of now place node ≡ end_places_of_type of plan place node
+  end_places_stay_at node_type.Switch place node there is = refl
+  end_places_stay_at node_type.ChannelAdapter place node there is =
       let adapter : is_switch_at plan.nodes place ≡ false = rw (there, is) refl in
-      adapter_seats_stay place node adapter (range_with_len 1 node.ports)
+      adapter_end_places_stay place node adapter (range_with_len 1 node.ports)
 
-  seats_stay_from : (first : ℕ) (nodes : List Node) → ((k : ℕ) → slice_get nodes k ≡ slice_get plan.nodes (first + k))
-      → flat_map (seats_at now) (enumerate_from first nodes) ≡ flat_map (seats_at plan) (enumerate_from first nodes)
-  seats_stay_from first [] there = refl
-  seats_stay_from first (node ∷ nodes) there =
+  end_places_stay_from : (first : ℕ) (nodes : List Node) → ((k : ℕ) → slice_get nodes k ≡ slice_get plan.nodes (first + k))
+      → flat_map (end_places_at now) (enumerate_from first nodes) ≡ flat_map (end_places_at plan) (enumerate_from first nodes)
+  end_places_stay_from first [] there = refl
+  end_places_stay_from first (node ∷ nodes) there =
       let here : slice_get plan.nodes first ≡ Some node = ap (slice_get plan.nodes) (sym (add-zero first)) ∙ sym (there 0) in
-      let head = seats_stay_at node.node_type first node here refl in
-      let tail = seats_stay_from (first + 1) nodes (λ k. there (suc k) ∙ ap (slice_get plan.nodes) (omega (arith))) in
+      let head = end_places_stay_at node.node_type first node here refl in
+      let tail = end_places_stay_from (first + 1) nodes (λ k. there (suc k) ∙ ap (slice_get plan.nodes) (omega (arith))) in
       λ i. head i ++ tail i
 
-  seats_stay : seats now ≡ seats plan
-  seats_stay = seats_stay_from 0 plan.nodes (λ k. ap (slice_get plan.nodes) (sym (zero-add k)))
+  end_places_stay : end_places now ≡ end_places plan
+  end_places_stay = end_places_stay_from 0 plan.nodes (λ k. ap (slice_get plan.nodes) (sym (zero-add k)))
 
   pub ports_stay : (partitions : List Partition) → ports_of partitions now ≡ ports_of partitions plan
-  ports_stay partitions = λ i. in_order plan.nodes (end_ports (seats_stay i)) (keyed partitions (seats_stay i))
+  ports_stay partitions = λ i. in_order plan.nodes (end_ports (end_places_stay i)) (keyed partitions (end_places_stay i))
 
 -- ---- what is listed says nothing of cables that are cut
 module _ (fabric : FabricState) where

@@ -28,9 +28,11 @@ use Rattle.subnet_fabric.proofs.RecabledLookLemmas.{LooksSame, far_was, graph_to
 use Rattle.subnet_fabric.proofs.RecabledNodeLemmas.{as_many, both_linked, linked_at, nodes_after}
 use Rattle.subnet_fabric.proofs.RecabledPortLemmas.{by_places}
 use Rattle.subnet_fabric.proofs.RecabledPowerUpLemmas.{graph_with_cut}
+use Rattle.subnet_fabric.specs.Planning.{ArePlannedOver, IsPlan}
 use Rattle.subnet_fabric.specs.Recabled.{with_cables}
-use Rattle.subnet_fabric.specs.SetUp.{HasNoPathFrom}
-use Rattle.subnet_fabric.specs.Standing.{CanBeSetUp}
+use Rattle.subnet_fabric.specs.SetUp.{CanBeSetUp, HasNoPathFrom, IsLaidOut}
+use Rattle.subnet_fabric.specs.declared.planning.Planned.{Planned}
+use Rattle.subnet_fabric.specs.declared.planning.Planned.TheVariants.{Routed, NotWhole, NoLegalPath}
 use Rattle.sweep.specs.Graph.{GraphState}
 use Rattle.sweep.specs.Hops.{IsTooFar}
 use Rattle.sweep.specs.Limits.{IsTooBig}
@@ -39,6 +41,7 @@ use Rattle.sweep.specs.Seen.{name_in}
 use Rattle.table_push.specs.Nodes.{infos_by, numbered}
 use Rattle.topo_file.specs.Topology.{TopologyState}
 use Rattle.topo_file.specs.declared.node.Node.{Node as PlannedNode}
+use Rattle.updn_routes.specs.Subnet.{RoutesState}
 
 -- ---- nodes whose ports have other links
 link_look : (number : ℕ) (up : Bool) (node : Node) → look (node_linked number up node) ≡ look node
@@ -88,44 +91,44 @@ changed_looks a b up fabric = same_looks fabric.nodes (changed a b up fabric).no
     each k = ap (option_map look) (nodes_after up a b fabric.nodes k) ∙ by k (slice_get fabric.nodes k)
 
 -- ---- nodes of a topology with other cables
--- what is told of the link of a port of a switch
-told : List Cable → ℕ → ℕ → PortInfo
-told cables place number = (port_at_power_up number (if number == 0 then Internal else link_of cables place number)).info
+-- what is reported of the link of a port of a switch
+reported : List Cable → ℕ → ℕ → PortInfo
+reported cables place number = (port_at_power_up number (if number == 0 then Internal else link_of cables place number)).info
 
-abbrev retold : List Cable → ℕ → ℕ → SwitchPort → SwitchPort
-retold cables place number port = record port { info = told cables place number }
+abbrev updated : List Cable → ℕ → ℕ → SwitchPort → SwitchPort
+updated cables place number port = record port { info = reported cables place number }
 
-switch_told : (cables others : List Cable) (place first count : ℕ) → (first == 0) ≡ false
-    → numbered (retold others place) first (ports_from first (map (λ number. link_of cables place number) (range_with_len first count)))
+switch_reported : (cables others : List Cable) (place first count : ℕ) → (first == 0) ≡ false
+    → numbered (updated others place) first (ports_from first (map (λ number. link_of cables place number) (range_with_len first count)))
     ≡ ports_from first (map (λ number. link_of others place number) (range_with_len first count))
-unfolding told
-switch_told cables others place first zero positive = refl
-switch_told cables others place first (suc count) positive =
+unfolding reported
+switch_reported cables others place first zero positive = refl
+switch_reported cables others place first (suc count) positive =
     let later : (first + 1 == 0) ≡ false = ne_eqb (first + 1) 0 (λ none. omega (arith, none)) in
-    let rest = switch_told cables others place (first + 1) count later in
+    let rest = switch_reported cables others place (first + 1) count later in
     λ i. record (port_at_power_up first (link_of others place first)) {
       info = (port_at_power_up first (if positive i then Internal else link_of others place first)).info;
     } ∷ rest i
 
 -- and of a port of an adapter
-abbrev retold_port : List Cable → ℕ → PlannedNode → ℕ → PortInfo
-retold_port cables place node number = (adapter_port_of cables place node number).info
+abbrev updated_port : List Cable → ℕ → PlannedNode → ℕ → PortInfo
+updated_port cables place node number = (adapter_port_of cables place node number).info
 
-adapter_told : (cables others : List Cable) (place : ℕ) (node : PlannedNode) (first count : ℕ)
-    → numbered (λ number port. record port { info = retold_port others place node number }) first
+adapter_reported : (cables others : List Cable) (place : ℕ) (node : PlannedNode) (first count : ℕ)
+    → numbered (λ number port. record port { info = updated_port others place node number }) first
     (map (adapter_port_of cables place node) (range_with_len first count))
     ≡ map (adapter_port_of others place node) (range_with_len first count)
-adapter_told cables others place node first zero = refl
-adapter_told cables others place node first (suc count) =
-    let rest = adapter_told cables others place node (first + 1) count in
+adapter_reported cables others place node first zero = refl
+adapter_reported cables others place node first (suc count) =
+    let rest = adapter_reported cables others place node (first + 1) count in
     λ i. adapter_port_of others place node first ∷ rest i
 
 switch_again : (cables others : List Cable) (place : ℕ) (node : PlannedNode)
-    → infos_by (λ guid number info. told others place number) (node_of_type node_type.Switch cables place node)
+    → infos_by (λ guid number info. reported others place number) (node_of_type node_type.Switch cables place node)
     ≡ node_of_type node_type.Switch others place node
-unfolding told
+unfolding reported
 switch_again cables others place node =
-    let ports = switch_told cables others place 1 node.ports refl in
+    let ports = switch_reported cables others place 1 node.ports refl in
     λ i. Switch (record (switch_at_power_up node.guid (named node.name) (links_of others place node.ports) LINEAR_TABLE MULTICAST_TABLE) {
       ports = port_at_power_up 0 Internal ∷ ports i;
     })
@@ -134,10 +137,10 @@ built_look : (cables others : List Cable) (of : NodeType) (place : ℕ) (node : 
     → look (node_of_type of others place node) ≡ look (node_of_type of cables place node)
 built_look cables others node_type.Switch place node =
     ap look (sym (switch_again cables others place node))
-    ∙ infos_look (λ guid number info. told others place number) (node_of_type node_type.Switch cables place node)
+    ∙ infos_look (λ guid number info. reported others place number) (node_of_type node_type.Switch cables place node)
 built_look cables others node_type.ChannelAdapter place node =
-    ap (λ (ports : List AdapterState). look (Adapter ports)) (sym (adapter_told cables others place node 1 node.ports))
-    ∙ infos_look (λ guid number info. retold_port others place node number) (node_of_type node_type.ChannelAdapter cables place node)
+    ap (λ (ports : List AdapterState). look (Adapter ports)) (sym (adapter_reported cables others place node 1 node.ports))
+    ∙ infos_look (λ guid number info. updated_port others place node number) (node_of_type node_type.ChannelAdapter cables place node)
 
 pub built_looks : (plan : TopologyState) (cables : List Cable) → LooksSame (fabric_of plan).nodes (fabric_of (with_cables cables plan)).nodes
 built_looks plan cables = same_looks (fabric_of plan).nodes (fabric_of (with_cables cables plan)).nodes each
@@ -228,22 +231,23 @@ module _ (one other : FabricState) (alike : AreSeenAlike one other) where
 pub seen_back : (one other : FabricState) → AreSeenAlike one other → AreSeenAlike other one
 seen_back one other alike = record { nodes = sym alike.nodes; cables = sym alike.cables; manager = sym alike.manager }
 
+laid_alike : (one other : FabricState) (graph : GraphState) → AreSeenAlike one other → IsLaidOut one graph → IsLaidOut other graph
+laid_alike one other graph alike laid = record {
+  layout = layout_alike one other alike graph laid.layout;
+  joined = laid.joined;
+  near = λ far. laid.near (far_alike one other alike far);
+  small = λ big. laid.small (big_alike one other alike big);
+}
+
 pub no_path_alike : (one other : FabricState) (roots : List ℕ) (switch port : ℕ) → AreSeenAlike one other
     → HasNoPathFrom other roots switch port → HasNoPathFrom one roots switch port
-no_path_alike one other roots switch port alike none =
-    let back = seen_back one other alike in
-    record {
-      graph = none.graph;
-      laid = record {
-        layout = layout_alike other one back none.graph none.laid.layout;
-        joined = none.laid.joined;
-        near = λ far. none.laid.near (far_alike other one back far);
-        small = λ big. none.laid.small (big_alike other one back big);
-      };
-      guids = none.guids;
-      assigned = none.assigned;
-      refused = none.refused;
-    }
+no_path_alike one other roots switch port alike none = record {
+  graph = none.graph;
+  laid = laid_alike other one none.graph (seen_back one other alike) none.laid;
+  guids = none.guids;
+  assigned = none.assigned;
+  refused = none.refused;
+}
 
 pub set_up_alike : (one other : FabricState) (roots : List ℕ) → AreSeenAlike one other → CanBeSetUp one roots → CanBeSetUp other roots
 set_up_alike one other roots alike can = record {
@@ -251,3 +255,20 @@ set_up_alike one other roots alike can = record {
   near = λ far. can.near (far_alike one other alike far);
   reached = λ switch port none. can.reached switch port (no_path_alike one other roots switch port alike none);
 }
+
+-- ---- and what is planned for the one is planned for the other
+pub planned_alike : (one other : FabricState) (roots : List ℕ) (routes : RoutesState) → AreSeenAlike one other → ArePlannedOver one roots routes
+    → ArePlannedOver other roots routes
+planned_alike one other roots routes alike planned = record {
+  laid = laid_alike one other routes.graph alike planned.laid;
+  assigned = planned.assigned;
+  made = planned.made;
+  chosen = planned.chosen;
+}
+
+pub plan_alike : (one other : FabricState) (roots : List ℕ) (plan : Planned) → AreSeenAlike one other → IsPlan one roots plan → IsPlan other roots plan
+plan_alike one other roots (Routed routes) alike is = (set_up_alike one other roots alike is.0, planned_alike one other roots routes alike is.1)
+plan_alike one other roots NotWhole alike is =
+    let back = seen_back one other alike in
+    λ whole. is (joined_alike other one back whole.0, λ far. whole.1 (far_alike other one back far))
+plan_alike one other roots (NoLegalPath switch port) alike is = no_path_alike other one roots switch port (seen_back one other alike) is

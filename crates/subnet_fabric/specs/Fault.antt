@@ -6,7 +6,7 @@ use Rattle.sweep.specs.declared.fault.SweepFault.TheVariants as sweep
 use Rattle.updn_routes.specs.declared.fault.RouteFault.{RouteFault}
 use Rattle.updn_routes.specs.declared.fault.RouteFault.TheVariants as routes
 
--- ---- memory that is refused is one fault, wherever it was
+-- ---- out of memory is one error, wherever it was
 abbrev pub of_sweep : SweepFault → FabricFault
 of_sweep sweep.NoMemory = NoMemory
 of_sweep fault = Sweep fault

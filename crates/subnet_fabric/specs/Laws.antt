@@ -39,7 +39,7 @@ AFabricWithGroupsIsAsListed =
     → IsFabricOf (ports_of partitions plan) (by_guid routes.lids receives) (all_masks_pushed routes receives fabric)
 
 -- ---- one thing becomes of a topology's fabric
--- where a cable is too far, no pair is told that has no path, and the fabric does not come up
+-- where a cable is too far, no pair is reported that has no path, and the fabric does not come up
 abbrev pub TooFarExcludesTheRest : Type 0
 TooFarExcludesTheRest =
     (plan : TopologyState) (keys : List (List ℕ)) (fabric : FabricState) (switch port : ℕ) → IsTooFar (fabric_of plan)
@@ -51,7 +51,7 @@ NoPathExcludesComingUp =
     (plan : TopologyState) (keys : List (List ℕ)) (fabric : FabricState) (switch port : ℕ) → IsSound plan
     → HasNoPath plan switch port → IsBroughtUpOf plan keys fabric → ⊥
 
--- the pair that is told is one
+-- the pair that is reported is one
 abbrev pub OnePairHasNoPath : Type 0
 OnePairHasNoPath =
     (plan : TopologyState) (a b c d : ℕ) → IsSound plan → HasNoPath plan a b → HasNoPath plan c d → (a ≡ c) × (b ≡ d)

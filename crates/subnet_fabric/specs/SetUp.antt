@@ -4,7 +4,7 @@ use Rattle.std.specs.Prelude.{ℕ, ◌≡◌, ◌==◌, ◌&&◌, Bool, List, Re
 use Rattle.std.specs.List.{list_all, list_any}
 use Rattle.lid_assign.specs.Lids.{AreLids, IsInOrder, end_ports}
 use Rattle.smp_wire.specs.FabricState.{FabricState, is_switch}
-use Rattle.smp_wire.specs.Good.{node_guid}
+use Rattle.smp_wire.specs.Good.{SwitchesJoined, node_guid}
 use Rattle.smp_wire.specs.declared.node.Node.{Node}
 use Rattle.subnet_fabric.specs.declared.fault.FabricFault.{FabricFault}
 use Rattle.subnet_fabric.specs.declared.fault.FabricFault.TheVariants.{NoMemory, Sweep, NoLegalPath, Push}
@@ -86,6 +86,13 @@ IsNotSetUp fabric roots NoMemory = Unit {0}
 IsNotSetUp fabric roots (Sweep fault) = IsNotSwept fabric fault
 IsNotSetUp fabric roots (NoLegalPath switch port) = HasNoPathFrom fabric roots switch port
 IsNotSetUp fabric roots (Push fault) = ⊥
+
+-- ---- whether it can be set up
+-- cables join its switches, none is too far for an SMP, and these roots leave no port without a way
+pub record CanBeSetUp (fabric : FabricState) (roots : List ℕ) : Type 0 where
+  pub joined : SwitchesJoined fabric
+  pub near : IsTooFar fabric → ⊥
+  pub reached : (switch port : ℕ) → HasNoPathFrom fabric roots switch port → ⊥
 
 -- ---- what is answered
 abbrev pub RoutesAre : FabricState → List ℕ → Result RoutesState FabricFault → Type 0

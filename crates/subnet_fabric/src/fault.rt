@@ -9,7 +9,7 @@ use updn_routes::RouteFault;
 /// Why a fabric is not brought up.
 #[derive(Clone, Copy, Debug, PartialEq, Eq, Error)]
 pub enum FabricFault {
-    /// Memory was refused.
+    /// Out of memory.
     #[error("out of memory")]
     NoMemory,
     /// The sweep did not find the fabric.

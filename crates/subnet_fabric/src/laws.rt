@@ -7,7 +7,7 @@ ghost use Rattle.subnet_fabric.specs.Recabled.{BroughtUpIsUpWithAll, MasksKeepIt
 
 /// The fabric of a topology, brought up with the keys of its end ports, is the fabric of their list: each listed port of a
 /// channel adapter is there, set up as listed, and no other; and packets go by their LIDs. So what its ports stamp and
-/// what it delivers is what the list tells.
+/// what it delivers is what the list reports.
 pub fn a_fabric_is_brought_up_as_listed()
     ensures { AFabricIsBroughtUpAsListed }
 {}
@@ -18,7 +18,7 @@ pub fn a_fabric_with_groups_is_as_listed()
     ensures { AFabricWithGroupsIsAsListed }
 {}
 
-/// Where some cable of a topology's fabric is too far for any SMP, no pair is told that has no legal path, and the fabric
+/// Where some cable of a topology's fabric is too far for any SMP, no pair is reported that has no legal path, and the fabric
 /// does not come up.
 pub fn too_far_excludes_the_rest()
     ensures { TooFarExcludesTheRest }
@@ -30,7 +30,7 @@ pub fn no_path_excludes_coming_up()
     ensures { NoPathExcludesComingUp }
 {}
 
-/// The pair of LIDs that is told to have no legal path is one, in whatever order a sweep may find the switches.
+/// The pair of LIDs that is reported to have no legal path is one, in whatever order a sweep may find the switches.
 pub fn one_pair_has_no_path()
     ensures { OnePairHasNoPath }
 {}
@@ -76,7 +76,7 @@ pub fn masks_let_it_stand()
 {}
 
 /// A fabric that stands with the keys of its end ports is the fabric of their list, and of the groups whose masks its switches
-/// have, whichever of its cables are cut. So what its ports stamp and what it delivers is what the list tells.
+/// have, whichever of its cables are cut. So what its ports stamp and what it delivers is what the list reports.
 pub fn a_standing_fabric_is_as_listed()
     ensures { AStandingFabricIsAsListed }
 {}
@@ -86,7 +86,7 @@ pub fn one_fabric_stands()
     ensures { OneFabricStands }
 {}
 
-/// After a cable was to be cut, or mended, one thing only can be said of which are in place.
+/// After a command for a cable exactly one set of cables can be in place.
 pub fn one_cabling_follows()
     ensures { OneCablingFollows }
 {}

@@ -3,18 +3,19 @@
 //! [`set_up`] sweeps any good fabric, assigns LIDs, computes routes from the roots and pushes ports, key tables and linear
 //! forwarding tables (IBA volume 1, chapter 14): `specs/SetUp.antt` says what the fabric is then, and why it may not be set
 //! up. [`bring_up_fabric`] powers the fabric of a topology up and sets it up (`specs/BringUp.antt`). That it is
-//! the fabric of the list of end ports, so that packets go as the list tells, is the law
+//! the fabric of the list of end ports, so that packets go as the list reports, is the law
 //! [`a_fabric_is_brought_up_as_listed`]; that one thing becomes of a topology's fabric say
 //! [`too_far_excludes_the_rest`], [`no_path_excludes_coming_up`], [`one_pair_has_no_path`] and [`one_table_is_left`]. While
 //! cables are cut and mended, a fabric that is set up again is that of the topology with the cables that are in place:
-//! [`recabled_is_as_brought_up`] (`specs/Recabled.antt`). [`recable`] plans such a change, makes it and sets the fabric up
-//! again, or leaves all as it is (`specs/Standing.antt`): the fabric stays that of the list of end ports
-//! ([`a_standing_fabric_is_as_listed`]).
+//! [`recabled_is_as_brought_up`] (`specs/Recabled.antt`). [`plan`] says what such a change would do (`specs/Planning.antt`).
+//! [`recable`] plans it, makes it and sets the fabric up again, or leaves all as it is (`specs/Standing.antt`): the fabric stays
+//! that of the list of end ports ([`a_standing_fabric_is_as_listed`]).
 #![tactic(auto)]
 
 mod bring_up;
 mod fault;
 mod laws;
+mod planning;
 mod recabling;
 mod setting_up;
 
@@ -27,5 +28,6 @@ pub use crate::laws::{
     one_pair_has_no_path, one_table_is_left, recabled_is_as_brought_up, too_far_excludes_the_rest,
     what_is_up_is_sound,
 };
+pub use crate::planning::{Planned, plan};
 pub use crate::recabling::recable;
 pub use crate::setting_up::set_up;

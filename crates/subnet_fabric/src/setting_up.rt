@@ -22,7 +22,7 @@ use updn_routes::{Routes, routes};
 /// forwarding tables. The keys of the end ports stand in order of LID.
 ///
 /// `Sweep` exactly where a cable is too far from the subnet manager for any SMP or the fabric is too big, and `NoLegalPath`
-/// where the roots leave a port without a way; then, and where memory is refused, the fabric is as it was.
+/// where the roots leave a port without a way; then, and if an allocation fails, the fabric is as it was.
 pub fn set_up(
     alloc: Global,
     fabric: &mut Fabric,

@@ -9,7 +9,7 @@ use Rattle.std.proofs.lemmas.Bool.Decides.{nat_tests}
 use Rattle.data_packet.specs.declared.refusal.Refusal.{Refusal}
 use Rattle.data_packet.specs.declared.refusal.Refusal.TheVariants.{KeyNotHeld}
 use Rattle.fabric_parts.specs.NodeType.{is_switch_type}
-use Rattle.result_words.proofs.ListLemmas.{found_passes, list_any_weaker}
+use Rattle.step_results.proofs.ListLemmas.{found_passes, list_any_weaker}
 use Rattle.pkey_rules.specs.PKey.{default_base, key_of, matches}
 use Rattle.pkey_rules.specs.KeyTable.{accepts, holds, shares}
 use Rattle.subnet_model.specs.declared.subnet_port.SubnetPort.{SubnetPort}
@@ -74,7 +74,7 @@ reached_accepts has_joined command port reached =
 pub held_unless_refused : (sender : SubnetPort) (command : SendCommand) → refusal_of sender command ≡ None → holds command.p_key sender.keys ≡ true
 held_unless_refused sender command e = elim (cases_Bool (holds command.p_key sender.keys)) [
   | inl held ↦ held
-  | inr not_held ↦ let told : Some KeyNotHeld ≡ None = rw not_held at e in absurd (cc)
+  | inr not_held ↦ let reported : Some KeyNotHeld ≡ None = rw not_held at e in absurd (cc)
 ]
 
 -- whoever a packet reaches, by whatever groups, shares a partition with its sender
@@ -152,7 +152,7 @@ turns_sound : {S V : Type 0} {configuration : ConfigurationState} {administrator
     → is_sound (answered_in_turn (administrator.answer configuration own) mads s).1 ≡ true
 turns_sound law own [] s sound = sound
 turns_sound {configuration = configuration} {administrator = administrator} law own (mad ∷ mads) s sound =
-    turns_sound law own mads (administrator.answer configuration own mad s).1 (law.stays_sound own mad s sound)
+    turns_sound law own mads (administrator.answer configuration own mad s).1 (law.sound.stays own mad s sound)
 
 -- what a port sends in turn is answered alike where it sees the same
 record AnsweredAlike {S V : Type 0} (is_sound : S → Bool) (sees : ℕ → S → V) (p : ℕ) (own : SubnetPort) (x y : List (List ℕ) × S) : Type 0 where
@@ -164,11 +164,11 @@ one_alike : {S V : Type 0} {configuration : ConfigurationState} {administrator :
     → port_with_guid configuration.ports own.guid ≡ Some own → Alike is_sound sees p s t
     → AnsweredAlike is_sound sees p own (administrator.answer configuration own mad s) (administrator.answer configuration own mad t)
 one_alike {is_sound = is_sound} {sees = sees} law p own mad s t found alike = record {
-  mads = λ itself. law.same_answers own mad s t found (subst (λ q. Alike is_sound sees q s t) (sym itself) alike);
+  mads = λ itself. law.alike.replies own mad s t found (subst (λ q. Alike is_sound sees q s t) (sym itself) alike);
   after = record {
-    left_sound = law.stays_sound own mad s alike.left_sound;
-    right_sound = law.stays_sound own mad t alike.right_sound;
-    same = law.same_after p own mad s t found alike;
+    left_sound = law.sound.stays own mad s alike.left_sound;
+    right_sound = law.sound.stays own mad t alike.right_sound;
+    same = law.alike.after p own mad s t found alike;
   };
 }
 
@@ -201,8 +201,8 @@ whole_alike {S = S} {configuration = configuration} {administrator = administrat
         after = record {
           left_sound = turns_sound law own (administrator.acknowledgements first.0) first.1 here.after.left_sound;
           right_sound = turns_sound law own (administrator.acknowledgements second.0) second.1 here.after.right_sound;
-          same = law.acknowledged_unseen p own first.0 first.1 other here.after.left_sound
-              ∙ (here.after.same ∙ sym (law.acknowledged_unseen p own second.0 second.1 other here.after.right_sound));
+          same = law.unseen.acknowledged p own first.0 first.1 other here.after.left_sound
+              ∙ (here.after.same ∙ sym (law.unseen.acknowledged p own second.0 second.1 other here.after.right_sound));
         };
       }
     ]
@@ -222,11 +222,11 @@ whole_far : {S V : Type 0} {configuration : ConfigurationState} {administrator :
     → Alike is_sound sees p (answered_whole (administrator.answer configuration own) administrator.acknowledgements mad s).1 t
 whole_far {configuration = configuration} {administrator = administrator} law p own mad s t far alike =
     let first = administrator.answer configuration own mad s in
-    let sound = law.stays_sound own mad s alike.left_sound in
+    let sound = law.sound.stays own mad s alike.left_sound in
     moved p s t (answered_in_turn (administrator.answer configuration own) (administrator.acknowledgements first.0) first.1).1 alike
     (turns_sound law own (administrator.acknowledgements first.0) first.1 sound)
-    (law.acknowledged_unseen p own first.0 first.1 (or_parts (own.guid == p) (ports_share configuration.ports p own.guid) far).0 sound
-    ∙ law.far_unseen p own mad s far alike.left_sound)
+    (law.unseen.acknowledged p own first.0 first.1 (or_parts (own.guid == p) (ports_share configuration.ports p own.guid) far).0 sound
+    ∙ law.unseen.sent p own mad s far alike.left_sound)
 
 -- ---- what a command brings to p, and what it leaves
 record Unmoved {S V : Type 0} (is_sound : S → Bool) (sees : ℕ → S → V) (p : ℕ) (t : S) (x : List PortEvent × S) : Type 0 where
@@ -269,8 +269,8 @@ delivered_far {configuration = configuration} {administrator = administrator} {i
     elim (cases_Bool (is_for_sa command)) [
       | inl for_sa ↦ rw for_sa (replied_far p sender (manager_key configuration.ports command.p_key) s t (administrator.answer configuration sender command.payload s)
           (or_parts (sender.guid == p) (ports_share configuration.ports p sender.guid) sender_far).0 alike
-          (moved p s t (administrator.answer configuration sender command.payload s).1 alike (law.stays_sound sender command.payload s alike.left_sound)
-          (law.far_unseen p sender command.payload s sender_far alike.left_sound)))
+          (moved p s t (administrator.answer configuration sender command.payload s).1 alike (law.sound.stays sender command.payload s alike.left_sound)
+          (law.unseen.sent p sender command.payload s sender_far alike.left_sound)))
       | inr other ↦ rw other (record {
         events = quiet p (reaches_joined (administrator.receives s command.dlid) command) configuration.ports sender command unreached;
         after = alike;
@@ -342,7 +342,7 @@ delivered_alike {configuration = configuration} {administrator = administrator} 
       | inr other ↦ rw other (record {
         events = same_received p (reaches_joined (administrator.receives s command.dlid) command) (reaches_joined (administrator.receives t command.dlid) command) configuration.ports sender command
             (λ port itself. ap (λ joined. ((joined && not (port.guid == command.port_guid)) || (port.lid == command.dlid)) && (not (is_switch_type port.node_type) && accepts command.p_key port.keys))
-            (rw itself (law.same_groups p command.dlid s t alike)));
+            (rw itself (law.alike.groups p command.dlid s t alike)));
         after = alike;
       })
     ]
@@ -392,7 +392,7 @@ steps_isolate : {S V : Type 0} {configuration : ConfigurationState} {administrat
 steps_isolate law p = record {
   far = λ s t command away alike. let moved = step_far law p command s t away alike in (moved.events, moved.after);
   near = λ s t command beside alike. let same = step_alike law p command s t alike in (same.events, same.after);
-  begins = record { left_sound = law.begins; right_sound = law.begins; same = refl };
+  begins = record { left_sound = law.sound.begins; right_sound = law.sound.begins; same = refl };
   joined = λ xs ys. filter-append (λ event. event.port_guid == p) xs ys;
   nothing = refl;
 }

@@ -17,28 +17,41 @@ pub record Alike {S V : Type 0} (is_sound : S → Bool) (sees : ℕ → S → V)
   pub right_sound : is_sound t ≡ true
   pub same : sees p s ≡ sees p t
 
--- An administrator keeps ports apart, where some states are sound and each port sees something of a state: what a port
--- far from another sends changes nothing that the other sees; a port that sees the same in two states is answered the
--- same, and receives what is sent to the same groups; and what two states show alike, they show alike after a MAD.
-pub record KeepsApart {S V : Type 0} (configuration : ConfigurationState) (administrator : Administrator S) (is_sound : S → Bool)
-    (sees : ℕ → S → V) : Type 0 where
-  pub begins : is_sound (administrator.begins configuration) ≡ true
-  pub stays_sound : (own : SubnetPort) (mad : List ℕ) (s : S) → is_sound s ≡ true
-      → is_sound (administrator.answer configuration own mad s).1 ≡ true
-  pub far_unseen : (p : ℕ) (own : SubnetPort) (mad : List ℕ) (s : S) → is_near configuration.ports p own.guid ≡ false
-      → is_sound s ≡ true → sees p (administrator.answer configuration own mad s).1 ≡ sees p s
-  pub same_answers : (own : SubnetPort) (mad : List ℕ) (s t : S) → port_with_guid configuration.ports own.guid ≡ Some own
-      → Alike is_sound sees own.guid s t
-      → (administrator.answer configuration own mad s).0 ≡ (administrator.answer configuration own mad t).0
-  pub same_after : (p : ℕ) (own : SubnetPort) (mad : List ℕ) (s t : S) → port_with_guid configuration.ports own.guid ≡ Some own
-      → Alike is_sound sees p s t
-      → sees p (administrator.answer configuration own mad s).1 ≡ sees p (administrator.answer configuration own mad t).1
-  pub same_groups : (p mlid : ℕ) (s t : S) → Alike is_sound sees p s t
-      → administrator.receives s mlid p ≡ administrator.receives t mlid p
-  -- that a port acknowledges what answers it is not seen by any other
-  pub acknowledged_unseen : (p : ℕ) (own : SubnetPort) (mads : List (List ℕ)) (s : S) → (own.guid == p) ≡ false
-      → is_sound s ≡ true
-      → sees p (answered_in_turn (administrator.answer configuration own) (administrator.acknowledgements mads) s).1 ≡ sees p s
+-- the port is listed, the first of its GUID
+abbrev pub IsOwn : ConfigurationState → SubnetPort → Type 0
+IsOwn configuration own = port_with_guid configuration.ports own.guid ≡ Some own
+
+module _ {S V : Type 0} (configuration : ConfigurationState) (administrator : Administrator S) (is_sound : S → Bool) (sees : ℕ → S → V) where
+  -- the replies to a MAD of a port, and the state that it leaves
+  abbrev pub reaction : SubnetPort → List ℕ → S → List (List ℕ) × S
+  reaction own mad s = administrator.answer configuration own mad s
+
+  -- the state at the start is sound, and so is each that a MAD leaves
+  pub record StaysSound : Type 0 where
+    pub begins : is_sound (administrator.begins configuration) ≡ true
+    pub stays : (own : SubnetPort) (mad : List ℕ) (s : S) → is_sound s ≡ true → is_sound (reaction own mad s).1 ≡ true
+
+  -- a port sees no change in what a port far from it sends; nor in the acknowledgements of another port, however near
+  pub record IsUnseen : Type 0 where
+    pub sent : (p : ℕ) (own : SubnetPort) (mad : List ℕ) (s : S) → is_near configuration.ports p own.guid ≡ false
+        → is_sound s ≡ true → sees p (reaction own mad s).1 ≡ sees p s
+    pub acknowledged : (p : ℕ) (own : SubnetPort) (mads : List (List ℕ)) (s : S) → (own.guid == p) ≡ false
+        → is_sound s ≡ true → sees p (answered_in_turn (reaction own) (administrator.acknowledgements mads) s).1 ≡ sees p s
+
+  -- a port that sees the same in two states gets the same replies, sees the same after a MAD of any port, and receives what is
+  -- sent to the same groups
+  pub record IsServedAlike : Type 0 where
+    pub replies : (own : SubnetPort) (mad : List ℕ) (s t : S) → IsOwn configuration own → Alike is_sound sees own.guid s t
+        → (reaction own mad s).0 ≡ (reaction own mad t).0
+    pub after : (p : ℕ) (own : SubnetPort) (mad : List ℕ) (s t : S) → IsOwn configuration own → Alike is_sound sees p s t
+        → sees p (reaction own mad s).1 ≡ sees p (reaction own mad t).1
+    pub groups : (p mlid : ℕ) (s t : S) → Alike is_sound sees p s t → administrator.receives s mlid p ≡ administrator.receives t mlid p
+
+  -- an administrator keeps ports apart
+  pub record KeepsApart : Type 0 where
+    pub sound : StaysSound
+    pub unseen : IsUnseen
+    pub alike : IsServedAlike
 
 -- A step keeps a port to itself, where some states are alike to that port: a command of a port that is far from it
 -- brings it no event, and leaves a state that is alike to whatever was alike before; a near one brings it the same

@@ -1,4 +1,4 @@
-//! What ports are told to do, and what happens to cables.
+//! What a command has a port do, and what happens to cables.
 
 ghost use Rattle.std.specs.Prelude.{◌≡◌};
 ghost use Rattle.subnet_model.specs.Delivery.{is_for_sa};
@@ -7,7 +7,7 @@ use data_packet::{Payload, QueuePair};
 use fabric_parts::{Cable, MANAGER_LID};
 use mad_layout::Mad;
 
-/// What a port is told to do, or what happens to a cable.
+/// What a command has a port do, or what happens to a cable.
 #[derive(Debug, Drop, PartialEq, Eq)]
 pub enum Command {
     /// To send a packet.
@@ -18,7 +18,7 @@ pub enum Command {
     Cable(CableCommand),
 }
 
-/// A packet that a port is told to send.
+/// A packet that a command has a port send.
 #[derive(Debug, Drop, PartialEq, Eq)]
 pub struct SendCommand {
     /// The GUID of the port that sends.
@@ -42,9 +42,8 @@ impl SendCommand {
     }
 }
 
-/// What a port is told to ask of the subnet administration: it sends this MAD to it, under the key of the default
-/// partition that it holds, and acknowledges what answers it (IBA volume 1,
-/// chapters 13 and 15).
+/// What a command has a port ask of the subnet administration: it sends this MAD to it, under the key of the default
+/// partition that it holds, and acknowledges what answers it (IBA volume 1, chapters 13 and 15).
 #[derive(Debug, Drop, PartialEq, Eq)]
 pub struct AskCommand {
     /// The GUID of the port that asks.

@@ -24,7 +24,7 @@ impl Model for NodeName {
 }
 
 impl NodeName {
-    /// The name that these bytes spell.
+    /// The name that these bytes encode.
     pub fn new(bytes: &[u8]) -> NodeName
         requires { length bytes.now ≤ NAME_BYTES }
         ensures { result ≡ bytes.now }

@@ -4,7 +4,7 @@ use Rattle.std.specs.List.{AllByRecursion, IsDistinct, cons_option, list_all, li
 use Rattle.std.proofs.lemmas.Bool.{and_parts, cases_Bool, eq-eqb, eqb-true}
 use Rattle.std.proofs.lemmas.List.Elements.{All-weaker}
 use Rattle.std.proofs.lemmas.Map.Keys.{IsDistinct-cons, IsDistinct-head, IsDistinct-tail}
-use Rattle.result_words.proofs.ListLemmas.{IsDistinct-nil}
+use Rattle.step_results.proofs.ListLemmas.{IsDistinct-nil}
 use Rattle.pkey_rules.specs.declared.end_port.EndPort.{EndPort}
 use Rattle.pkey_rules.specs.KeyTable.{same_base}
 use Rattle.pkey_rules.specs.PKey.{base_of, is_base}
@@ -17,11 +17,11 @@ use Rattle.topo_file.specs.Topology.{TopologyState}
 use Rattle.subnet_model.specs.EndPorts.{lid_of}
 use Rattle.subnet_model.specs.declared.subnet_port.SubnetPort.{SubnetPort}
 use Rattle.subnet_model.specs.Configured.{HoldsKnownKeys, IsConfigured, is_known_key}
-use Rattle.subnet_ports.specs.declared.end_ports.Seat.{Seat}
+use Rattle.subnet_ports.specs.declared.end_ports.EndPlace.{EndPlace}
 use Rattle.subnet_ports.specs.EndPorts.{IsEndPort, end_port_at}
-use Rattle.subnet_ports.specs.Ports.{configuration_of, end_ports, keyed, ports_of, seated, seats, with_port, with_seat}
+use Rattle.subnet_ports.specs.Ports.{configuration_of, end_ports, keyed, ports_of, end_placed, end_places, with_port, with_end_place}
 use Rattle.subnet_ports.proofs.EndPortLemmas.{end_ports_stand_in_order}
-use Rattle.subnet_ports.proofs.PortLemmas.{few_seats}
+use Rattle.subnet_ports.proofs.PortLemmas.{few_end_places}
 
 -- ---- the keys that partitions give
 -- the base of a key is one of these
@@ -92,7 +92,7 @@ known_as_test : (headings : List Heading) (keys : List ℕ) → AllByRecursion (
 known_as_test headings [] known = refl
 known_as_test headings (key ∷ keys) known = rw known.0 (known_as_test headings keys known.1)
 
--- ---- as many ports as seats
+-- ---- as many ports as end_places
 with_port_counted : (ports : List SubnetPort) (port : SubnetPort) → length (with_port ports port) ≡ length ports + 1
 with_port_counted [] port = refl
 with_port_counted (first ∷ rest) port = elim (cases_Bool (nat_le first.lid port.lid)) [
@@ -100,23 +100,23 @@ with_port_counted (first ∷ rest) port = elim (cases_Bool (nat_le first.lid por
   | inr after ↦ rw after (omega arith)
 ]
 
-in_order_counted : (plan : TopologyState) (all : List EndPort) (some : List (Seat × List ℕ)) (ports : List SubnetPort)
-    → length (fold (with_seat plan.nodes all) ports some) ≡ length ports + length some
+in_order_counted : (plan : TopologyState) (all : List EndPort) (some : List (EndPlace × List ℕ)) (ports : List SubnetPort)
+    → length (fold (with_end_place plan.nodes all) ports some) ≡ length ports + length some
 in_order_counted plan all [] ports = omega arith
 in_order_counted plan all (one ∷ some) ports =
-    let rest = in_order_counted plan all some (with_seat plan.nodes all ports one) in
-    let first = with_port_counted ports (seated plan.nodes one.1 (lid_of all one.0.port) one.0) in
+    let rest = in_order_counted plan all some (with_end_place plan.nodes all ports one) in
+    let first = with_port_counted ports (end_placed plan.nodes one.1 (lid_of all one.0.port) one.0) in
     omega arith
 
-keyed_counted : (partitions : List Partition) (some : List Seat) → length (keyed partitions some) ≡ length some
+keyed_counted : (partitions : List Partition) (some : List EndPlace) → length (keyed partitions some) ≡ length some
 keyed_counted partitions [] = refl
-keyed_counted partitions (seat ∷ some) = let rest = keyed_counted partitions some in omega arith
+keyed_counted partitions (end_place ∷ some) = let rest = keyed_counted partitions some in omega arith
 
 few_ports : (partitions : List Partition) (plan : TopologyState) → IsSound plan → length (ports_of partitions plan) ≤ 320
 few_ports partitions plan sound =
-    let few = few_seats plan sound.lines.limits.0 sound.lines.limits.1 in
-    let all = in_order_counted plan (end_ports (seats plan)) (keyed partitions (seats plan)) [] in
-    let same = keyed_counted partitions (seats plan) in
+    let few = few_end_places plan sound.lines.limits.0 sound.lines.limits.1 in
+    let all = in_order_counted plan (end_ports (end_places plan)) (keyed partitions (end_places plan)) [] in
+    let same = keyed_counted partitions (end_places plan) in
     omega arith
 
 -- ---- all of it

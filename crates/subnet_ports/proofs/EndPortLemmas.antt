@@ -10,8 +10,8 @@ use Rattle.std.proofs.lemmas.List.Elements.{All-nil, All-cons, All-head, All-tai
 use Rattle.std.proofs.lemmas.List.Sorted.{IsPermutation-refl, IsPermutation-trans, IsPermutation-middle, IsPermutation-append_left}
 use Rattle.std.proofs.lemmas.List.Sorted.{IsPermutation-insert, All-permutation, sum_by-IsPermutation}
 use Rattle.std.proofs.lemmas.Map.Keys.{IsDistinct-IsPermutation}
-use Rattle.result_words.proofs.TestLemmas.{same_either_way}
-use Rattle.result_words.proofs.RisingLemmas.{counted}
+use Rattle.step_results.proofs.TestLemmas.{same_either_way}
+use Rattle.step_results.proofs.RisingLemmas.{counted}
 use Rattle.partition_file.specs.declared.partition.Partition.{Partition}
 use Rattle.partition_file.specs.Members.{keys_in}
 use Rattle.pkey_rules.specs.declared.end_port.EndPort.{EndPort}
@@ -24,13 +24,13 @@ use Rattle.topo_file.specs.Topology.{TopologyState}
 use Rattle.subnet_model.specs.declared.subnet_port.SubnetPort.{SubnetPort}
 use Rattle.subnet_model.specs.EndPorts.{lid_of}
 use Rattle.subnet_model.specs.Source.{same_lid}
-use Rattle.subnet_ports.specs.declared.end_ports.Seat.{Seat}
+use Rattle.subnet_ports.specs.declared.end_ports.EndPlace.{EndPlace}
 use Rattle.subnet_ports.specs.EndPorts.{AreEndPorts, IsEndPort, is_end_port}
 use Rattle.subnet_model.specs.Configured.{same_guid}
-use Rattle.subnet_ports.specs.Ports.{end_ports, keyed, ports_of, seated, seats, type_of, with_port, with_seat}
+use Rattle.subnet_ports.specs.Ports.{end_ports, keyed, ports_of, end_placed, end_places, type_of, with_port, with_end_place}
 use Rattle.subnet_ports.proofs.PortLemmas.{insert_in_order}
-use Rattle.subnet_ports.proofs.SeatLemmas.{IsSeat, all_are_seats, any_so, one_guid, place_of, seat_there, seats_are_distinct}
-use Rattle.result_words.proofs.ElementLemmas.{each_weaker}
+use Rattle.subnet_ports.proofs.EndPlaceLemmas.{IsEndPlace, all_are_end_places, any_so, one_guid, place_of, end_place_there, end_places_are_distinct}
+use Rattle.step_results.proofs.ElementLemmas.{each_weaker}
 
 -- ---- counts
 count_none : {X : Type 0} (p : X → Bool) (xs : List X) → AllByRecursion (λ x. p x ≡ false) xs → count_by p xs ≡ 0
@@ -125,31 +125,31 @@ lids_differ all a b one here there apart =
     order_by : (m n j k : ℕ) → nat_lt m n ≡ nat_lt j k → nat_lt n m ≡ nat_lt k j → (j == k) ≡ false → (m == n) ≡ false
     order_by m n j k x y apart = grind (arith, nat_tests)
 
--- ---- seats
-abbrev sits_sm : Seat → Bool
-sits_sm seat = seat.port.is_sm
+-- ---- end_places
+abbrev sits_sm : EndPlace → Bool
+sits_sm end_place = end_place.port.is_sm
 
-abbrev same_key : Seat → Seat → Bool
+abbrev same_key : EndPlace → EndPlace → Bool
 same_key a b = key a.port == key b.port
 
-count_ports : (p : EndPort → Bool) (some : List Seat) → count_by p (end_ports some) ≡ count_by (λ (seat : Seat). p seat.port) some
+count_ports : (p : EndPort → Bool) (some : List EndPlace) → count_by p (end_ports some) ≡ count_by (λ (end_place : EndPlace). p end_place.port) some
 count_ports p [] = refl
-count_ports p (seat ∷ some) =
-    counted p seat.port (end_ports some) ∙ (ap (λ n. cond (p seat.port) 1 0 + n) (count_ports p some) ∙ sym (counted (λ (other : Seat). p other.port) seat some))
+count_ports p (end_place ∷ some) =
+    counted p end_place.port (end_ports some) ∙ (ap (λ n. cond (p end_place.port) 1 0 + n) (count_ports p some) ∙ sym (counted (λ (other : EndPlace). p other.port) end_place some))
 
-there_all : (all : List EndPort) (some : List Seat) → ((e : EndPort) → count_by (λ other. key other == key e) (end_ports some) ≤ count_by (λ other. key other == key e) all)
-    → AllByRecursion (λ (seat : Seat). IsThere all seat.port) some
+there_all : (all : List EndPort) (some : List EndPlace) → ((e : EndPort) → count_by (λ other. key other == key e) (end_ports some) ≤ count_by (λ other. key other == key e) all)
+    → AllByRecursion (λ (end_place : EndPlace). IsThere all end_place.port) some
 there_all all [] h = tt
-there_all all (seat ∷ some) h =
-    let same : (key seat.port == key seat.port) ≡ true = grind (arith, nat_tests) in
-    let with_it : count_by (λ other. key other == key seat.port) (end_ports (seat ∷ some)) ≡ 1 + count_by (λ other. key other == key seat.port) (end_ports some) = count_yes (λ (other : EndPort). key other == key seat.port) seat.port (end_ports some) same in
-    (omega (arith, h seat.port, with_it), there_all all some (λ e. omega (arith, h e, counted (λ (other : EndPort). key other == key e) seat.port (end_ports some))))
+there_all all (end_place ∷ some) h =
+    let same : (key end_place.port == key end_place.port) ≡ true = grind (arith, nat_tests) in
+    let with_it : count_by (λ other. key other == key end_place.port) (end_ports (end_place ∷ some)) ≡ 1 + count_by (λ other. key other == key end_place.port) (end_ports some) = count_yes (λ (other : EndPort). key other == key end_place.port) end_place.port (end_ports some) same in
+    (omega (arith, h end_place.port, with_it), there_all all some (λ e. omega (arith, h e, counted (λ (other : EndPort). key other == key e) end_place.port (end_ports some))))
 
-key_apart : (seat : Seat) (some : List Seat) → AllByRecursion (λ b. one_guid seat b ≡ false) some → cond seat.port.is_sm 1 0 + count_by sits_sm some ≤ 1
-    → AllByRecursion (λ b. same_key seat b ≡ false) some
-key_apart seat [] h k = tt
-key_apart seat (b ∷ some) h k =
-    (by seat.port.is_sm b.port.is_sm seat.port.guid b.port.guid h.0 (omega (arith, counted sits_sm b some)), key_apart seat some h.1 (omega (arith, counted sits_sm b some)))
+key_apart : (end_place : EndPlace) (some : List EndPlace) → AllByRecursion (λ b. one_guid end_place b ≡ false) some → cond end_place.port.is_sm 1 0 + count_by sits_sm some ≤ 1
+    → AllByRecursion (λ b. same_key end_place b ≡ false) some
+key_apart end_place [] h k = tt
+key_apart end_place (b ∷ some) h k =
+    (by end_place.port.is_sm b.port.is_sm end_place.port.guid b.port.guid h.0 (omega (arith, counted sits_sm b some)), key_apart end_place some h.1 (omega (arith, counted sits_sm b some)))
   where
     by : (s t : Bool) (m n : ℕ) → (m == n) ≡ false → cond s 1 0 + cond t 1 0 ≤ 1 → (key_by s m == key_by t n) ≡ false
     by true true m n h k = absurd (omega arith)
@@ -157,54 +157,54 @@ key_apart seat (b ∷ some) h k =
     by false true m n h k = grind (arith, nat_tests)
     by false false m n h k = grind (arith, nat_tests)
 
-own_keys : (some : List Seat) → IsDistinct one_guid some → count_by sits_sm some ≤ 1 → IsDistinct same_key some
+own_keys : (some : List EndPlace) → IsDistinct one_guid some → count_by sits_sm some ≤ 1 → IsDistinct same_key some
 unfolding IsDistinct
 own_keys [] d h = tt
-own_keys (seat ∷ some) d h = (key_apart seat some d.0 (omega (arith, counted sits_sm seat some)), own_keys some d.1 (omega (arith, counted sits_sm seat some)))
+own_keys (end_place ∷ some) d h = (key_apart end_place some d.0 (omega (arith, counted sits_sm end_place some)), own_keys some d.1 (omega (arith, counted sits_sm end_place some)))
 
--- the subnet manager's seat, of which there is one
-none_more : (seat : Seat) (guid : ℕ) (some : List Seat) → seat.port.guid ≡ guid → AllByRecursion (λ b. one_guid seat b ≡ false) some
-    → AllByRecursion (λ (b : Seat). b.port.is_sm ≡ true → b.port.guid ≡ guid) some → AllByRecursion (λ b. sits_sm b ≡ false) some
-none_more seat guid [] e h k = tt
-none_more seat guid (b ∷ some) e h k = (by b.port.is_sm refl, none_more seat guid some e h.1 k.1)
+-- the subnet manager's end_place, of which there is one
+none_more : (end_place : EndPlace) (guid : ℕ) (some : List EndPlace) → end_place.port.guid ≡ guid → AllByRecursion (λ b. one_guid end_place b ≡ false) some
+    → AllByRecursion (λ (b : EndPlace). b.port.is_sm ≡ true → b.port.guid ≡ guid) some → AllByRecursion (λ b. sits_sm b ≡ false) some
+none_more end_place guid [] e h k = tt
+none_more end_place guid (b ∷ some) e h k = (by b.port.is_sm refl, none_more end_place guid some e h.1 k.1)
   where
     by : (s : Bool) → b.port.is_sm ≡ s → b.port.is_sm ≡ false
-    by true is = let same : b.port.guid ≡ guid = k.0 is in absurd (both_ways (seat.port.guid == b.port.guid) h.0 (grind (arith, nat_tests)))
+    by true is = let same : b.port.guid ≡ guid = k.0 is in absurd (both_ways (end_place.port.guid == b.port.guid) h.0 (grind (arith, nat_tests)))
     by false is = is
 
-one_at_most : (guid : ℕ) (some : List Seat) → IsDistinct one_guid some → AllByRecursion (λ (b : Seat). b.port.is_sm ≡ true → b.port.guid ≡ guid) some
+one_at_most : (guid : ℕ) (some : List EndPlace) → IsDistinct one_guid some → AllByRecursion (λ (b : EndPlace). b.port.is_sm ≡ true → b.port.guid ≡ guid) some
     → count_by sits_sm some ≤ 1
 unfolding IsDistinct
 one_at_most guid [] d k = lit≤ tt
-one_at_most guid (seat ∷ some) d k = elim (cases_Bool seat.port.is_sm) [
-  | inl is ↦ omega (arith, count_yes sits_sm seat some is, count_none sits_sm some (none_more seat guid some (k.0 is) d.0 k.1))
-  | inr other ↦ omega (arith, count_no sits_sm seat some other, one_at_most guid some d.1 k.1)
+one_at_most guid (end_place ∷ some) d k = elim (cases_Bool end_place.port.is_sm) [
+  | inl is ↦ omega (arith, count_yes sits_sm end_place some is, count_none sits_sm some (none_more end_place guid some (k.0 is) d.0 k.1))
+  | inr other ↦ omega (arith, count_no sits_sm end_place some other, one_at_most guid some d.1 k.1)
 ]
 
 -- ---- ports in order of LID
-abbrev known : List Partition → List Node → List EndPort → Seat → SubnetPort
-known partitions nodes all seat = seated nodes (keys_in partitions seat.port) (lid_of all seat.port) seat
+abbrev known : List Partition → List Node → List EndPort → EndPlace → SubnetPort
+known partitions nodes all end_place = end_placed nodes (keys_in partitions end_place.port) (lid_of all end_place.port) end_place
 
-abbrev as_port : List Node → List EndPort → Seat × List ℕ → SubnetPort
-as_port nodes all one = seated nodes one.1 (lid_of all one.0.port) one.0
+abbrev as_port : List Node → List EndPort → EndPlace × List ℕ → SubnetPort
+as_port nodes all one = end_placed nodes one.1 (lid_of all one.0.port) one.0
 
-same_ports : (partitions : List Partition) (nodes : List Node) (all : List EndPort) (some : List Seat)
+same_ports : (partitions : List Partition) (nodes : List Node) (all : List EndPort) (some : List EndPlace)
     → map (as_port nodes all) (keyed partitions some) ≡ map (known partitions nodes all) some
 same_ports partitions nodes all [] = refl
-same_ports partitions nodes all (seat ∷ some) = ap (λ (rest : List SubnetPort). known partitions nodes all seat ∷ rest) (same_ports partitions nodes all some)
+same_ports partitions nodes all (end_place ∷ some) = ap (λ (rest : List SubnetPort). known partitions nodes all end_place ∷ rest) (same_ports partitions nodes all some)
 
 with_port_moves : (ports : List SubnetPort) (port : SubnetPort) → IsPermutation (port ∷ ports) (with_port ports port)
 with_port_moves ports port =
     subst (λ (q : List SubnetPort). IsPermutation (port ∷ ports) q) (insert_in_order ports port)
     (IsPermutation-insert ports _ port)
 
-order_moves : (nodes : List Node) (all : List EndPort) (some : List (Seat × List ℕ)) (ports : List SubnetPort)
-    → IsPermutation (ports ++ map (as_port nodes all) some) (fold (with_seat nodes all) ports some)
+order_moves : (nodes : List Node) (all : List EndPort) (some : List (EndPlace × List ℕ)) (ports : List SubnetPort)
+    → IsPermutation (ports ++ map (as_port nodes all) some) (fold (with_end_place nodes all) ports some)
 order_moves nodes all [] ports = subst (λ (q : List SubnetPort). IsPermutation q ports) (sym (append-nil ports)) (IsPermutation-refl ports)
 order_moves nodes all (one ∷ some) ports =
     let port = as_port nodes all one in
     let rest = map (as_port nodes all) some in
-    IsPermutation-trans (ports ++ port ∷ rest) (with_port ports port ++ rest) (fold (with_seat nodes all) (with_port ports port) some)
+    IsPermutation-trans (ports ++ port ∷ rest) (with_port ports port ++ rest) (fold (with_end_place nodes all) (with_port ports port) some)
     (IsPermutation-trans (ports ++ port ∷ rest) (port ∷ (ports ++ rest)) (with_port ports port ++ rest)
     (IsPermutation-middle ports port rest)
     (IsPermutation-append_left rest (port ∷ ports) (with_port ports port) (with_port_moves ports port)))
@@ -229,7 +229,7 @@ rises_with (first ∷ rest) port h = elim (cases_Bool (nat_le first.lid port.lid
       )
 ]
 
-rises_all : (nodes : List Node) (all : List EndPort) (some : List (Seat × List ℕ)) (ports : List SubnetPort) → Rises ports → Rises (fold (with_seat nodes all) ports some)
+rises_all : (nodes : List Node) (all : List EndPort) (some : List (EndPlace × List ℕ)) (ports : List SubnetPort) → Rises ports → Rises (fold (with_end_place nodes all) ports some)
 rises_all nodes all [] ports h = h
 rises_all nodes all (one ∷ some) ports h = rises_all nodes all some (with_port ports (as_port nodes all one)) (rises_with ports (as_port nodes all one) h)
 
@@ -265,47 +265,47 @@ numbered first (port ∷ ports) up own h =
     (both_all (λ b. (port.lid ≤ b.lid) × (same_lid port b ≡ false)) (λ b. b.lid ≡ first + lower (port ∷ ports) b) ports above later) in
     rw here (ap (λ rest. first ∷ rest) (numbered (first + 1) ports up.1 own.1 next))
 
--- ---- the ports of the seats
-distinct_lids : (partitions : List Partition) (nodes : List Node) (all : List EndPort) (some : List Seat) → sm_count all ≡ 1
-    → AllByRecursion (λ (seat : Seat). IsThere all seat.port) some
+-- ---- the ports of the end_places
+distinct_lids : (partitions : List Partition) (nodes : List Node) (all : List EndPort) (some : List EndPlace) → sm_count all ≡ 1
+    → AllByRecursion (λ (end_place : EndPlace). IsThere all end_place.port) some
     → IsDistinct same_key some → IsDistinct same_lid (map (known partitions nodes all) some)
 unfolding IsDistinct
 distinct_lids partitions nodes all [] one there d = tt
-distinct_lids partitions nodes all (seat ∷ some) one there d = (beside some there.1 d.0, distinct_lids partitions nodes all some one there.1 d.1)
+distinct_lids partitions nodes all (end_place ∷ some) one there d = (beside some there.1 d.0, distinct_lids partitions nodes all some one there.1 d.1)
   where
-    beside : (others : List Seat) → AllByRecursion (λ (b : Seat). IsThere all b.port) others → AllByRecursion (λ b. same_key seat b ≡ false) others
-        → AllByRecursion (λ b. same_lid (known partitions nodes all seat) b ≡ false) (map (known partitions nodes all) others)
+    beside : (others : List EndPlace) → AllByRecursion (λ (b : EndPlace). IsThere all b.port) others → AllByRecursion (λ b. same_key end_place b ≡ false) others
+        → AllByRecursion (λ b. same_lid (known partitions nodes all end_place) b ≡ false) (map (known partitions nodes all) others)
     beside [] t k = tt
-    beside (b ∷ others) t k = (lids_differ all seat.port b.port one there.0 t.0 k.0, beside others t.1 k.1)
+    beside (b ∷ others) t k = (lids_differ all end_place.port b.port one there.0 t.0 k.0, beside others t.1 k.1)
 
-distinct_guids : (partitions : List Partition) (nodes : List Node) (all : List EndPort) (some : List Seat) → IsDistinct one_guid some
+distinct_guids : (partitions : List Partition) (nodes : List Node) (all : List EndPort) (some : List EndPlace) → IsDistinct one_guid some
     → IsDistinct same_guid (map (known partitions nodes all) some)
 unfolding IsDistinct
 distinct_guids partitions nodes all [] d = tt
-distinct_guids partitions nodes all (seat ∷ some) d = (beside some d.0, distinct_guids partitions nodes all some d.1)
+distinct_guids partitions nodes all (end_place ∷ some) d = (beside some d.0, distinct_guids partitions nodes all some d.1)
   where
-    beside : (others : List Seat) → AllByRecursion (λ b. one_guid seat b ≡ false) others
-        → AllByRecursion (λ b. same_guid (known partitions nodes all seat) b ≡ false) (map (known partitions nodes all) others)
+    beside : (others : List EndPlace) → AllByRecursion (λ b. one_guid end_place b ≡ false) others
+        → AllByRecursion (λ b. same_guid (known partitions nodes all end_place) b ≡ false) (map (known partitions nodes all) others)
     beside [] k = tt
     beside (b ∷ others) k = (k.0, beside others k.1)
 
-lower_count : (partitions : List Partition) (nodes : List Node) (all : List EndPort) (port : EndPort) (some : List Seat) → sm_count all ≡ 1
-    → AllByRecursion (λ (seat : Seat). IsThere all seat.port) some
+lower_count : (partitions : List Partition) (nodes : List Node) (all : List EndPort) (port : EndPort) (some : List EndPlace) → sm_count all ≡ 1
+    → AllByRecursion (λ (end_place : EndPlace). IsThere all end_place.port) some
     → count_by (λ (other : SubnetPort). nat_lt other.lid (lid_of all port)) (map (known partitions nodes all) some) ≡ count_by (λ other. nat_lt (key other) (key port)) (end_ports some)
 lower_count partitions nodes all port [] one there = refl
-lower_count partitions nodes all port (seat ∷ some) one there =
-    counted (λ (other : SubnetPort). nat_lt other.lid (lid_of all port)) (known partitions nodes all seat) (map (known partitions nodes all) some)
-    ∙ (ap (λ b. cond b 1 0 + count_by (λ (other : SubnetPort). nat_lt other.lid (lid_of all port)) (map (known partitions nodes all) some)) (lid_order all seat.port port one there.0)
-    ∙ (ap (λ n. cond (nat_lt (key seat.port) (key port)) 1 0 + n) (lower_count partitions nodes all port some one there.1)
-    ∙ sym (counted (λ (other : EndPort). nat_lt (key other) (key port)) seat.port (end_ports some))))
+lower_count partitions nodes all port (end_place ∷ some) one there =
+    counted (λ (other : SubnetPort). nat_lt other.lid (lid_of all port)) (known partitions nodes all end_place) (map (known partitions nodes all) some)
+    ∙ (ap (λ b. cond b 1 0 + count_by (λ (other : SubnetPort). nat_lt other.lid (lid_of all port)) (map (known partitions nodes all) some)) (lid_order all end_place.port port one there.0)
+    ∙ (ap (λ n. cond (nat_lt (key end_place.port) (key port)) 1 0 + n) (lower_count partitions nodes all port some one there.1)
+    ∙ sym (counted (λ (other : EndPort). nat_lt (key other) (key port)) end_place.port (end_ports some))))
 
 pub any_map : {X Y : Type 0} (f : X → Y) (p : Y → Bool) (xs : List X) → list_any p (map f xs) ≡ list_any (λ x. p (f x)) xs
 any_map f p [] = refl
 any_map f p (x ∷ xs) = ap (λ b. p (f x) || b) (any_map f p xs)
 
-is_of_seat : (partitions : List Partition) (plan : TopologyState) (all : List EndPort) (seat : Seat) → IsSeat plan seat → IsEndPort partitions plan (known partitions plan.nodes all seat)
-is_of_seat partitions plan all seat h = record {
-  at = place_of seat;
+is_of_end_place : (partitions : List Partition) (plan : TopologyState) (all : List EndPort) (end_place : EndPlace) → IsEndPlace plan end_place → IsEndPort partitions plan (known partitions plan.nodes all end_place)
+is_of_end_place partitions plan all end_place h = record {
+  at = place_of end_place;
   there = h.there;
   guid = ap (λ (port : EndPort). port.guid) h.port;
   node_name = refl;
@@ -316,32 +316,32 @@ is_of_seat partitions plan all seat h = record {
   keys = ap (keys_in partitions) h.port;
 }
 
--- the subnet manager's seat has the GUID of its port
-sm_guid : (plan : TopologyState) (seat : Seat) → IsSeat plan seat → seat.port.is_sm ≡ true → seat.port.guid ≡ port_guid_at plan.nodes plan.sm
-sm_guid plan seat h is =
-    let same : is_same_port (place_of seat) plan.sm ≡ true = sym (ap (λ (port : EndPort). port.is_sm) h.port) ∙ is in
-    let parts = and_parts (seat.place == plan.sm.node) (seat.number == plan.sm.port) same in
-    let node : seat.place ≡ plan.sm.node = eqb-true seat.place plan.sm.node parts.0 in
-    let number : seat.number ≡ plan.sm.port = eqb-true seat.number plan.sm.port parts.1 in
+-- the subnet manager's end_place has the GUID of its port
+sm_guid : (plan : TopologyState) (end_place : EndPlace) → IsEndPlace plan end_place → end_place.port.is_sm ≡ true → end_place.port.guid ≡ port_guid_at plan.nodes plan.sm
+sm_guid plan end_place h is =
+    let same : is_same_port (place_of end_place) plan.sm ≡ true = sym (ap (λ (port : EndPort). port.is_sm) h.port) ∙ is in
+    let parts = and_parts (end_place.place == plan.sm.node) (end_place.number == plan.sm.port) same in
+    let node : end_place.place ≡ plan.sm.node = eqb-true end_place.place plan.sm.node parts.0 in
+    let number : end_place.number ≡ plan.sm.port = eqb-true end_place.number plan.sm.port parts.1 in
     ap (λ (port : EndPort). port.guid) h.port ∙ rw (node, number) refl
 
-guid_there : (plan : TopologyState) (at : PortRef) (seat : Seat) → IsSeat plan seat → is_same_port (place_of seat) at ≡ true → (seat.port.guid == port_guid_at plan.nodes at) ≡ true
-guid_there plan at seat h same =
-    let parts = and_parts (seat.place == at.node) (seat.number == at.port) same in
-    let node : seat.place ≡ at.node = eqb-true seat.place at.node parts.0 in
-    let number : seat.number ≡ at.port = eqb-true seat.number at.port parts.1 in
-    eq-eqb seat.port.guid (port_guid_at plan.nodes at) (ap (λ (port : EndPort). port.guid) h.port ∙ rw (node, number) refl)
+guid_there : (plan : TopologyState) (at : PortRef) (end_place : EndPlace) → IsEndPlace plan end_place → is_same_port (place_of end_place) at ≡ true → (end_place.port.guid == port_guid_at plan.nodes at) ≡ true
+guid_there plan at end_place h same =
+    let parts = and_parts (end_place.place == at.node) (end_place.number == at.port) same in
+    let node : end_place.place ≡ at.node = eqb-true end_place.place at.node parts.0 in
+    let number : end_place.number ≡ at.port = eqb-true end_place.number at.port parts.1 in
+    eq-eqb end_place.port.guid (port_guid_at plan.nodes at) (ap (λ (port : EndPort). port.guid) h.port ∙ rw (node, number) refl)
 
-is_sm_there : (plan : TopologyState) (seat : Seat) → IsSeat plan seat → is_same_port (place_of seat) plan.sm ≡ true → sits_sm seat ≡ true
-is_sm_there plan seat h same = ap (λ (port : EndPort). port.is_sm) h.port ∙ same
+is_sm_there : (plan : TopologyState) (end_place : EndPlace) → IsEndPlace plan end_place → is_same_port (place_of end_place) plan.sm ≡ true → sits_sm end_place ≡ true
+is_sm_there plan end_place h same = ap (λ (port : EndPort). port.is_sm) h.port ∙ same
 
--- what is so of the seats of a sound topology
-pub record AreSeats (plan : TopologyState) (some : List Seat) : Type 0 where
-  pub each : AllByRecursion (IsSeat plan) some
+-- what is so of the end_places of a sound topology
+pub record AreEndPlaces (plan : TopologyState) (some : List EndPlace) : Type 0 where
+  pub each : AllByRecursion (IsEndPlace plan) some
   pub own : IsDistinct one_guid some
-  pub all : (at : PortRef) → is_end_port plan at ≡ true → list_any (λ seat. is_same_port (place_of seat) at) some ≡ true
+  pub all : (at : PortRef) → is_end_port plan at ≡ true → list_any (λ end_place. is_same_port (place_of end_place) at) some ≡ true
   pub one : sm_count (end_ports some) ≡ 1
-  pub there : AllByRecursion (λ (seat : Seat). IsThere (end_ports some) seat.port) some
+  pub there : AllByRecursion (λ (end_place : EndPlace). IsThere (end_ports some) end_place.port) some
 
 pub sm_is_end_port : (plan : TopologyState) → IsSound plan → is_end_port plan plan.sm ≡ true
 sm_is_end_port plan sound =
@@ -354,21 +354,21 @@ sm_port_counts plan sound =
     let parts = and_parts (not (is_switch_at plan.nodes plan.sm.node)) (is_port plan.nodes plan.sm) sound.manager_port in
     leb-true 1 plan.sm.port (and_parts (nat_le 1 plan.sm.port) (nat_le plan.sm.port (ports_at plan.nodes plan.sm.node)) parts.1).0
 
-pub of_sound : (plan : TopologyState) → IsSound plan → AreSeats plan (seats plan)
+pub of_sound : (plan : TopologyState) → IsSound plan → AreEndPlaces plan (end_places plan)
 of_sound plan sound =
-    let each = all_are_seats plan (sm_port_counts plan sound) in
-    let own = seats_are_distinct plan sound.lines.own_guids in
-    let most : count_by sits_sm (seats plan) ≤ 1 =
-    one_at_most (port_guid_at plan.nodes plan.sm) (seats plan) own (each_weaker (IsSeat plan) (λ (b : Seat). b.port.is_sm ≡ true → b.port.guid ≡ port_guid_at plan.nodes plan.sm) (λ b h. sm_guid plan b h) (seats plan) each) in
-    let least : 1 ≤ count_by sits_sm (seats plan) =
-    count_some sits_sm (seats plan) (any_so (IsSeat plan) (λ seat. is_same_port (place_of seat) plan.sm) sits_sm (λ seat h. is_sm_there plan seat h) (seats plan) each (seat_there plan plan.sm (sm_is_end_port plan sound))) in
-    let counted : sm_count (end_ports (seats plan)) ≡ count_by sits_sm (seats plan) = count_ports (λ (port : EndPort). port.is_sm) (seats plan) in
+    let each = all_are_end_places plan (sm_port_counts plan sound) in
+    let own = end_places_are_distinct plan sound.lines.own_guids in
+    let most : count_by sits_sm (end_places plan) ≤ 1 =
+    one_at_most (port_guid_at plan.nodes plan.sm) (end_places plan) own (each_weaker (IsEndPlace plan) (λ (b : EndPlace). b.port.is_sm ≡ true → b.port.guid ≡ port_guid_at plan.nodes plan.sm) (λ b h. sm_guid plan b h) (end_places plan) each) in
+    let least : 1 ≤ count_by sits_sm (end_places plan) =
+    count_some sits_sm (end_places plan) (any_so (IsEndPlace plan) (λ end_place. is_same_port (place_of end_place) plan.sm) sits_sm (λ end_place h. is_sm_there plan end_place h) (end_places plan) each (end_place_there plan plan.sm (sm_is_end_port plan sound))) in
+    let counted : sm_count (end_ports (end_places plan)) ≡ count_by sits_sm (end_places plan) = count_ports (λ (port : EndPort). port.is_sm) (end_places plan) in
     record {
       each = each;
       own = own;
-      all = λ at h. seat_there plan at h;
+      all = λ at h. end_place_there plan at h;
       one = omega arith;
-      there = there_all (end_ports (seats plan)) (seats plan) (λ e. omega arith);
+      there = there_all (end_ports (end_places plan)) (end_places plan) (λ e. omega arith);
     }
 
 -- what is so of their ports, in whatever order
@@ -405,15 +405,15 @@ any_moved p xs ys moved h =
 
 pub end_ports_stand_in_order : (partitions : List Partition) (plan : TopologyState) → IsSound plan → AreEndPorts partitions plan (ports_of partitions plan)
 end_ports_stand_in_order partitions plan sound =
-    let some = seats plan in
+    let some = end_places plan in
     let all = end_ports some in
     let so = of_sound plan sound in
     let unsorted = map (known partitions plan.nodes all) some in
     let ports = ports_of partitions plan in
     let moved : IsPermutation unsorted ports =
     subst (λ (q : List SubnetPort). IsPermutation q ports) (same_ports partitions plan.nodes all some) (order_moves plan.nodes all (keyed partitions some) []) in
-    let there : All (λ (seat : Seat). IsThere all seat.port) some = All-from_recursion (λ (seat : Seat). IsThere all seat.port) some so.there in
-    let each : All (IsSeat plan) some = All-from_recursion (IsSeat plan) some so.each in
+    let there : All (λ (end_place : EndPlace). IsThere all end_place.port) some = All-from_recursion (λ (end_place : EndPlace). IsThere all end_place.port) some so.there in
+    let each : All (IsEndPlace plan) some = All-from_recursion (IsEndPlace plan) some so.each in
     let keys = own_keys some so.own (let counted = count_ports (λ (port : EndPort). port.is_sm) some in let one = so.one in omega arith) in
     let own_lids : IsDistinct same_lid ports = IsDistinct-IsPermutation same_lid (λ a b. same_either_way a.lid b.lid) unsorted ports moved (distinct_lids partitions plan.nodes all some so.one so.there keys) in
     let ranks : All (λ port. port.lid ≡ 1 + lower unsorted port) unsorted =
@@ -427,17 +427,17 @@ end_ports_stand_in_order partitions plan sound =
       lids = numbered 1 ports (rises_all plan.nodes all (keyed partitions some) [] tt) own_lids ranks_there;
       manager = All-permutation (λ port. port.lid ≡ 1 → port.guid ≡ port_guid_at plan.nodes plan.sm) unsorted ports moved
           (All-map (λ port. port.lid ≡ 1 → port.guid ≡ port_guid_at plan.nodes plan.sm) (known partitions plan.nodes all) some
-          (All-weaker (IsSeat plan) (λ (seat : Seat). lid_of all seat.port ≡ 1 → seat.port.guid ≡ port_guid_at plan.nodes plan.sm) (λ seat h e. sm_guid plan seat h (lid_one all seat.port e)) some each));
+          (All-weaker (IsEndPlace plan) (λ (end_place : EndPlace). lid_of all end_place.port ≡ 1 → end_place.port.guid ≡ port_guid_at plan.nodes plan.sm) (λ end_place h e. sm_guid plan end_place h (lid_one all end_place.port e)) some each));
       by_guid = All-permutation (λ a. All (λ b. 1 < a.lid → a.lid < b.lid → a.guid < b.guid) ports) unsorted ports moved
           (All-map (λ a. All (λ b. 1 < a.lid → a.lid < b.lid → a.guid < b.guid) ports) (known partitions plan.nodes all) some
-          (All-weaker (λ (seat : Seat). IsThere all seat.port) (λ (seat : Seat). All (λ b. 1 < lid_of all seat.port → lid_of all seat.port < b.lid → seat.port.guid < b.guid) ports)
-          (λ seat h. All-permutation (λ b. 1 < lid_of all seat.port → lid_of all seat.port < b.lid → seat.port.guid < b.guid) unsorted ports moved
-          (All-map (λ b. 1 < lid_of all seat.port → lid_of all seat.port < b.lid → seat.port.guid < b.guid) (known partitions plan.nodes all) some
-          (λ i d within. λ high less. guid_order all seat.port (slice_index_or some i d).port so.one h high less))) some there));
+          (All-weaker (λ (end_place : EndPlace). IsThere all end_place.port) (λ (end_place : EndPlace). All (λ b. 1 < lid_of all end_place.port → lid_of all end_place.port < b.lid → end_place.port.guid < b.guid) ports)
+          (λ end_place h. All-permutation (λ b. 1 < lid_of all end_place.port → lid_of all end_place.port < b.lid → end_place.port.guid < b.guid) unsorted ports moved
+          (All-map (λ b. 1 < lid_of all end_place.port → lid_of all end_place.port < b.lid → end_place.port.guid < b.guid) (known partitions plan.nodes all) some
+          (λ i d within. λ high less. guid_order all end_place.port (slice_index_or some i d).port so.one h high less))) some there));
       only = All-permutation (IsEndPort partitions plan) unsorted ports moved
-          (All-map (IsEndPort partitions plan) (known partitions plan.nodes all) some (All-weaker (IsSeat plan) (λ seat. IsEndPort partitions plan (known partitions plan.nodes all seat)) (λ seat h. is_of_seat partitions plan all seat h) some each));
+          (All-map (IsEndPort partitions plan) (known partitions plan.nodes all) some (All-weaker (IsEndPlace plan) (λ end_place. IsEndPort partitions plan (known partitions plan.nodes all end_place)) (λ end_place h. is_of_end_place partitions plan all end_place h) some each));
       all = λ at h. any_moved (λ port. port.guid == port_guid_at plan.nodes at) unsorted ports moved
           (any_map (known partitions plan.nodes all) (λ port. port.guid == port_guid_at plan.nodes at) some
-          ∙ any_so (IsSeat plan) (λ seat. is_same_port (place_of seat) at) (λ (seat : Seat). seat.port.guid == port_guid_at plan.nodes at) (λ seat k. guid_there plan at seat k) some so.each (so.all at h));
+          ∙ any_so (IsEndPlace plan) (λ end_place. is_same_port (place_of end_place) at) (λ (end_place : EndPlace). end_place.port.guid == port_guid_at plan.nodes at) (λ end_place k. guid_there plan at end_place k) some so.each (so.all at h));
       own_guids = IsDistinct-IsPermutation same_guid (λ a b. same_either_way a.guid b.guid) unsorted ports moved (distinct_guids partitions plan.nodes all some so.own);
     }

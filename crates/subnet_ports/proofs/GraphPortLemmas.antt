@@ -4,7 +4,7 @@ use Rattle.std.proofs.Common.{List, [], ◌∷◌, map, get_or, drop, length, Al
 use Rattle.std.specs.List.{AllByRecursion, Contains, enumerate_from, list_any, position_or_len, range_with_len}
 use Rattle.std.proofs.lemmas.Bool.{eqb-true, false≢true}
 use Rattle.std.proofs.lemmas.List.Elements.{All-contains, All-from_recursion, recursion_from_All}
-use Rattle.std.proofs.lemmas.Bool.Decides.{nat_tests}
+use Rattle.std.proofs.lemmas.Bool.Decides.{nat_tests, same_from_decides}
 use Rattle.std.proofs.lemmas.List.Folds.{list_any-append}
 use Rattle.std.proofs.lemmas.Map.Keys.{IsDistinct-head}
 use Rattle.std.proofs.lemmas.Option.{same_Some}
@@ -12,11 +12,11 @@ use Rattle.fabric_parts.specs.declared.cable.PortRef.{PortRef}
 use Rattle.fabric_parts.specs.NodeType.{is_switch_type}
 use Rattle.fabric_wire.proofs.OfTopologyGoodLemmas.{good}
 use Rattle.fabric_wire.specs.OfTopology.{fabric_of}
-use Rattle.result_words.proofs.RisingLemmas.{Rises, rises, same_rising}
+use Rattle.step_results.proofs.RisingLemmas.{Rises, rises, same_rising}
 use Rattle.lid_assign.specs.Lids.{AreLids, adapter_end, end_ports, lid_in, switch_end}
 use Rattle.partition_file.specs.declared.partition.Partition.{Partition}
 use Rattle.pkey_rules.specs.declared.end_port.EndPort.{EndPort}
-use Rattle.result_words.proofs.PlaceLemmas.{list_any_place}
+use Rattle.step_results.proofs.PlaceLemmas.{list_any_place}
 use Rattle.subnet_model.specs.declared.subnet_port.SubnetPort.{SubnetPort}
 use Rattle.subnet_model.specs.EndPorts.{lid_of}
 use Rattle.sweep.proofs.EndPortLemmas.{graphs_have_the_end_ports, manager_end, stands, there_is}
@@ -121,18 +121,14 @@ any_end graph guid =
     (any_map (adapter_end graph.manager) (λ (port : EndPort). port.guid == guid) graph.ports ∙ sym (any_map end_of_adapter (λ (end : FabricPort). end.guid == guid) graph.ports))
     ∙ sym (list_any-append (λ (end : FabricPort). end.guid == guid) (map end_of_switch graph.switches) (map end_of_adapter graph.ports))
 
-same_bool : (a b : Bool) → (a ≡ true → b ≡ true) → (b ≡ true → a ≡ true) → a ≡ b
-same_bool true b to from = sym (to refl)
-same_bool false true to from = from refl
-same_bool false false to from = refl
-
 -- a GUID has a LID exactly where an end port of the graph has it
 with_lid : (graph : GraphState) (guids : List ℕ) (guid : ℕ) → AreLids (end_ports graph) guids
     → has_guid guid guids ≡ list_any (λ (end : FabricPort). end.guid == guid) (end_ports_in graph)
 with_lid graph guids guid are =
-    same_bool (has_guid guid guids) (list_any (λ (port : EndPort). port.guid == guid) (end_ports graph))
-    (λ has. only (list_any (λ (port : EndPort). port.guid == guid) (end_ports graph)) refl has)
-    (λ any. each (any_at (λ (port : EndPort). port.guid == guid) (end_ports graph) any))
+    same_from_decides (has_guid guid guids) (list_any (λ (port : EndPort). port.guid == guid) (end_ports graph)) (
+      λ has. only (list_any (λ (port : EndPort). port.guid == guid) (end_ports graph)) refl has,
+      λ any. each (any_at (λ (port : EndPort). port.guid == guid) (end_ports graph) any),
+    ) (λ any. any, λ any. any)
     ∙ any_end graph guid
   where
     is_it : ℕ → Bool
@@ -180,7 +176,8 @@ same_guids : (partitions : List Partition) (plan : TopologyState) (graph : Graph
     → has_guid guid (guids_of ports) ≡ list_any (λ (end : FabricPort). end.guid == guid) (end_ports_in graph)
 same_guids partitions plan graph ports guid sound is are =
     any_map (λ (port : SubnetPort). port.guid) (λ other. other == guid) ports
-    ∙ same_bool (list_any (λ (port : SubnetPort). port.guid == guid) ports) (list_any (λ (end : FabricPort). end.guid == guid) (end_ports_in graph)) to from
+    ∙ same_from_decides (list_any (λ (port : SubnetPort). port.guid == guid) ports) (list_any (λ (end : FabricPort). end.guid == guid) (end_ports_in graph)) (to, from)
+    (λ any. any, λ any. any)
   where
     law : (end : FabricPort) → Contains (end_ports_in graph) end ↔ ((at : PortRef) × (end_port_in (fabric_of plan) at ≡ Some end))
     law end = graphs_have_the_end_ports (fabric_of plan) graph end (good plan sound) is

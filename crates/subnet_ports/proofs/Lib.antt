@@ -1,4 +1,4 @@
-pub mod SeatLemmas
+pub mod EndPlaceLemmas
 pub mod PortLemmas
 pub mod EndPortLemmas
 pub mod FabricPortLemmas

@@ -8,7 +8,7 @@ use Rattle.std.specs.declared.cmp.Ordering.TheVariants.{Less}
 use Rattle.std.proofs.lemmas.Bool.Decides.{nat_tests}
 use Rattle.subnet_model.specs.declared.subnet_port.SubnetPort.{SubnetPort}
 use Rattle.subnet_model.specs.Source.{same_lid}
-use Rattle.result_words.proofs.ElementLemmas.{each_weaker}
+use Rattle.step_results.proofs.ElementLemmas.{each_weaker}
 
 lids_from : (first : ℕ) (ports : List SubnetPort) → map (λ port. port.lid) ports ≡ range_with_len first (length ports) → AllByRecursion (λ b. first ≤ b.lid) ports
 lids_from first [] h = tt

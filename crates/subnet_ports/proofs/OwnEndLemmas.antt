@@ -8,17 +8,17 @@ use Rattle.std.proofs.lemmas.Option.{none-some, same_Some}
 use Rattle.fabric_parts.specs.Cable.{is_same_port}
 use Rattle.fabric_parts.specs.declared.cable.PortRef.{PortRef}
 use Rattle.pkey_rules.specs.declared.end_port.EndPort.{EndPort}
-use Rattle.result_words.proofs.ListLemmas.{all_have}
+use Rattle.step_results.proofs.ListLemmas.{all_have}
 use Rattle.smp_wire.proofs.CableLemmas.{same_port}
 use Rattle.sweep.proofs.FoundLemmas.{any_at}
 use Rattle.topo_file.specs.Node.{port_guid_at}
 use Rattle.topo_file.specs.Sound.{IsSound}
 use Rattle.topo_file.specs.Topology.{TopologyState}
 use Rattle.subnet_ports.proofs.EndPortLemmas.{of_sound}
-use Rattle.subnet_ports.proofs.SeatLemmas.{IsSeat, one_guid, place_of}
+use Rattle.subnet_ports.proofs.EndPlaceLemmas.{IsEndPlace, one_guid, place_of}
 use Rattle.subnet_ports.specs.EndPorts.{is_end_port}
-use Rattle.subnet_ports.specs.Ports.{seats}
-use Rattle.subnet_ports.specs.declared.end_ports.Seat.{Seat}
+use Rattle.subnet_ports.specs.Ports.{end_places}
+use Rattle.subnet_ports.specs.declared.end_ports.EndPlace.{EndPlace}
 
 -- what is so of each is so of one of them
 all_at : {X : Type 0} (P : X → Type 0) (xs : List X) (k : ℕ) (x : X) → AllByRecursion P xs → slice_get xs k ≡ Some x → P x
@@ -37,36 +37,36 @@ one_place same (z ∷ xs) (suc i) zero x y own here there to fro =
     absurd (false≢true (sym apart ∙ ap (λ z. same z x) (same_Some z y there) ∙ fro))
 one_place same (z ∷ xs) (suc i) (suc j) x y own here there to fro = ap suc (one_place same xs i j x y (IsDistinct-tail same z xs own) here there to fro)
 
--- the seat of an end port
-record IsSeatOf (plan : TopologyState) (at : PortRef) : Type 0 where
+-- the end_place of an end port
+record IsEndPlaceOf (plan : TopologyState) (at : PortRef) : Type 0 where
   place : ℕ
-  seat : Seat
-  there : slice_get (seats plan) place ≡ Some seat
-  is : place_of seat ≡ at
-  guid : seat.port.guid ≡ port_guid_at plan.nodes at
+  end_place : EndPlace
+  there : slice_get (end_places plan) place ≡ Some end_place
+  is : place_of end_place ≡ at
+  guid : end_place.port.guid ≡ port_guid_at plan.nodes at
 
-seat_of : (plan : TopologyState) (at : PortRef) → IsSound plan → is_end_port plan at ≡ true → IsSeatOf plan at
-seat_of plan at sound there =
+end_place_of : (plan : TopologyState) (at : PortRef) → IsSound plan → is_end_port plan at ≡ true → IsEndPlaceOf plan at
+end_place_of plan at sound there =
     let are = of_sound plan sound in
-    let found = any_at (λ seat. is_same_port (place_of seat) at) (seats plan) (are.all at there) in
+    let found = any_at (λ end_place. is_same_port (place_of end_place) at) (end_places plan) (are.all at there) in
     let is = same_port (place_of found.one) at found.passes in
-    let seat = all_at (IsSeat plan) (seats plan) found.place found.one are.each found.there in
+    let end_place = all_at (IsEndPlace plan) (end_places plan) found.place found.one are.each found.there in
     record {
       place = found.place;
-      seat = found.one;
+      end_place = found.one;
       there = found.there;
       is = is;
-      guid = ap (λ (port : EndPort). port.guid) seat.port ∙ ap (port_guid_at plan.nodes) is;
+      guid = ap (λ (port : EndPort). port.guid) end_place.port ∙ ap (port_guid_at plan.nodes) is;
     }
 
 pub one_end : (plan : TopologyState) (a b : PortRef) → IsSound plan → is_end_port plan a ≡ true → is_end_port plan b ≡ true
     → port_guid_at plan.nodes a ≡ port_guid_at plan.nodes b → a ≡ b
 one_end plan a b sound here there same =
-    let one = seat_of plan a sound here in
-    let other = seat_of plan b sound there in
-    let guid : one.seat.port.guid ≡ other.seat.port.guid = one.guid ∙ same ∙ sym other.guid in
+    let one = end_place_of plan a sound here in
+    let other = end_place_of plan b sound there in
+    let guid : one.end_place.port.guid ≡ other.end_place.port.guid = one.guid ∙ same ∙ sym other.guid in
     let place =
-    one_place one_guid (seats plan) one.place other.place one.seat other.seat (of_sound plan sound).own one.there other.there
-    (eq-eqb one.seat.port.guid other.seat.port.guid guid) (eq-eqb other.seat.port.guid one.seat.port.guid (sym guid)) in
-    let seat = same_Some one.seat other.seat (sym one.there ∙ ap (slice_get (seats plan)) place ∙ other.there) in
-    sym one.is ∙ ap place_of seat ∙ other.is
+    one_place one_guid (end_places plan) one.place other.place one.end_place other.end_place (of_sound plan sound).own one.there other.there
+    (eq-eqb one.end_place.port.guid other.end_place.port.guid guid) (eq-eqb other.end_place.port.guid one.end_place.port.guid (sym guid)) in
+    let end_place = same_Some one.end_place other.end_place (sym one.there ∙ ap (slice_get (end_places plan)) place ∙ other.there) in
+    sym one.is ∙ ap place_of end_place ∙ other.is

@@ -13,49 +13,49 @@ use Rattle.fabric_parts.specs.declared.node_type.NodeType.{NodeType}
 use Rattle.fabric_parts.specs.declared.node_type.NodeType.TheVariants.{ChannelAdapter, Switch}
 use Rattle.fabric_parts.specs.Cable.{is_cabled, is_same_port}
 use Rattle.topo_file.specs.declared.node.Node.{Node}
-use Rattle.subnet_ports.specs.declared.end_ports.Seat.{Seat}
+use Rattle.subnet_ports.specs.declared.end_ports.EndPlace.{EndPlace}
 use Rattle.topo_file.specs.Node.{name_at, port_guid, ports_at}
 use Rattle.topo_file.specs.Topology.{TopologyState}
 
 -- port 0 of a switch, which has the GUID of the switch
-abbrev pub switch_seat : ℕ → Node → Seat
-switch_seat place node = record {
+abbrev pub switch_end_place : ℕ → Node → EndPlace
+switch_end_place place node = record {
   place = place;
   number = 0;
   port = record { guid = node.guid; is_switch = true; is_sm = false };
 }
 
 -- a port of an adapter, which has a GUID of its own
-abbrev pub adapter_seat : PortRef → Node → PortRef → Seat
-adapter_seat sm node at = record {
+abbrev pub adapter_end_place : PortRef → Node → PortRef → EndPlace
+adapter_end_place sm node at = record {
   place = at.node;
   number = at.port;
   port = record { guid = port_guid node at.port; is_switch = false; is_sm = is_same_port at sm };
 }
 
 -- a port of an adapter is an end port if it has a cable
-abbrev pub seat_if_cabled : TopologyState → Node → PortRef → List Seat
-seat_if_cabled plan node at = if is_cabled plan.cables at then adapter_seat plan.sm node at ∷ [] else []
+abbrev pub end_place_if_cabled : TopologyState → Node → PortRef → List EndPlace
+end_place_if_cabled plan node at = if is_cabled plan.cables at then adapter_end_place plan.sm node at ∷ [] else []
 
-abbrev pub adapter_seats : TopologyState → ℕ → Node → ℕ → List Seat
-adapter_seats plan place node count =
-    flat_map (seat_if_cabled plan node)
+abbrev pub adapter_end_places : TopologyState → ℕ → Node → ℕ → List EndPlace
+adapter_end_places plan place node count =
+    flat_map (end_place_if_cabled plan node)
     (map (λ number. record { node = place; port = number }) (range_with_len 1 count))
 
-abbrev pub seats_of_type : NodeType → TopologyState → ℕ → Node → List Seat
-seats_of_type Switch plan place node = switch_seat place node ∷ []
-seats_of_type ChannelAdapter plan place node = adapter_seats plan place node node.ports
+abbrev pub end_places_of_type : NodeType → TopologyState → ℕ → Node → List EndPlace
+end_places_of_type Switch plan place node = switch_end_place place node ∷ []
+end_places_of_type ChannelAdapter plan place node = adapter_end_places plan place node node.ports
 
 -- the end ports of the node at its place
-abbrev pub seats_at : TopologyState → ℕ × Node → List Seat
-seats_at plan placed = seats_of_type placed.1.node_type plan placed.0 placed.1
+abbrev pub end_places_at : TopologyState → ℕ × Node → List EndPlace
+end_places_at plan placed = end_places_of_type placed.1.node_type plan placed.0 placed.1
 
 -- the end ports of all nodes, one node after the other
-abbrev pub seats : TopologyState → List Seat
-seats plan = flat_map (seats_at plan) (enumerate_from 0 plan.nodes)
+abbrev pub end_places : TopologyState → List EndPlace
+end_places plan = flat_map (end_places_at plan) (enumerate_from 0 plan.nodes)
 
-abbrev pub end_ports : List Seat → List EndPort
-end_ports all = map (λ seat. seat.port) all
+abbrev pub end_ports : List EndPlace → List EndPort
+end_ports all = map (λ end_place. end_place.port) all
 
 abbrev pub type_of : Bool → NodeType
 type_of true = Switch
@@ -65,15 +65,15 @@ abbrev pub guid_at : List Node → ℕ → ℕ
 guid_at nodes place = option_map_or (λ node. node.guid) (slice_get nodes place) 0
 
 -- an end port as the subnet knows it
-abbrev pub seated : List Node → List ℕ → ℕ → Seat → SubnetPort
-seated nodes keys lid seat = record {
+abbrev pub end_placed : List Node → List ℕ → ℕ → EndPlace → SubnetPort
+end_placed nodes keys lid end_place = record {
   lid = lid;
-  guid = seat.port.guid;
-  node_name = name_at nodes seat.place;
-  node_guid = guid_at nodes seat.place;
-  num_ports = ports_at nodes seat.place;
-  number = seat.number;
-  node_type = type_of seat.port.is_switch;
+  guid = end_place.port.guid;
+  node_name = name_at nodes end_place.place;
+  node_guid = guid_at nodes end_place.place;
+  num_ports = ports_at nodes end_place.place;
+  number = end_place.number;
+  node_type = type_of end_place.port.is_switch;
   keys = keys;
 }
 
@@ -84,20 +84,20 @@ with_port (first ∷ rest) port =
     if nat_le first.lid port.lid then first ∷ with_port rest port else port ∷ first ∷ rest
 
 -- each end port beside the keys that the partitions give it
-abbrev pub keyed : List Partition → List Seat → List (Seat × List ℕ)
-keyed partitions some = map (λ seat. (seat, keys_in partitions seat.port)) some
+abbrev pub keyed : List Partition → List EndPlace → List (EndPlace × List ℕ)
+keyed partitions some = map (λ end_place. (end_place, keys_in partitions end_place.port)) some
 
 -- one more end port, with its LID and its keys
-abbrev pub with_seat : List Node → List EndPort → List SubnetPort → Seat × List ℕ → List SubnetPort
-with_seat nodes all ports one = with_port ports (seated nodes one.1 (lid_of all one.0.port) one.0)
+abbrev pub with_end_place : List Node → List EndPort → List SubnetPort → EndPlace × List ℕ → List SubnetPort
+with_end_place nodes all ports one = with_port ports (end_placed nodes one.1 (lid_of all one.0.port) one.0)
 
 -- all of them, in order of LID
-abbrev pub in_order : List Node → List EndPort → List (Seat × List ℕ) → List SubnetPort
-in_order nodes all some = fold (with_seat nodes all) [] some
+abbrev pub in_order : List Node → List EndPort → List (EndPlace × List ℕ) → List SubnetPort
+in_order nodes all some = fold (with_end_place nodes all) [] some
 
 -- the end ports of a topology under these partitions
 abbrev pub ports_of : List Partition → TopologyState → List SubnetPort
-ports_of partitions plan = in_order plan.nodes (end_ports (seats plan)) (keyed partitions (seats plan))
+ports_of partitions plan = in_order plan.nodes (end_ports (end_places plan)) (keyed partitions (end_places plan))
 
 -- and what a subnet is brought up as
 abbrev pub configuration_of : List Partition → TopologyState → ConfigurationState

@@ -5,7 +5,7 @@ ghost use Rattle.std.specs.List.{prefix_len, zip};
 ghost use Rattle.topo_file.specs.Node.{HasGuids, port_guid, ports_at};
 ghost use Rattle.fabric_parts.specs.declared.limits.TheConstants.{SWITCHES, ADAPTER_PORTS};
 ghost use Rattle.subnet_ports.specs.EndPorts.{AreEndPorts};
-ghost use Rattle.subnet_ports.specs.Ports.{switch_seat, adapter_seat, seat_if_cabled, adapter_seats, seats_of_type, seats, end_ports, type_of, guid_at, seated, with_port, with_seat, in_order, configuration_of};
+ghost use Rattle.subnet_ports.specs.Ports.{switch_end_place, adapter_end_place, end_place_if_cabled, adapter_end_places, end_places_of_type, end_places, end_ports, type_of, guid_at, end_placed, with_port, with_end_place, in_order, configuration_of};
 ghost use Rattle.subnet_model.specs.Configured.{IsConfigured};
 ghost use Rattle.subnet_model.specs.EndPorts.{lid_of};
 
@@ -18,7 +18,7 @@ use topo_file::{Node, Topology, name_at, ports_at};
 
 /// Where an end port stands: the place of its node in the topology, and its number there.
 #[derive(Clone, Copy)]
-pub(crate) struct Seat {
+pub(crate) struct EndPlace {
     place: usize,
     number: u8,
     port: EndPort,
@@ -37,47 +37,47 @@ pub fn configuration_of(
     ensures configured { IfOk result IsConfigured }
 {
     topology.known_sound();
-    let seats = seats(alloc, topology)?;
-    let all = end_ports(alloc, &seats)?;
+    let end_places = end_places(alloc, topology)?;
+    let all = end_ports(alloc, &end_places)?;
     let (headings, keys) = members(alloc, partitions, &all)?.into_parts();
-    let ports = in_order(alloc, topology.nodes(), &all, &seats, keys)?;
+    let ports = in_order(alloc, topology.nodes(), &all, &end_places, keys)?;
     Ok(Configuration::new(ports, headings))
 }
 
-fn seats(alloc: Global, topology: &Topology) -> Result<Vec<Seat>, AllocError>
-    ensures value { IfOk result (λ all. all.items ≡ seats topology.now) }
+fn end_places(alloc: Global, topology: &Topology) -> Result<Vec<EndPlace>, AllocError>
+    ensures value { IfOk result (λ all. all.items ≡ end_places topology.now) }
     ensures few { IfOk result (λ all. length all.items ≤ SWITCHES + ADAPTER_PORTS) }
 {
     let mut all = Vec::new(alloc);
     for (place, node) in topology.nodes().iter().enumerate() {
-        push_seats(&mut all, topology, place, node)?;
+        push_end_places(&mut all, topology, place, node)?;
     }
     Ok(all)
 }
 
-fn push_seats(
-    all: &mut Vec<Seat>,
+fn push_end_places(
+    all: &mut Vec<EndPlace>,
     topology: &Topology,
     place: usize,
     node: &Node,
 ) -> Result<(), AllocError>
     requires { HasGuids node.now }
     ensures { OnOk result (all.new.items
-        ≡ all.old.items ++ seats_of_type node.now.node_type topology.now place node.now) }
+        ≡ all.old.items ++ end_places_of_type node.now.node_type topology.now place node.now) }
 {
     match node.node_type {
         NodeType::Switch => {
-            all.push(switch_seat(place, node))?;
+            all.push(switch_end_place(place, node))?;
             Ok(())
         }
-        NodeType::ChannelAdapter => push_adapter_seats(all, topology, place, node),
+        NodeType::ChannelAdapter => push_adapter_end_places(all, topology, place, node),
     }
 }
 
-fn switch_seat(place: usize, node: &Node) -> Seat
-    ensures { result ≡ switch_seat place node.now }
+fn switch_end_place(place: usize, node: &Node) -> EndPlace
+    ensures { result ≡ switch_end_place place node.now }
 {
-    Seat {
+    EndPlace {
         place,
         number: 0,
         port: EndPort {
@@ -88,15 +88,15 @@ fn switch_seat(place: usize, node: &Node) -> Seat
     }
 }
 
-fn push_adapter_seats(
-    all: &mut Vec<Seat>,
+fn push_adapter_end_places(
+    all: &mut Vec<EndPlace>,
     topology: &Topology,
     place: usize,
     node: &Node,
 ) -> Result<(), AllocError>
     requires { port_guid node.now node.now.ports < 2 ^ 64 }
     ensures { OnOk result (all.new.items
-        ≡ all.old.items ++ adapter_seats topology.now place node.now node.now.ports) }
+        ≡ all.old.items ++ adapter_end_places topology.now place node.now node.now.ports) }
 {
     for index in 0..node.ports {
         let at = PortRef {
@@ -109,25 +109,25 @@ fn push_adapter_seats(
 }
 
 fn push_if_cabled(
-    all: &mut Vec<Seat>,
+    all: &mut Vec<EndPlace>,
     topology: &Topology,
     node: &Node,
     at: PortRef,
 ) -> Result<(), AllocError>
     requires { port_guid node.now at.port < 2 ^ 64 }
-    ensures { OnOk result (all.new.items ≡ all.old.items ++ seat_if_cabled topology.now node.now at) }
+    ensures { OnOk result (all.new.items ≡ all.old.items ++ end_place_if_cabled topology.now node.now at) }
 {
     if topology.is_cabled(at) {
-        all.push(adapter_seat(topology.sm(), node, at))?;
+        all.push(adapter_end_place(topology.sm(), node, at))?;
     }
     Ok(())
 }
 
-fn adapter_seat(sm: PortRef, node: &Node, at: PortRef) -> Seat
+fn adapter_end_place(sm: PortRef, node: &Node, at: PortRef) -> EndPlace
     requires { port_guid node.now at.port < 2 ^ 64 }
-    ensures { result ≡ adapter_seat sm node.now at }
+    ensures { result ≡ adapter_end_place sm node.now at }
 {
-    Seat {
+    EndPlace {
         place: at.node,
         number: at.port,
         port: EndPort {
@@ -138,25 +138,28 @@ fn adapter_seat(sm: PortRef, node: &Node, at: PortRef) -> Seat
     }
 }
 
-fn end_ports(alloc: Global, seats: &[Seat]) -> Result<Vec<EndPort>, AllocError>
-    ensures { IfOk result (λ ports. ports.items ≡ end_ports seats.now) }
+fn end_ports(alloc: Global, end_places: &[EndPlace]) -> Result<Vec<EndPort>, AllocError>
+    ensures { IfOk result (λ ports. ports.items ≡ end_ports end_places.now) }
 {
-    seats.iter().map(|seat| seat.port).collect(alloc)
+    end_places
+        .iter()
+        .map(|end_place| end_place.port)
+        .collect(alloc)
 }
 
 fn in_order(
     alloc: Global,
     nodes: &[Node],
     all: &[EndPort],
-    seats: &[Seat],
+    end_places: &[EndPlace],
     keys: Vec<KeyTable<PARTITIONS>>,
 ) -> Result<Vec<SubnetPort>, AllocError>
     requires { length all.now ≤ SWITCHES + ADAPTER_PORTS }
-    ensures { IfOk result (λ ports. ports.items ≡ in_order nodes.now all.now (zip seats.now keys.items)) }
+    ensures { IfOk result (λ ports. ports.items ≡ in_order nodes.now all.now (zip end_places.now keys.items)) }
 {
     let mut ports = Vec::new(alloc);
-    for (seat, held) in seats.iter().zip(keys) {
-        let port = seated(nodes, lid_of(all, &seat.port), seat, held);
+    for (end_place, held) in end_places.iter().zip(keys) {
+        let port = end_placed(nodes, lid_of(all, &end_place.port), end_place, held);
         insert_port(&mut ports, port)?;
     }
     Ok(ports)
@@ -179,17 +182,22 @@ fn place_for(ports: &[SubnetPort], lid: u16) -> usize
     ports.iter().take_while(|other| other.lid <= lid).count()
 }
 
-fn seated(nodes: &[Node], lid: u16, seat: &Seat, keys: KeyTable<PARTITIONS>) -> SubnetPort
-    ensures { result ≡ seated nodes.now keys lid seat.now }
+fn end_placed(
+    nodes: &[Node],
+    lid: u16,
+    end_place: &EndPlace,
+    keys: KeyTable<PARTITIONS>,
+) -> SubnetPort
+    ensures { result ≡ end_placed nodes.now keys lid end_place.now }
 {
     SubnetPort {
         lid,
-        guid: seat.port.guid,
-        node_name: NodeName::new(name_at(nodes, seat.place)),
-        node_guid: guid_at(nodes, seat.place),
-        num_ports: ports_at(nodes, seat.place),
-        number: seat.number,
-        node_type: type_of(seat.port.is_switch),
+        guid: end_place.port.guid,
+        node_name: NodeName::new(name_at(nodes, end_place.place)),
+        node_guid: guid_at(nodes, end_place.place),
+        num_ports: ports_at(nodes, end_place.place),
+        number: end_place.number,
+        node_type: type_of(end_place.port.is_switch),
         keys,
     }
 }

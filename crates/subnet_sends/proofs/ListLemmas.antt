@@ -4,8 +4,8 @@ use Rattle.std.specs.List.{AllByRecursion, Contains}
 use Rattle.std.specs.List.Sorted.{IsStrictlySortedBy}
 use Rattle.std.specs.Ordering.{nat_cmp, on}
 use Rattle.std.specs.declared.cmp.Ordering.TheVariants.{Less}
-use Rattle.packet_ways.specs.Deliveries.{in_order}
-use Rattle.packet_ways.specs.declared.numbers.Numbers.{Numbers}
+use Rattle.delivery_laws.specs.Deliveries.{in_order}
+use Rattle.delivery_laws.specs.declared.numbers.Numbers.{Numbers}
 use Rattle.std.proofs.lemmas.Option.{none-some, same_Some}
 use Rattle.subnet_model.specs.declared.subnet_port.SubnetPort.{SubnetPort}
 

@@ -10,10 +10,10 @@ use Rattle.std.proofs.lemmas.List.{append-nil, append_assoc, map-append}
 use Rattle.std.proofs.lemmas.Option.{none-some, same_Some}
 use Rattle.fabric_parts.specs.Lid.{is_multicast, is_reserved, manager_lid}
 use Rattle.fabric_parts.specs.NodeType.{is_switch_type}
-use Rattle.packet_ways.specs.Deliveries.{DeliveryState}
+use Rattle.delivery_laws.specs.Deliveries.{DeliveryState}
 use Rattle.pkey_rules.specs.KeyTable.{accepts, holds}
 use Rattle.pkey_rules.specs.PKey.{matches}
-use Rattle.result_words.proofs.ListLemmas.{all_have}
+use Rattle.step_results.proofs.ListLemmas.{all_have}
 use Rattle.smp_wire.specs.FabricState.{FabricState}
 use Rattle.subnet_model.proofs.IsolationLemmas.{holder_accepts, matches_either_way}
 use Rattle.subnet_model.specs.Delivery.{manager_key, reaches_joined, refusal_of}
@@ -28,7 +28,7 @@ use Rattle.subnet_sends.specs.Replies.{ComeOfReplies, ComesOfReply, IsRequestOf,
 use Rattle.subnet_sends.specs.Sends.{event_of}
 use Rattle.subnet_sends.specs.declared.event.Event.{Event}
 use Rattle.subnet_sends.proofs.ListLemmas.{found_among}
-use Rattle.subnet_sends.proofs.SendLemmas.{gives, received_is_told}
+use Rattle.subnet_sends.proofs.SendLemmas.{gives, received_is_reported}
 
 -- ---- of ports in order of LID at most one has a LID
 apart : (a b : ℕ) → a ≡ b → nat_cmp a b ≡ Less → ⊥
@@ -176,24 +176,24 @@ module _ (ports : List SubnetPort) (receives : ℕ → ℕ → Bool) (fabric : F
   accepted : accepts key own.keys ≡ true
   accepted = holder_accepts request.packet.p_key key own.keys asks.held (matches_either_way request.packet.p_key key ∙ held.2)
 
-  reply_is_told : (events : List Event) → ComesOfReply fabric command events → map event_of events ≡ reply_to own key mad ∷ []
-  reply_is_told events comes =
+  reply_is_reported : (events : List Event) → ComesOfReply fabric command events → map event_of events ≡ reply_to own key mad ∷ []
+  reply_is_reported events comes =
       let among = found_among (λ port. port.guid == own.guid) ports own asks.own_named in
       let manager = found_among (λ port. port.lid == manager_lid) ports asks.manager asks.first in
-      received_is_told ports receives fabric command asks.manager of sends allowed events
+      received_is_reported ports receives fabric command asks.manager of sends allowed events
       (comes.carried (packet_of asks.manager command) (gives ports receives fabric command asks.manager of sends None allowed))
       ∙ reaches_one ports receives fabric command of own among.place among.there asks.source asks.own_adapter asks.manager
       ∙ rw (accepted, asks.source, eqb-true asks.manager.lid manager_lid manager.passes) refl
 
-pub replies_are_told : (fabric : FabricState) (request : DeliveryState) (key : ℕ) (mads : List (List ℕ)) (events : List Event)
+pub replies_are_reported : (fabric : FabricState) (request : DeliveryState) (key : ℕ) (mads : List (List ℕ)) (events : List Event)
     → ComeOfReplies fabric request key mads events → RepliesAreAsListed fabric request key mads events
-replies_are_told fabric request key [] events comes ports receives own of asks = ap (map event_of) comes
-replies_are_told fabric request key (mad ∷ mads) events comes ports receives own of asks =
+replies_are_reported fabric request key [] events comes ports receives own of asks = ap (map event_of) comes
+replies_are_reported fabric request key (mad ∷ mads) events comes ports receives own of asks =
     let first = comes.0 in
     let rest = comes.1 in
     ap (map event_of) comes.4 ∙ map-append event_of first rest
-    ∙ ap (λ (some : List PortEvent). some ++ map event_of rest) (reply_is_told ports receives fabric own request key of asks mad first comes.2)
-    ∙ ap (λ (some : List PortEvent). reply_to own key mad ∷ some) (replies_are_told fabric request key mads rest comes.3 ports receives own of asks)
+    ∙ ap (λ (some : List PortEvent). some ++ map event_of rest) (reply_is_reported ports receives fabric own request key of asks mad first comes.2)
+    ∙ ap (λ (some : List PortEvent). reply_to own key mad ∷ some) (replies_are_reported fabric request key mads rest comes.3 ports receives own of asks)
 
 -- one more MAD is answered after the others
 pub one_more : (fabric : FabricState) (request : DeliveryState) (key : ℕ) (mads : List (List ℕ)) (mad : List ℕ) (events more : List Event)

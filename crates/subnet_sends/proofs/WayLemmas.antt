@@ -12,23 +12,23 @@ use Rattle.data_packet.specs.declared.refusal.Refusal.{Refusal}
 use Rattle.fabric_parts.specs.Lid.{is_multicast}
 use Rattle.fabric_parts.specs.NodeType.{is_switch_type}
 use Rattle.fabric_parts.specs.declared.cable.PortRef.{PortRef}
-use Rattle.packet_ways.specs.declared.numbers.Numbers.{Numbers}
-use Rattle.packet_ways.specs.Deliveries.{AreDeliveries, DeliveryState, IsDelivered, Reaches, adapter_at, guid_at, numbers_of}
-use Rattle.packet_ways.specs.Forwards.{IsCabledPort}
-use Rattle.packet_ways.proofs.ByLidLemmas.{packets_go_by_lid}
-use Rattle.packet_ways.proofs.ByMlidLemmas.{packets_go_by_mlid}
-use Rattle.packet_ways.proofs.DeliveryLemmas.{deliveries_are_one_list}
+use Rattle.delivery_laws.specs.declared.numbers.Numbers.{Numbers}
+use Rattle.delivery_laws.specs.Deliveries.{AreDeliveries, DeliveryState, IsDelivered, Reaches, adapter_at, guid_at, numbers_of}
+use Rattle.delivery_laws.specs.Forwards.{IsCabledPort}
+use Rattle.delivery_laws.proofs.ByLidLemmas.{packets_go_by_lid}
+use Rattle.delivery_laws.proofs.ByMlidLemmas.{packets_go_by_mlid}
+use Rattle.delivery_laws.proofs.DeliveryLemmas.{deliveries_are_one_list}
 use Rattle.pkey_rules.specs.KeyTable.{accepts}
 use Rattle.pkey_rules.specs.StoredKeys.{stored_keys}
 use Rattle.port_model.specs.AdapterState.{AdapterState}
 use Rattle.port_model.specs.Packets.{packet_from, refusal_of as port_refusal, stamped}
-use Rattle.result_words.proofs.ListLemmas.{all_have}
+use Rattle.step_results.proofs.ListLemmas.{all_have}
 use Rattle.smp_wire.specs.FabricState.{FabricState}
 use Rattle.subnet_model.specs.Delivery.{reaches_joined, refusal_of}
 use Rattle.subnet_model.specs.Report.{packet_of, received_by}
 use Rattle.subnet_model.specs.declared.command.SendCommand.{SendCommand}
 use Rattle.subnet_model.specs.declared.subnet_port.SubnetPort.{SubnetPort}
-use Rattle.subnet_sends.specs.Laws.{DeliveriesAreWhatIsTold, IsSender, PortsStampAsTold, told}
+use Rattle.subnet_sends.specs.Laws.{DeliveriesAreWhatIsReported, IsSender, PortsStampAsReported, reported}
 use Rattle.subnet_sends.specs.OfFabric.{IsFabricOf, IsSetUpAsListed, IsThere}
 use Rattle.subnet_sends.proofs.ListLemmas.{among_kept, by_lid, found_among, kept_among, mapped_from, mapped_to, numbers_as_listed}
 
@@ -65,10 +65,10 @@ module _ (ports : List SubnetPort) (receives : ℕ → ℕ → Bool) (fabric : F
       → packet_from one command.dlid command.p_key command.destination_qp command.payload ≡ packet_of sender command
   same_packet one is = rw is.lid refl
 
-  pub stamps_as_told : (at : PortRef) (one : AdapterState) → adapter_at fabric.nodes at ≡ Some one → one.port_guid ≡ command.port_guid
+  pub stamps_as_reported : (at : PortRef) (one : AdapterState) → adapter_at fabric.nodes at ≡ Some one → one.port_guid ≡ command.port_guid
       → (port_refusal one command.dlid command.p_key command.destination_qp ≡ refusal_of sender command)
       × (packet_from one command.dlid command.p_key command.destination_qp command.payload ≡ packet_of sender command)
-  stamps_as_told at one there guid =
+  stamps_as_reported at one there guid =
       let place = its_place at (at_guid fabric at one there ∙ ap (λ (g : ℕ). Some g) guid) in
       let same : sending.one ≡ one =
       same_Some sending.one one (sym sending.is.cabled.there ∙ ap (adapter_at fabric.nodes) (sym place) ∙ there) in
@@ -244,19 +244,19 @@ module _ (ports : List SubnetPort) (receives : ℕ → ℕ → Bool) (fabric : F
             subst (Contains (map numbers_as_listed kept)) is.numbers (mapped_to numbers_as_listed kept at.0 is.port at.1),
       );
       order = by_lid kept (IsStrictlySortedBy-filter (on (λ port. port.lid) nat_cmp) test ports of.order);
-      told = sym (map-map (λ receiver. record { port = receiver.guid; packet = packet_of sender command }) numbers_as_listed kept);
+      reported = sym (map-map (λ receiver. record { port = receiver.guid; packet = packet_of sender command }) numbers_as_listed kept);
     }
 
-    pub are_told : (deliveries : List DeliveryState) → AreDeliveries fabric command.port_guid (packet_of sender command) deliveries
-        → map told deliveries ≡ received_by (reaches_joined (receives command.dlid) command) ports sender command
-    are_told deliveries given =
-        ap (map told) (deliveries_are_one_list fabric command.port_guid (packet_of sender command) deliveries _ given are)
-        ∙ map-map told (λ port. record { port = port.guid; packet = packet_of sender command }) kept
+    pub are_reported : (deliveries : List DeliveryState) → AreDeliveries fabric command.port_guid (packet_of sender command) deliveries
+        → map reported deliveries ≡ received_by (reaches_joined (receives command.dlid) command) ports sender command
+    are_reported deliveries given =
+        ap (map reported) (deliveries_are_one_list fabric command.port_guid (packet_of sender command) deliveries _ given are)
+        ∙ map-map reported (λ port. record { port = port.guid; packet = packet_of sender command }) kept
 
-pub ports_stamp_as_told : PortsStampAsTold
-ports_stamp_as_told ports receives fabric command sender at one of sends there guid =
-    stamps_as_told ports receives fabric command sender of sends at one there guid
+pub ports_stamp_as_reported : PortsStampAsReported
+ports_stamp_as_reported ports receives fabric command sender at one of sends there guid =
+    stamps_as_reported ports receives fabric command sender of sends at one there guid
 
-pub deliveries_are_what_is_told : DeliveriesAreWhatIsTold
-deliveries_are_what_is_told ports receives fabric command sender deliveries of sends allowed are =
-    are_told ports receives fabric command sender of sends allowed deliveries are
+pub deliveries_are_what_is_reported : DeliveriesAreWhatIsReported
+deliveries_are_what_is_reported ports receives fabric command sender deliveries of sends allowed are =
+    are_reported ports receives fabric command sender of sends allowed deliveries are

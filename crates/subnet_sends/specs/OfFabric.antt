@@ -6,9 +6,9 @@ use Rattle.std.specs.Ordering.{nat_cmp, on}
 use Rattle.fabric_parts.specs.Lid.{is_multicast}
 use Rattle.fabric_parts.specs.NodeType.{is_switch_type}
 use Rattle.fabric_parts.specs.declared.cable.PortRef.{PortRef}
-use Rattle.packet_ways.specs.Forwards.{ForwardsByLid, IsCabledPort}
-use Rattle.packet_ways.specs.Groups.{ForwardsByMlid}
-use Rattle.packet_ways.specs.Deliveries.{IsOwn}
+use Rattle.delivery_laws.specs.Forwards.{ForwardsByLid, IsCabledPort}
+use Rattle.delivery_laws.specs.Groups.{ForwardsByMlid}
+use Rattle.delivery_laws.specs.Deliveries.{IsOwn}
 use Rattle.pkey_rules.specs.StoredKeys.{stored_keys}
 use Rattle.port_model.specs.AdapterState.{AdapterState}
 use Rattle.port_model.specs.Packets.{is_active}

@@ -6,7 +6,7 @@ use Rattle.data_packet.specs.declared.packet.Packet.{Packet}
 use Rattle.data_packet.specs.declared.refusal.Refusal.{Refusal}
 use Rattle.fabric_parts.specs.Lid.{is_reserved, manager_lid}
 use Rattle.fabric_parts.specs.NodeType.{is_switch_type}
-use Rattle.packet_ways.specs.Deliveries.{DeliveryState, HasPort}
+use Rattle.delivery_laws.specs.Deliveries.{DeliveryState, HasPort}
 use Rattle.pkey_rules.specs.KeyTable.{holds}
 use Rattle.smp_wire.specs.FabricState.{FabricState}
 use Rattle.subnet_model.specs.Delivery.{is_for_sa, manager_key, port_with_guid, reaches_joined}

@@ -7,7 +7,7 @@ use Rattle.data_packet.specs.declared.refusal.Refusal.{Refusal}
 use Rattle.data_packet.specs.declared.refusal.Refusal.TheVariants.{KeyNotHeld, PortNotActive, QpZero, ReservedDlid}
 use Rattle.fabric_parts.specs.Lid.{manager_lid}
 use Rattle.fabric_parts.specs.declared.cable.PortRef.{PortRef}
-use Rattle.packet_ways.specs.Deliveries.{AreDeliveries, DeliveryState, HasPort, adapter_at}
+use Rattle.delivery_laws.specs.Deliveries.{AreDeliveries, DeliveryState, HasPort, adapter_at}
 use Rattle.pkey_rules.specs.PKey.{default_base, key_of}
 use Rattle.port_model.specs.AdapterState.{AdapterState}
 use Rattle.port_model.specs.Packets.{stamped}
@@ -19,16 +19,16 @@ use Rattle.subnet_model.specs.declared.command.SendCommand.{SendCommand}
 use Rattle.subnet_model.specs.declared.event.PortEvent.{PortEvent}
 use Rattle.subnet_model.specs.declared.event.Outcome.TheVariants.{Refused as RefusedToSend}
 use Rattle.subnet_model.specs.declared.subnet_port.SubnetPort.{SubnetPort}
-use Rattle.subnet_sends.specs.Laws.{IsSender, told}
+use Rattle.subnet_sends.specs.Laws.{IsSender, reported}
 use Rattle.subnet_sends.specs.OfFabric.{IsFabricOf}
 use Rattle.subnet_sends.specs.declared.event.Event.{Event}
 use Rattle.subnet_sends.specs.declared.event.Event.TheVariants.{Received, Refused}
 use Rattle.subnet_sends.specs.declared.sent.Sent.{Sent}
 use Rattle.subnet_sends.specs.declared.sent.Sent.TheVariants.{Events, Request}
 
--- an event of a fabric's port, as a subnet tells it
+-- an event of a fabric's port, as a subnet reports it
 abbrev pub event_of : Event → PortEvent
-event_of (Received delivered) = told delivered
+event_of (Received delivered) = reported delivered
 event_of (Refused port_guid refusal) = record { port_guid = port_guid; what = RefusedToSend refusal }
 
 -- ---- what comes of a command: events; of a request, what is delivered of it
@@ -40,8 +40,8 @@ abbrev pub is_request : Sent → Bool
 is_request (Events events) = false
 is_request (Request deliveries) = true
 
-abbrev pub told_in : Sent → List PortEvent
-told_in sent = map event_of (events_in sent)
+abbrev pub reported_in : Sent → List PortEvent
+reported_in sent = map event_of (events_in sent)
 
 -- these events, and no request
 abbrev pub AreEvents : Sent → List Event → Type 0
@@ -60,7 +60,7 @@ pub record Stamps (fabric : FabricState) (command : SendCommand) (given : Result
 pub record AreReceived (fabric : FabricState) (sender : ℕ) (packet : Packet) (events : List Event) : Type 0 where
   pub deliveries : List DeliveryState
   pub are : AreDeliveries fabric sender packet deliveries
-  pub told : events ≡ map Received deliveries
+  pub reported : events ≡ map Received deliveries
 
 -- this comes of the command
 pub record ComesOf (fabric : FabricState) (command : SendCommand) (sent : Sent) : Type 0 where
@@ -72,7 +72,7 @@ pub record ComesOf (fabric : FabricState) (command : SendCommand) (sent : Sent) 
   -- it is a request exactly where it is for subnet administration
   pub request : (packet : Packet) → Stamps fabric command (Ok packet) → is_request sent ≡ is_for_sa command
 
--- ---- in the fabric of a list of ports this is what the list tells
+-- ---- in the fabric of a list of ports this is what the list reports
 -- the refusal, or these events
 abbrev pub events_unless : Option Refusal → ℕ → List PortEvent → List PortEvent
 events_unless (Some refusal) guid events = record { port_guid = guid; what = RefusedToSend refusal } ∷ []
@@ -80,7 +80,7 @@ events_unless None guid events = events
 
 pub record IsAsListed (ports : List SubnetPort) (receives : ℕ → ℕ → Bool) (sender : SubnetPort) (command : SendCommand)
     (refusal : Option Refusal) (sent : Sent) : Type 0 where
-  pub events : told_in sent
+  pub events : reported_in sent
       ≡ events_unless refusal command.port_guid (received_by (reaches_joined (receives command.dlid) command) ports sender command)
   pub request : is_request sent ≡ (is_none refusal && is_for_sa command)
 
@@ -122,7 +122,7 @@ pub record ComesOfAsk (fabric : FabricState) (command : AskCommand) (sent : Sent
 abbrev pub AsksAsListed : List SubnetPort → (ℕ → ℕ → Bool) → SubnetPort → AskCommand → Option ℕ → Sent → Type 0
 AsksAsListed ports receives own command (Some key) sent = IsAsListed ports receives own (sent_to_ask command key) None sent
 AsksAsListed ports receives own command None sent =
-    (told_in sent ≡ record { port_guid = own.guid; what = RefusedToSend KeyNotHeld } ∷ []) × (is_request sent ≡ false)
+    (reported_in sent ≡ record { port_guid = own.guid; what = RefusedToSend KeyNotHeld } ∷ []) × (is_request sent ≡ false)
 
 abbrev pub AskIsAsListed : FabricState → AskCommand → Sent → Type 0
 AskIsAsListed fabric command sent =

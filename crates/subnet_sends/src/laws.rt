@@ -1,18 +1,18 @@
 //! The laws of subnets and their fabrics. Each function's contract is its law; it does nothing.
 
-ghost use Rattle.subnet_sends.specs.Laws.{DeliveriesAreWhatIsTold, PortsStampAsTold};
+ghost use Rattle.subnet_sends.specs.Laws.{DeliveriesAreWhatIsReported, PortsStampAsReported};
 ghost use Rattle.subnet_sends.specs.Replies.{RequestsComeToTheManager};
 
 /// In the fabric of a list of ports, the port of a command's GUID refuses what the list refuses, for the same cause, and
-/// else stamps the packet that the list tells.
-pub fn ports_stamp_as_told()
-    ensures { PortsStampAsTold }
+/// else stamps the packet that the list reports.
+pub fn ports_stamp_as_reported()
+    ensures { PortsStampAsReported }
 {}
 
-/// In the fabric of a list of ports, what it delivers of a packet, to a port or to a group, is what the list tells, in the
+/// In the fabric of a list of ports, what it delivers of a packet, to a port or to a group, is what the list reports, in the
 /// same order.
-pub fn deliveries_are_what_is_told()
-    ensures { DeliveriesAreWhatIsTold }
+pub fn deliveries_are_what_is_reported()
+    ensures { DeliveriesAreWhatIsReported }
 {}
 
 /// In the fabric of a list of ports, what is for subnet administration comes to the subnet manager's port and to no other,

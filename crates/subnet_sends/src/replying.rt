@@ -47,7 +47,7 @@ pub fn reply(
     mads: &[Mad],
 ) -> Result<Vec<Event>, AllocError>
     ensures comes { IfOk result (λ events. ComeOfReplies fabric.now request.now key mads.now events.items) }
-    ensures told { IfOk result (λ events. RepliesAreAsListed fabric.now request.now key mads.now events.items) }
+    ensures reported { IfOk result (λ events. RepliesAreAsListed fabric.now request.now key mads.now events.items) }
 {
     let mut events = Vec::new(alloc);
     for mad in mads {

@@ -2,7 +2,7 @@
 
 ghost use Rattle.std.specs.Prelude.{ℕ, ◌≡◌, [], ◌∷◌, IfOk, is_some, map, Some, true};
 ghost use Rattle.std.specs.Option.{ForSome};
-ghost use Rattle.packet_ways.specs.Deliveries.{AreDeliveries, adapter_at, guid_at};
+ghost use Rattle.delivery_laws.specs.Deliveries.{AreDeliveries, adapter_at, guid_at};
 ghost use Rattle.port_model.specs.Packets.{stamped};
 ghost use Rattle.data_packet.specs.QueuePair.{general_services_qp};
 ghost use Rattle.fabric_parts.specs.Lid.{manager_lid};
@@ -18,10 +18,10 @@ use std::alloc::{AllocError, Global};
 use subnet_model::{AskCommand, SendCommand};
 
 /// Carries out a command to send: what the port of its GUID stamps is carried over the fabric. What is for subnet
-/// administration is carried, too, and told as a request.
+/// administration is carried, too, and reported as a request.
 pub fn send(alloc: Global, fabric: &Fabric, command: &SendCommand) -> Result<Sent, AllocError>
     ensures comes { IfOk result (λ sent. ComesOf fabric.now command.now sent) }
-    ensures told { IfOk result (λ sent. SendIsAsListed fabric.now command.now sent) }
+    ensures reported { IfOk result (λ sent. SendIsAsListed fabric.now command.now sent) }
 {
     let Some(from) = fabric.place_of(command.port_guid) else {
         return Ok(Sent::Events(Vec::new(alloc)));
@@ -49,7 +49,7 @@ pub fn send(alloc: Global, fabric: &Fabric, command: &SendCommand) -> Result<Sen
 /// Carries out a command to ask: the port's packet is carried to subnet administration, unless the port refuses to send it.
 pub fn ask(alloc: Global, fabric: &Fabric, command: &AskCommand) -> Result<Sent, AllocError>
     ensures comes { IfOk result (λ sent. ComesOfAsk fabric.now command.now sent) }
-    ensures told { IfOk result (λ sent. AskIsAsListed fabric.now command.now sent) }
+    ensures reported { IfOk result (λ sent. AskIsAsListed fabric.now command.now sent) }
 {
     let Some(from) = fabric.place_of(command.port_guid) else {
         return Ok(Sent::Events(Vec::new(alloc)));

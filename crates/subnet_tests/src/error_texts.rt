@@ -114,8 +114,8 @@ const REFUSALS: [(Refusal, &str); 4] = [
 
 /// It says this text.
 fn says(rt: &impl Abort, alloc: Global, it: &impl Display, text: &str) -> Result<(), Fail> {
-    let told = format!(in alloc; "{it}")?;
-    assert_eq!(rt; told.as_str(), text);
+    let reported = format!(in alloc; "{it}")?;
+    assert_eq!(rt; reported.as_str(), text);
     Ok(())
 }
 
@@ -132,7 +132,7 @@ fn says_at_7(
 }
 
 #[test]
-fn a_fault_of_a_topology_tells_its_line_and_cause(rt: HostRuntime) -> Result<(), Fail> {
+fn a_fault_of_a_topology_reports_its_line_and_cause(rt: HostRuntime) -> Result<(), Fail> {
     for (cause, text) in TOPOLOGIES {
         says_at_7(&rt, rt.alloc(), &TopoFault::At { line: 7, cause }, "", text)?;
         let fault = RunFault::Topology { line: 7, cause };
@@ -142,7 +142,7 @@ fn a_fault_of_a_topology_tells_its_line_and_cause(rt: HostRuntime) -> Result<(),
 }
 
 #[test]
-fn a_fault_of_partitions_tells_its_line_and_cause(rt: HostRuntime) -> Result<(), Fail> {
+fn a_fault_of_partitions_reports_its_line_and_cause(rt: HostRuntime) -> Result<(), Fail> {
     for (cause, text) in PARTITIONS {
         says_at_7(&rt, rt.alloc(), &PartFault::At { line: 7, cause }, "", text)?;
         let fault = RunFault::Partitions { line: 7, cause };
@@ -152,7 +152,7 @@ fn a_fault_of_partitions_tells_its_line_and_cause(rt: HostRuntime) -> Result<(),
 }
 
 #[test]
-fn a_fault_of_a_script_tells_its_line_and_cause(rt: HostRuntime) -> Result<(), Fail> {
+fn a_fault_of_a_script_reports_its_line_and_cause(rt: HostRuntime) -> Result<(), Fail> {
     for (cause, text) in SCRIPTS {
         let fault = RunFault::Script { line: 7, cause };
         says_at_7(&rt, rt.alloc(), &fault, "script ", text)?;
@@ -163,7 +163,7 @@ fn a_fault_of_a_script_tells_its_line_and_cause(rt: HostRuntime) -> Result<(), F
 }
 
 #[test]
-fn a_fault_of_a_fabric_tells_its_cause(rt: HostRuntime) -> Result<(), Fail> {
+fn a_fault_of_a_fabric_reports_its_cause(rt: HostRuntime) -> Result<(), Fail> {
     let too_far = RunFault::Sweep(SweepFault::TooManyHops);
     says(
         &rt,
@@ -185,7 +185,7 @@ fn a_fault_of_a_fabric_tells_its_cause(rt: HostRuntime) -> Result<(), Fail> {
 }
 
 #[test]
-fn a_refusal_tells_its_cause(rt: HostRuntime) -> Result<(), Fail> {
+fn a_refusal_reports_its_cause(rt: HostRuntime) -> Result<(), Fail> {
     for (refusal, text) in REFUSALS {
         says(&rt, rt.alloc(), &refusal, text)?;
     }
@@ -201,7 +201,7 @@ const PUSH_REFUSALS: [(PushRefusal, &str); 2] = [
 ];
 
 #[test]
-fn a_key_that_is_refused_tells_why(rt: HostRuntime) -> Result<(), Fail> {
+fn a_key_that_is_refused_reports_why(rt: HostRuntime) -> Result<(), Fail> {
     for (refusal, text) in PUSH_REFUSALS {
         says(&rt, rt.alloc(), &refusal, text)?;
     }
@@ -210,7 +210,7 @@ fn a_key_that_is_refused_tells_why(rt: HostRuntime) -> Result<(), Fail> {
 }
 
 #[test]
-fn want_of_memory_is_told_as_such(rt: HostRuntime) -> Result<(), Fail> {
+fn want_of_memory_is_reported_as_such(rt: HostRuntime) -> Result<(), Fail> {
     let text = "out of memory";
     says(&rt, rt.alloc(), &TopoFault::NoMemory, text)?;
     says(&rt, rt.alloc(), &PartFault::NoMemory, text)?;

@@ -1,4 +1,4 @@
-//! A registry of the two-switch fabric, made of its ports and their keys: it answers, or memory is refused.
+//! A registry of the two-switch fabric, made of its ports and their keys: it answers, or an allocation fails.
 
 use fabric_parts::NodeType;
 use mad_layout::Mad;
@@ -105,7 +105,7 @@ fn members_of(alloc: Global, file: &[u8]) -> Option<Members> {
     members(alloc, &partitions, &end_ports).ok()
 }
 
-/// None where memory is refused.
+/// None if an allocation fails.
 fn registry(rt: &impl Abort, alloc: Global) -> Option<Registry> {
     let ports = ports(alloc)?;
     let members = members_of(alloc, ONE_PARTITION.as_bytes())?;
@@ -114,7 +114,7 @@ fn registry(rt: &impl Abort, alloc: Global) -> Option<Registry> {
     Registry::new(alloc, &ports, &members).ok()
 }
 
-/// It is answered, or memory is refused, and then again and for the receivers too.
+/// It is answered, or an allocation fails, and then again and for the receivers too.
 fn answers(rt: &impl Abort, registry: &mut Registry, asked: Parts) {
     let asks = mad_of(asked);
     match registry.handle(H1, &asks) {

@@ -1,4 +1,4 @@
-//! Steps and whole runs, carried out or refused for want of memory.
+//! Steps and whole runs, carried out or refused since an allocation failed.
 
 use example_texts::TWO_SWITCHES;
 use std::alloc::Global;
@@ -32,7 +32,7 @@ const STEPS: [(&[u8], u64); 3] = [
 ];
 
 #[test]
-fn a_step_tells_its_events(rt: HostRuntime) -> Result<(), Fail> {
+fn a_step_reports_its_events(rt: HostRuntime) -> Result<(), Fail> {
     let mut subnet = two_switch_subnet(rt.alloc())?;
     for (line, port) in STEPS {
         assert_eq!(rt; heard(&mut subnet, line)?, (1, Some(port)));
@@ -52,7 +52,7 @@ const ASKS: &str = "ask h1/1 set member tid=1 mgid=0xff1200000000000000000000000
     ask h2/1 set service tid=2 sid=1 gid=0xfe800000000000000000000000000121 pkey=0x0001\n\
     send h1/1 0xc020 0x8001 7 1:01\n";
 
-/// The report of these, unless memory was refused.
+/// The report of these, unless an allocation failed.
 fn answers(rt: &impl Abort, alloc: Global) -> Option<Vec<u8>> {
     match run(
         alloc,
@@ -68,10 +68,10 @@ fn answers(rt: &impl Abort, alloc: Global) -> Option<Vec<u8>> {
     }
 }
 
-/// Of two runs at most one is refused memory, and what one tells the other tells. tests/refused-memory refuses each allocation
+/// Of two runs at most one is refused memory, and what one reports the other reports. tests/refused-memory refuses each allocation
 /// of this test, and of the last, in turn.
 #[test]
-fn a_run_that_asks_is_told_or_memory_is_refused(rt: HostRuntime) -> Result<(), Fail> {
+fn a_run_that_asks_is_reported_or_memory_is_refused(rt: HostRuntime) -> Result<(), Fail> {
     let first = answers(&rt, rt.alloc());
     let second = answers(&rt, rt.alloc());
     assert!(rt; first.is_some() || second.is_some());
@@ -93,7 +93,7 @@ fn is_carried_out(rt: &impl Abort, subnet: &mut Subnet, command: &Command) {
     }
 }
 
-/// A step answers its event; where memory is refused the subnet is broken from then on.
+/// A step answers its event; if an allocation fails the subnet is broken from then on.
 fn steps_or_breaks(rt: &impl Abort, subnet: &mut Subnet) -> Result<(), Fail> {
     assert!(rt; matches!(subnet.parse(7, b"# nothing\n"), Ok(None)));
     match subnet.parse(8, b"send h1/1 5 0xffff 7 2:beef\n") {

@@ -230,11 +230,11 @@ fn write(fabric: &mut Fabric, written: &Written) -> Result<(), Fail> {
     if path.len() > 63 {
         return Err("a path of 63 hops at most")?;
     }
-    let mut told = get_attribute(fabric, 1, attribute, modifier, path).or(Err("a Get"))?;
-    for (byte, new) in told.iter_mut().skip(place).zip(bytes) {
+    let mut reported = get_attribute(fabric, 1, attribute, modifier, path).or(Err("a Get"))?;
+    for (byte, new) in reported.iter_mut().skip(place).zip(bytes) {
         *byte = *new;
     }
-    set_attribute(fabric, 2, attribute, modifier, path, &told).or(Err("a Set"))?;
+    set_attribute(fabric, 2, attribute, modifier, path, &reported).or(Err("a Set"))?;
     Ok(())
 }
 
@@ -260,8 +260,8 @@ fn what_is_written_into_tables_and_masks_shows_in_the_way_of_a_packet(
 ) -> Result<(), Fail> {
     for way in &WAYS {
         let fabric = written(rt.alloc(), way.0, way.1)?;
-        let told = traced(rt.alloc(), &fabric, way)?;
-        assert_eq!(rt; told.as_slice(), way.4.as_bytes());
+        let reported = traced(rt.alloc(), &fabric, way)?;
+        assert_eq!(rt; reported.as_slice(), way.4.as_bytes());
     }
     Ok(())
 }

@@ -15,9 +15,9 @@ use Rattle.sweep.specs.declared.adapters.AdapterPort.{AdapterPort}
 abbrev pub is_same : AdapterPort → AdapterPort → Bool
 is_same a b = (a.guid == b.guid) && (a.number == b.number)
 
--- these ports, if they are of that adapter, tell that number of ports
-abbrev pub tell : List GraphPort → ℕ → ℕ → Bool
-tell ports guid count = list_all (λ port. not (port.node_guid == guid) || (port.num_ports == count)) ports
+-- these ports, if they are of that adapter, report that number of ports
+abbrev pub report : List GraphPort → ℕ → ℕ → Bool
+report ports guid count = list_all (λ port. not (port.node_guid == guid) || (port.num_ports == count)) ports
 
 -- one of them is that port of an adapter
 abbrev pub has : List GraphPort → AdapterPort → Bool
@@ -80,7 +80,7 @@ agree_whole past (port ∷ rest) =
     assoc true = refl
     assoc false = refl
 
--- ---- it agrees with them if they tell its adapter's number of ports, and none is the same port
+-- ---- it agrees with them if they report its adapter's number of ports, and none is the same port
 parts : (a b n x y : Bool) → (not a || (b && not n)) && (x && not y) ≡ ((not a || b) && x) && not ((a && n) || y)
 parts false b n x y = refl
 parts true false n x y = refl
@@ -92,20 +92,20 @@ parts true true true x y = last x
 parts true true false x y = refl
 
 pub agrees : (past : List GraphPort) (port : GraphPort)
-    → list_all (λ one. agree one port) past ≡ tell past port.node_guid port.num_ports && not (has past (record { guid = port.node_guid; number = port.number }))
+    → list_all (λ one. agree one port) past ≡ report past port.node_guid port.num_ports && not (has past (record { guid = port.node_guid; number = port.number }))
 agrees [] port = refl
 agrees (one ∷ past) port =
     ap (λ (b : Bool). agree one port && b) (agrees past port)
-    ∙ parts (one.node_guid == port.node_guid) (one.num_ports == port.num_ports) (one.number == port.number) (tell past port.node_guid port.num_ports)
+    ∙ parts (one.node_guid == port.node_guid) (one.num_ports == port.num_ports) (one.number == port.number) (report past port.node_guid port.num_ports)
     (has past (record { guid = port.node_guid; number = port.number }))
 
--- ---- what is told with one port more
-pub tell_more : (past : List GraphPort) (port : GraphPort) (old new : ℕ → Option ℕ)
-    → ((guid count : ℕ) → tell past guid count ≡ is_count count (old guid))
+-- ---- what is reported with one port more
+pub report_more : (past : List GraphPort) (port : GraphPort) (old new : ℕ → Option ℕ)
+    → ((guid count : ℕ) → report past guid count ≡ is_count count (old guid))
     → ((guid : ℕ) → new guid ≡ cond (port.node_guid == guid) (Some port.num_ports) (old guid))
     → is_count port.num_ports (old port.node_guid) ≡ true
-    → (guid count : ℕ) → tell (past ++ port ∷ []) guid count ≡ is_count count (new guid)
-tell_more past port old new was is same guid count =
+    → (guid count : ℕ) → report (past ++ port ∷ []) guid count ≡ is_count count (new guid)
+report_more past port old new was is same guid count =
     all_push (λ one. not (one.node_guid == guid) || (one.num_ports == count)) past port
     ∙ rw (was guid count, is guid) (by (port.node_guid == guid) refl)
   where
@@ -158,11 +158,11 @@ pub ends : (ports : List GraphPort) (i : ℕ) (none : GraphPort) → i < length 
 ends ports i none within so_far is = sym (so_far ∙ cut ports i none within ∙ ap (λ (b : Bool). b && agree_on (take (i + 1) ports) (drop (i + 1) ports)) is)
 
 -- whether it agrees, by what was kept of those before it
-pub kept_agrees : (past : List GraphPort) (port : GraphPort) (told : Option ℕ) (contained new : Bool)
-    → tell past port.node_guid port.num_ports ≡ is_count port.num_ports told → contained ≡ has past (record { guid = port.node_guid; number = port.number })
-    → new ≡ not contained → list_all (λ one. agree one port) past ≡ is_count port.num_ports told && new
-kept_agrees past port told contained new tells there is = agrees past port ∙ rw (tells, sym there, is) refl
+pub kept_agrees : (past : List GraphPort) (port : GraphPort) (reported : Option ℕ) (contained new : Bool)
+    → report past port.node_guid port.num_ports ≡ is_count port.num_ports reported → contained ≡ has past (record { guid = port.node_guid; number = port.number })
+    → new ≡ not contained → list_all (λ one. agree one port) past ≡ is_count port.num_ports reported && new
+kept_agrees past port reported contained new reports there is = agrees past port ∙ rw (reports, sym there, is) refl
 
-pub not_new : (told new : Bool) → new ≡ false → told && new ≡ false
+pub not_new : (reported new : Bool) → new ≡ false → reported && new ≡ false
 not_new true new old = old
 not_new false new old = refl

@@ -8,7 +8,7 @@ use Rattle.std.proofs.lemmas.Bool.{and_from, and_parts, eqb-true, false≢true}
 use Rattle.std.proofs.lemmas.Bool.Decides.{nat_tests}
 use Rattle.std.proofs.lemmas.List.Elements.{Contains-append_cases, Contains-append_left, Contains-append_right, Contains-get_or}
 use Rattle.std.proofs.lemmas.Option.{get_or_from_slice_get, same_Some, slice_get-get_or, slice_get-map, slice_get_within}
-use Rattle.result_words.proofs.ListLemmas.{all_there}
+use Rattle.step_results.proofs.ListLemmas.{all_there}
 use Rattle.fabric_parts.specs.Cable.{far_end, is_cabled, port}
 use Rattle.fabric_parts.specs.declared.cable.Cable.{Cable}
 use Rattle.fabric_parts.specs.declared.cable.PortRef.{PortRef}
@@ -118,7 +118,7 @@ pub record AdapterAt (fabric : FabricState) (there : PortRef) : Type 0 where
 pub seen_is : (fabric : FabricState) (there : PortRef) (is : AdapterAt fabric there) → seen_at fabric there ≡ Some (seen_of is.ports there.port is.one)
 seen_is fabric there is = rw (is.node, is.held) refl
 
--- it is of its node, and tells how many ports that has
+-- it is of its node, and reports how many ports that has
 of_its_node : (ports : List AdapterState) (number : ℕ) (one : AdapterState) (zero_port : Bool) → list_all (is_of (node_guid (Adapter ports)) (length ports)) ports ≡ true
     → (number == 0) ≡ zero_port → (if zero_port then None else slice_get ports (number - 1)) ≡ Some one → (one.node_guid ≡ node_guid (Adapter ports)) × (one.num_ports ≡ length ports)
 of_its_node ports number one true order is held = absurd cc
@@ -249,17 +249,17 @@ to_switch fabric at back good adapter far =
         let three = and_parts (not (cable.first.node == cable.second.node)) _ two.1 in
         (three.1, turned (is_switch_at fabric.nodes cable.first.node) _ three.1)
 
--- where the port of an adapter hangs: the place of the switch at the other end of its cable, and that switch's port
-pub record HangsAt (fabric : FabricState) (found : List Found) (at : PortRef) (there : AdapterAt fabric at) : Type 0 where
+-- where the port of an adapter is attached: the place of the switch at the other end of its cable, and that switch's port
+pub record AttachedAt (fabric : FabricState) (found : List Found) (at : PortRef) (there : AdapterAt fabric at) : Type 0 where
   pub place : ℕ
   pub number : ℕ
   pub home : far_end fabric.cables (port (node_at found place) number) ≡ Some at
   pub among : Contains (all_ports fabric found) (shown fabric (port place number) at (seen_of there.ports at.port there.one))
 
-pub hangs : (fabric : FabricState) (found : List Found) (at : PortRef) → IsGood fabric
+pub attached : (fabric : FabricState) (found : List Found) (at : PortRef) → IsGood fabric
     → ((node : ℕ) → is_among (nodes_of found) node ≡ is_switch_at fabric.nodes node) → is_switch_at fabric.nodes at.node ≡ false
-    → is_cabled fabric.cables at ≡ true → (there : AdapterAt fabric at) → HangsAt fabric found at there
-hangs fabric found at good all adapter cabled there =
+    → is_cabled fabric.cables at ≡ true → (there : AdapterAt fabric at) → AttachedAt fabric found at there
+attached fabric found at good all adapter cabled there =
     let far = far_of fabric.cables at cabled in
     let back = far.0 in
     let home : far_end fabric.cables (port back.node back.port) ≡ Some at = good_once fabric at back good far.1 in
@@ -290,7 +290,7 @@ port_has : (fabric : FabricState) (found : List Found) (at : PortRef) (end : Fab
     → is_end_port_of fabric at ≡ true → is_cabled fabric.cables at ≡ true → end_port_in fabric at ≡ Some end → AdapterAt fabric at
     → Contains (map end_of_adapter (all_ports fabric found)) end
 port_has fabric found at end good all adapter is_end cabled is there =
-    let at_switch = hangs fabric found at good all adapter cabled there in
+    let at_switch = attached fabric found at good all adapter cabled there in
     let here = port at_switch.place at_switch.number in
     let met = shown fabric here at (seen_of there.ports at.port there.one) in
     let same : end_of_adapter met ≡ end = same_Some _ end (sym (end_is fabric here at there good is_end) ∙ is) in

@@ -7,7 +7,7 @@ use Rattle.std.proofs.lemmas.Bool.{and_parts, false≢true, or_parts}
 use Rattle.std.proofs.lemmas.Bool.Decides.{Decides-eqb, nat_tests}
 use Rattle.std.proofs.lemmas.List.Folds.{list_any-append}
 use Rattle.std.proofs.lemmas.Map.Keys.{IsDistinct-cons, IsDistinct-head, IsDistinct-tail}
-use Rattle.result_words.proofs.ListLemmas.{IsDistinct-nil}
+use Rattle.step_results.proofs.ListLemmas.{IsDistinct-nil}
 use Rattle.std.proofs.lemmas.Option.{same_Some, slice_get-map}
 use Rattle.sweep.specs.OfFabric.{Found, is_among, nodes_of, place_of}
 use Rattle.sweep.specs.Progress.{StandsAt, is_found}

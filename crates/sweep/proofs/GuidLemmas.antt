@@ -3,8 +3,8 @@ use Rattle.std.proofs.Common.{◌≡◌, ℕ, false, not, ◌==◌, ◌∙◌, r
 use Rattle.std.specs.List.{list_any, prefix_len}
 use Rattle.std.proofs.lemmas.List.{length-map, map_push}
 use Rattle.indexmap.specs.IndexSet.{insert_key}
-use Rattle.result_words.proofs.PlaceLemmas.{not_there}
-use Rattle.result_words.proofs.TestLemmas.{same_either_way}
+use Rattle.step_results.proofs.PlaceLemmas.{not_there}
+use Rattle.step_results.proofs.TestLemmas.{same_either_way}
 use Rattle.sweep.specs.declared.graph.GraphSwitch.{GraphSwitch}
 
 first_of : (guid : ℕ) (switches : List GraphSwitch)

@@ -4,7 +4,7 @@ use Rattle.std.proofs.Common.{refl, subst, sym, inl, inr, arith}
 use Rattle.std.specs.List.{list_all, list_any, range_with_len}
 use Rattle.std.proofs.lemmas.Bool.{and_parts, and_from, eqb-true, eqb-false, eq-eqb, ltb-true, or_cases, or_left, or_right, false≢true}
 use Rattle.fabric_parts.specs.Cable.{is_same_port, port}
-use Rattle.result_words.proofs.ListLemmas.{list_any_weaker}
+use Rattle.step_results.proofs.ListLemmas.{list_any_weaker}
 use Rattle.sweep.specs.Graph.{GraphState, IsGraph, count_at, is_joined, is_linked, is_near, is_right_link, is_right_row, rise_above}
 use Rattle.sweep.specs.Joined.{AllJoined, is_next_to, is_walk_by}
 

@@ -6,7 +6,7 @@ use Rattle.std.specs.Option.{option_and_then, option_map_or, unwrap_or}
 use Rattle.std.proofs.lemmas.Bool.{and_from, and_parts, eq-eqb, eqb-false, eqb-true, false≢true}
 use Rattle.std.proofs.lemmas.List.{length-map}
 use Rattle.std.proofs.lemmas.Option.{same_Some, slice_get_cases, slice_get_within}
-use Rattle.result_words.proofs.ListLemmas.{list_any_weaker}
+use Rattle.step_results.proofs.ListLemmas.{list_any_weaker}
 use Rattle.fabric_parts.specs.Cable.{far_end, is_same_port, port}
 use Rattle.fabric_parts.specs.declared.cable.PortRef.{PortRef}
 use Rattle.smp_wire.proofs.CableLemmas.{cabled_is_port}
@@ -24,7 +24,7 @@ use Rattle.sweep.specs.declared.graph.GraphLink.{GraphLink}
 use Rattle.sweep.specs.declared.graph.GraphPort.{GraphPort}
 use Rattle.sweep.specs.declared.seen.Seen.{Seen}
 use Rattle.sweep.proofs.CabledLemmas.{far_of, hops_over}
-use Rattle.sweep.proofs.EndPortLemmas.{hangs, of_one, one_of, stands}
+use Rattle.sweep.proofs.EndPortLemmas.{attached, of_one, one_of, stands}
 use Rattle.sweep.proofs.FoundLemmas.{among_at, among_place, node_there, one_place, place_is}
 use Rattle.sweep.proofs.LeastLemmas.{goes, hops, in_range}
 use Rattle.sweep.proofs.MetLemmas.{good_once}
@@ -318,7 +318,7 @@ module _ (fabric : FabricState) (graph : GraphState) (good : IsGood fabric) (lay
   manager_at =
       let own = manager_seen (seen_at fabric fabric.manager) refl layout.manager in
       let held = held_at fabric fabric.manager good.manager_adapter good.manager_port in
-      let hung = hangs fabric layout.found fabric.manager good layout.all good.manager_adapter good.manager_cabled held in
+      let hung = attached fabric layout.found fabric.manager good layout.all good.manager_adapter good.manager_cabled held in
       let shown = port_seen (port hung.place hung.number) (unwrap_or (name_at fabric fabric.manager) []) (Rattle.sweep.proofs.OwnLemmas.seen_of held.ports fabric.manager.port held.one) in
       let guid : held.one.port_guid ≡ graph.manager =
       ap (λ (seen : Seen). seen.port_guid) (same_Some _ own.0 (sym (Rattle.sweep.proofs.EndPortLemmas.seen_is fabric fabric.manager held) ∙ own.1)) ∙ own.2 in

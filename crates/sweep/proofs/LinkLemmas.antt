@@ -1,4 +1,4 @@
--- Whether a port of a switch has a cable is what its PortInfo tells.
+-- Whether a port of a switch has a cable is what its PortInfo reports.
 use Rattle.std.proofs.Common.{ℕ, ◌≡◌, ◌∙◌, ◌^◌, ◌<◌, ◌≤◌, ◌==◌, ◌&&◌, ap, refl, sym, not, nat_le, Bool, true, false, List, length, replicate, get_or}
 use Rattle.std.proofs.Common.{slice_get, Option, Some, None, Result, Ok, Err, ◌⊎◌, inl, inr, arith}
 use Rattle.std.specs.Option.{option_and_then, option_map_or}
@@ -21,7 +21,7 @@ use Rattle.smp_wire.specs.declared.node.Node.TheVariants.{Switch, Adapter}
 use Rattle.smp_wire.specs.FabricState.{FabricState, is_port, is_switch, is_switch_at, port_count}
 use Rattle.smp_wire.specs.Get.{gives_along, gives_at, node_gives}
 use Rattle.smp_wire.specs.Good.{IsGood, ShowsLinks, info_at}
-use Rattle.smp_wire.specs.Replies.{told_for}
+use Rattle.smp_wire.specs.Replies.{reported_for}
 use Rattle.smp_wire.specs.Walk.{end_of}
 use Rattle.smp_wire.proofs.ArrivalLemmas.{port_small}
 use Rattle.smp_wire.proofs.PortLemmas.{ports_are_good}
@@ -101,46 +101,46 @@ gives_link fabric at number good links from switch is_there =
     (port_small fabric.nodes at good.counts from)
 
 -- ---- along a path
-abbrev told_bytes : List ℕ → Result (List ℕ) SweepFault
-told_bytes bytes = Ok bytes
+abbrev reported_bytes : List ℕ → Result (List ℕ) SweepFault
+reported_bytes bytes = Ok bytes
 
-abbrev told_fault : SweepFault → Result (List ℕ) SweepFault
-told_fault fault = Err fault
+abbrev reported_fault : SweepFault → Result (List ℕ) SweepFault
+reported_fault fault = Err fault
 
-same_Ok : (a b : List ℕ) → told_bytes a ≡ told_bytes b → a ≡ b
+same_Ok : (a b : List ℕ) → reported_bytes a ≡ reported_bytes b → a ≡ b
 same_Ok a b h = cc
 
 twice : (b : Bool) → not (not b) ≡ b
 twice true = refl
 twice false = refl
 
-given_along : (fabric : FabricState) (at : PortRef) (path : List ℕ) (number : ℕ) (told : Result (List ℕ) SweepFault) → end_of fabric path ≡ Some at
-    → told ≡ heard (told_for (gives_along fabric path LinkAsked number)) → told ≡ heard (told_for (gives_at fabric at LinkAsked number))
-given_along fabric at path number told ends is =
-    is ∙ ap (λ (ended : Option PortRef). heard (told_for (option_and_then (λ one. gives_at fabric one LinkAsked number) ended))) ends
+given_along : (fabric : FabricState) (at : PortRef) (path : List ℕ) (number : ℕ) (reported : Result (List ℕ) SweepFault) → end_of fabric path ≡ Some at
+    → reported ≡ heard (reported_for (gives_along fabric path LinkAsked number)) → reported ≡ heard (reported_for (gives_at fabric at LinkAsked number))
+given_along fabric at path number reported ends is =
+    is ∙ ap (λ (ended : Option PortRef). heard (reported_for (option_and_then (λ one. gives_at fabric one LinkAsked number) ended))) ends
 
 pub linked : (fabric : FabricState) (at : PortRef) (path bytes : List ℕ) (number : ℕ) (read : PortInfo) → IsGood fabric → ShowsLinks fabric
     → end_of fabric path ≡ Some at → is_switch_at fabric.nodes at.node ≡ true → is_port fabric.nodes (port at.node number) ≡ true
-    → told_bytes bytes ≡ heard (told_for (gives_along fabric path LinkAsked number)) → Holds bytes (port_info read)
+    → reported_bytes bytes ≡ heard (reported_for (gives_along fabric path LinkAsked number)) → Holds bytes (port_info read)
     → not (is_down read) ≡ is_cabled fabric.cables (port at.node number)
-linked fabric at path bytes number read good links ends switch is_there told holds =
+linked fabric at path bytes number read good links ends switch is_there reported holds =
     let given = gives_link fabric at number good links (end_port fabric path at good ends) switch is_there in
-    let so = given_along fabric at path number (told_bytes bytes) ends told in
-    let same : bytes ≡ given.bytes = same_Ok bytes given.bytes (so ∙ ap (λ (one : Option (Result (List ℕ) MadStatus)). heard (told_for one)) given.gives) in
+    let so = given_along fabric at path number (reported_bytes bytes) ends reported in
+    let same : bytes ≡ given.bytes = same_Ok bytes given.bytes (so ∙ ap (λ (one : Option (Result (List ℕ) MadStatus)). heard (reported_for one)) given.gives) in
     ap not (given.reads read (rw (sym same) holds)) ∙ twice (is_cabled fabric.cables (port at.node number))
 
 pub not_linked : (fabric : FabricState) (at : PortRef) (path : List ℕ) (number : ℕ) (fault : SweepFault) → IsGood fabric → ShowsLinks fabric
     → end_of fabric path ≡ Some at → is_switch_at fabric.nodes at.node ≡ true → is_port fabric.nodes (port at.node number) ≡ true
-    → told_fault fault ≡ heard (told_for (gives_along fabric path LinkAsked number)) → ⊥
-not_linked fabric at path number fault good links ends switch is_there told =
+    → reported_fault fault ≡ heard (reported_for (gives_along fabric path LinkAsked number)) → ⊥
+not_linked fabric at path number fault good links ends switch is_there reported =
     let given = gives_link fabric at number good links (end_port fabric path at good ends) switch is_there in
-    let so = given_along fabric at path number (told_fault fault) ends told ∙ ap (λ (one : Option (Result (List ℕ) MadStatus)). heard (told_for one)) given.gives in
+    let so = given_along fabric at path number (reported_fault fault) ends reported ∙ ap (λ (one : Option (Result (List ℕ) MadStatus)). heard (reported_for one)) given.gives in
     absurd (cc)
 
 -- by the code of Down
-pub link_told : (fabric : FabricState) (at : PortRef) (path bytes : List ℕ) (number code : ℕ) (read : PortInfo) → code ≡ 1 → IsGood fabric → ShowsLinks fabric
+pub link_reported : (fabric : FabricState) (at : PortRef) (path bytes : List ℕ) (number code : ℕ) (read : PortInfo) → code ≡ 1 → IsGood fabric → ShowsLinks fabric
     → end_of fabric path ≡ Some at → is_switch_at fabric.nodes at.node ≡ true → is_port fabric.nodes (port at.node number) ≡ true
-    → told_bytes bytes ≡ heard (told_for (gives_along fabric path LinkAsked number)) → Holds bytes (port_info read)
+    → reported_bytes bytes ≡ heard (reported_for (gives_along fabric path LinkAsked number)) → Holds bytes (port_info read)
     → not (read.port_state == code) ≡ is_cabled fabric.cables (port at.node number)
-link_told fabric at path bytes number code read is good links ends switch is_there told holds =
-    ap (λ (state : ℕ). not (read.port_state == state)) is ∙ linked fabric at path bytes number read good links ends switch is_there told holds
+link_reported fabric at path bytes number code read is good links ends switch is_there reported holds =
+    ap (λ (state : ℕ). not (read.port_state == state)) is ∙ linked fabric at path bytes number read good links ends switch is_there reported holds

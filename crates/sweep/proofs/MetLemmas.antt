@@ -5,11 +5,11 @@ use Rattle.std.specs.List.{All, IsDistinct, list_any}
 use Rattle.std.proofs.lemmas.List.{map-append}
 use Rattle.std.proofs.lemmas.List.Elements.{All-push}
 use Rattle.std.proofs.lemmas.Option.{same_Some, slice_get_cases, slice_get_within, slice_get-map}
-use Rattle.result_words.proofs.ListLemmas.{all_have}
+use Rattle.step_results.proofs.ListLemmas.{all_have}
 use Rattle.fabric_parts.specs.Cable.{far_end, is_same_port, port}
 use Rattle.fabric_parts.specs.declared.cable.PortRef.{PortRef}
 use Rattle.smp_wire.proofs.CableLemmas.{both_ways, far_is_port, same_port}
-use Rattle.result_words.proofs.DistinctLemmas.{differ}
+use Rattle.step_results.proofs.DistinctLemmas.{differ}
 use Rattle.smp_wire.specs.FabricState.{FabricState, is_switch_at}
 use Rattle.smp_wire.specs.Good.{IsGood}
 use Rattle.sweep.specs.OfFabric.{Found, node_at, nodes_of, port_seen, ports_at}
@@ -43,7 +43,7 @@ met_on fabric found i count ports are = record {
   asked = λ k d before. was_met_on fabric found i count _ (are.asked k d before);
 }
 
--- ---- no port hangs on two ports of switches
+-- ---- no port is attached to two ports of switches
 pub good_once : (fabric : FabricState) (a b : PortRef) → IsGood fabric → far_end fabric.cables a ≡ Some b → far_end fabric.cables b ≡ Some a
 good_once fabric a b good is = both_ways fabric.cables a b (differ is_same_port _ (present_once good)) is
 
@@ -61,7 +61,7 @@ node_place found k i one once within there same = by (slice_get_cases found k).1
         (node_there found k here.0 here.2 ∙ ap (λ (n : ℕ). Some n) (sym (node_of found k here.0 here.2) ∙ same)) (node_there found i one there)
     by (inr past) = absurd (omega (arith, past.0, within))
 
--- a port that hangs on a port that was not asked was not met
+-- a port that is attached to a port that was not asked was not met
 not_met : (fabric : FabricState) (found : List Found) (i count : ℕ) (one : Found) (there : PortRef) (met : Met) → IsGood fabric
     → IsDistinct (λ a b. a == b) (nodes_of found) → StandsAt found i one → far_end fabric.cables (port one.node (suc count)) ≡ Some there
     → WasMet fabric found i count met → is_same_port met.end there ≡ true → ⊥

@@ -6,12 +6,12 @@ use Rattle.std.specs.List.{list_any}
 use Rattle.std.proofs.lemmas.Bool.{and_parts, false≢true, not-true, or_cases, or_parts}
 use Rattle.std.proofs.lemmas.Bool.Decides.{nat_tests}
 use Rattle.std.proofs.lemmas.Option.{same_Some, slice_get_within}
-use Rattle.result_words.proofs.ListLemmas.{all_have, all_there}
+use Rattle.step_results.proofs.ListLemmas.{all_have, all_there}
 use Rattle.fabric_parts.specs.Cable.{far_end, is_same_port, port}
 use Rattle.fabric_parts.specs.declared.cable.Cable.{Cable}
 use Rattle.fabric_parts.specs.declared.cable.PortRef.{PortRef}
 use Rattle.smp_wire.proofs.CableLemmas.{cabled_is_port, far_end_before, itself}
-use Rattle.result_words.proofs.DistinctLemmas.{all_differ, differ}
+use Rattle.step_results.proofs.DistinctLemmas.{all_differ, differ}
 use Rattle.smp_wire.specs.FabricState.{FabricState, is_port, is_switch_at}
 use Rattle.smp_wire.specs.Good.{ends_of, is_right}
 use Rattle.smp_wire.specs.Walk.{end_of}

@@ -12,7 +12,7 @@ use Rattle.std.proofs.lemmas.Option.{same_Some, slice_get-map}
 use Rattle.fabric_parts.specs.declared.cable.PortRef.{PortRef}
 use Rattle.fabric_parts.specs.declared.node_type.NodeType.TheVariants as node_type
 use Rattle.port_model.specs.AdapterState.{AdapterState}
-use Rattle.result_words.proofs.DistinctLemmas.{left_part, right_part}
+use Rattle.step_results.proofs.DistinctLemmas.{left_part, right_part}
 use Rattle.smp_wire.specs.FabricState.{FabricState, is_switch, is_switch_at}
 use Rattle.smp_wire.specs.Good.{IsGood, end_port_guids, node_guid}
 use Rattle.smp_wire.specs.declared.node.Node.{Node}

@@ -6,7 +6,7 @@ use Rattle.std.proofs.lemmas.Bool.Decides.{nat_tests}
 use Rattle.std.proofs.lemmas.List.{append_assoc, append-nil, length-append, length-map, map-append, take-append-le, take_all}
 use Rattle.std.proofs.lemmas.List.Elements.{All-push}
 use Rattle.std.proofs.lemmas.Option.{same_Some, slice_get_cases, slice_get_within}
-use Rattle.result_words.proofs.ListLemmas.{list_all_push}
+use Rattle.step_results.proofs.ListLemmas.{list_all_push}
 use Rattle.fabric_parts.specs.Cable.{far_end, port}
 use Rattle.fabric_parts.specs.declared.cable.PortRef.{PortRef}
 use Rattle.smp_wire.specs.FabricState.{FabricState, is_switch_at}
@@ -20,7 +20,7 @@ use Rattle.sweep.specs.declared.graph.GraphLink.{GraphLink}
 use Rattle.fabric_parts.specs.declared.limits.TheConstants.{ADAPTER_PORTS, SWITCHES}
 use Rattle.sweep.specs.declared.path.TheConstants.{PATH_HOPS}
 use Rattle.sweep.proofs.FoundLemmas.{distinct_push, found_among, found_kept, place_kept}
-use Rattle.result_words.proofs.RangeLemmas.{flat_more, flat_same, get_kept, get_pushed, map_more, map_same}
+use Rattle.step_results.proofs.RangeLemmas.{flat_more, flat_same, get_kept, get_pushed, map_more, map_same}
 
 below_or_next : (n m : ℕ) → n ≤ suc m → (n ≤ m) ⊎ (n ≡ suc m)
 below_or_next n m h = by (nat_le n m) refl
@@ -110,7 +110,7 @@ port_more fabric found i count one old new row next there so_far known here = re
 }
 
 -- ---- a switch more
--- it is new, and hangs on the i-th
+-- it is new, and is attached to the i-th
 pub record IsNew (fabric : FabricState) (found : List Found) (one new : Found) : Type 0 where
   pub switch : is_switch_at fabric.nodes new.node ≡ true
   pub not_there : is_among (nodes_of found) new.node ≡ false

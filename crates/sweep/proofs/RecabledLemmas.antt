@@ -207,7 +207,7 @@ module _ (graph : GraphState) (is : IsGraph graph) (a b : PortRef) (may : MayBeC
       (rows_by (λ links. list_all (is_right_link graph.switches (rows_with a b graph.rows) k) links ≡ true) k (get_or graph.rows k [])
       (λ same. put a.port b (ap (λ (n : ℕ). is_right_link graph.switches (rows_with a b graph.rows) n (record { port = a.port; to = b })) same ∙ right_first))
       (λ same. put b.port a (ap (λ (n : ℕ). is_right_link graph.switches (rows_with a b graph.rows) n (record { port = b.port; to = a })) same ∙ right_second))
-      (Rattle.result_words.proofs.ListLemmas.list_all_weaker (is_right_link graph.switches graph.rows k) (is_right_link graph.switches (rows_with a b graph.rows) k)
+      (Rattle.step_results.proofs.ListLemmas.list_all_weaker (is_right_link graph.switches graph.rows k) (is_right_link graph.switches (rows_with a b graph.rows) k)
       (right_still_with k) (get_or graph.rows k []) (row_right graph is k within))))
     where
       rises : rise_above 0 (get_or graph.rows k []) ≡ true

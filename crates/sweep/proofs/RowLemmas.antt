@@ -146,7 +146,7 @@ above last number (link ∷ links) rise some =
 pub by_port : (number : ℕ) (x : PortRef) (links : List GraphLink) → list_any (λ link. (link.port == number) && is_same_port link.to x) links ≡ true
     → list_any (λ link. link.port == number) links ≡ true
 by_port number x links =
-    Rattle.result_words.proofs.ListLemmas.list_any_weaker (λ link. (link.port == number) && is_same_port link.to x) (λ link. link.port == number)
+    Rattle.step_results.proofs.ListLemmas.list_any_weaker (λ link. (link.port == number) && is_same_port link.to x) (λ link. link.port == number)
     (λ link h. (and_parts (link.port == number) _ h).0) links
 
 pub linked_once : (last number : ℕ) (x y : PortRef) (links : List GraphLink) → rise_above last links ≡ true

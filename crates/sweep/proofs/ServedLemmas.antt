@@ -1,4 +1,4 @@
--- What the distances of a graph's switches from the subnet manager's tell of whether it is whole.
+-- What the distances of a graph's switches from the subnet manager's report of whether it is whole.
 use Rattle.std.proofs.Common.{◌≡◌, ℕ, zero, suc, ◌-◌, ◌<◌, ◌⊎◌, Bool, true, false, not, ◌==◌, ◌&&◌, ◌||◌, nat_le, List, [], ◌∷◌, ◌++◌, find, length, get_or}
 use Rattle.std.proofs.Common.{Option, Some, None, cond, option_map, refl, sym, ap, ◌∙◌, inl, inr, arith}
 use Rattle.std.specs.Bool.{Decides}
@@ -6,7 +6,7 @@ use Rattle.std.specs.List.{All, Contains, list_all, list_any}
 use Rattle.std.specs.Option.{is_some, option_map_or, unwrap_or}
 use Rattle.std.proofs.lemmas.Bool.{and_from, and_parts, eq-eqb, eqb-true, false≢true, le-leb, leb-true, or_cases, or_left, or_right}
 use Rattle.std.proofs.lemmas.Bool.Decides.{Decides-by_and}
-use Rattle.result_words.proofs.ListLemmas.{all_at, list_any_weaker}
+use Rattle.step_results.proofs.ListLemmas.{all_at, list_any_weaker}
 use Rattle.fabric_parts.specs.Cable.{is_same_port, port}
 use Rattle.sweep.specs.Graph.{GraphState, IsGraph, count_at, is_right_link, is_right_port, is_switch_port}
 use Rattle.sweep.specs.Joined.{AllJoined, is_next_to, is_walk_by}

@@ -11,7 +11,7 @@ use Rattle.std.proofs.lemmas.List.Folds.{list_all-append, list_all-map}
 use Rattle.std.proofs.lemmas.List.FromFn.{get_or-range_with_len}
 use Rattle.std.proofs.lemmas.Option.{get_or_from_slice_get, same_Some, slice_get_cases, slice_get_within, slice_get-map}
 use Rattle.std.proofs.lemmas.Slice.Eq.{bytes_eq-Decides}
-use Rattle.result_words.proofs.ListLemmas.{all_there}
+use Rattle.step_results.proofs.ListLemmas.{all_there}
 use Rattle.mad_layout.specs.Layout.{Fits, Holds}
 use Rattle.mad_layout.specs.declared.status.MadStatus.{MadStatus}
 use Rattle.mad_layout.proofs.LayoutLemmas.{holds_put_all}
@@ -162,7 +162,7 @@ switch_shows held number right guid first last =
       reads = λ read holds. seen_again node_type.Switch (num_ports held) held.node_guid held.node_guid number read showable holds;
     }
 
--- ---- a port of an adapter, as its adapter's list of ports tells
+-- ---- a port of an adapter, as its adapter's list of ports reports
 pub record IsPortOf (ports : List AdapterState) (number : ℕ) (port : AdapterState) : Type 0 where
   pub there : adapter_port ports number ≡ Some port
   pub node : port.node_guid ≡ node_guid (Adapter ports)

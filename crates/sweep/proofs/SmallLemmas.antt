@@ -12,7 +12,7 @@ use Rattle.std.proofs.lemmas.Option.{slice_get_cases, slice_get-map}
 use Rattle.fabric_parts.specs.Cable.{far_end, is_same_port, port}
 use Rattle.fabric_parts.specs.declared.cable.PortRef.{PortRef}
 use Rattle.port_model.specs.AdapterState.{AdapterState}
-use Rattle.result_words.proofs.ListLemmas.{all_there}
+use Rattle.step_results.proofs.ListLemmas.{all_there}
 use Rattle.smp_wire.proofs.CableLemmas.{cabled_is_port, itself, same_port}
 use Rattle.smp_wire.proofs.PresentLemmas.{present_right}
 use Rattle.smp_wire.specs.FabricState.{FabricState, is_port, is_switch, is_switch_at, port_count}
@@ -24,7 +24,7 @@ use Rattle.sweep.specs.Limits.{IsTooBig, is_adapter_port}
 use Rattle.sweep.specs.OfFabric.{Found, IsLayoutOf, all_ports, is_among, node_at, nodes_of, switch_of}
 use Rattle.sweep.specs.declared.graph.GraphPort.{GraphPort}
 use Rattle.sweep.proofs.CabledLemmas.{far_of}
-use Rattle.sweep.proofs.EndPortLemmas.{AdapterAt, hangs, stands}
+use Rattle.sweep.proofs.EndPortLemmas.{AdapterAt, attached, stands}
 use Rattle.sweep.proofs.FoundLemmas.{any_at, any_by}
 
 -- ---- switches
@@ -69,7 +69,7 @@ held_at fabric at adapter is = by (slice_get fabric.nodes at.node) refl adapter 
         by_number ports (at.port == 0) node refl (leb-true 1 at.port (and_parts (nat_le 1 at.port) _ range).0)
         (leb-true at.port (length ports) (and_parts (nat_le 1 at.port) _ range).1)
 
--- the port of an adapter that hangs where the graph says
+-- the port of an adapter that is attached where the graph says
 abbrev end_there : FabricState → List Found → GraphPort → PortRef
 end_there fabric found one = unwrap_or (far_end fabric.cables (port (node_at found one.at.node) one.at.port)) one.at
 
@@ -96,7 +96,7 @@ few_ports fabric found some good all once are =
         let adapter = not-true _ parts.0 in
         let far = far_of fabric.cables at parts.1 in
         let is = cabled_is_port fabric.nodes fabric.cables at far.0 (present_right good) far.1 in
-        let hung = hangs fabric found at good all adapter parts.1 (held_at fabric at adapter is) in
+        let hung = attached fabric found at good all adapter parts.1 (held_at fabric at adapter is) in
         let stood = stands (all_ports fabric found) _ hung.among in
         any_by (is_same_port at) (map (end_there fabric found) (all_ports fabric found)) stood.0 at
         (slice_get-map (end_there fabric found) (all_ports fabric found) stood.0 ∙ ap (option_map (end_there fabric found)) stood.1

@@ -16,7 +16,7 @@ use Rattle.smp_wire.specs.declared.node.Node.TheVariants.{Switch, Adapter}
 use Rattle.smp_wire.specs.FabricState.{FabricState, adapter_port, is_port, is_switch, is_switch_at}
 use Rattle.smp_wire.specs.Good.{IsGood, is_right, node_guid}
 use Rattle.smp_wire.specs.Walk.{end_of, last_of, walk}
-use Rattle.result_words.proofs.ElementLemmas.{find_all}
+use Rattle.step_results.proofs.ElementLemmas.{find_all}
 use Rattle.smp_wire.proofs.PathLemmas.{paths_begin}
 use Rattle.sweep.specs.OfFabric.{switch_of}
 use Rattle.sweep.specs.Seen.{name_at, name_in, seen_at, seen_in}
@@ -34,7 +34,7 @@ use Rattle.smp_wire.proofs.PresentLemmas.{present_right}
 abbrev pub switch_shown : Seen → List ℕ → List ℕ → GraphSwitch
 switch_shown seen name path = record { guid = seen.node_guid; num_ports = seen.num_ports; name = name; path = path }
 
--- ---- what is seen tells the kind of its node and the number of its port
+-- ---- what is seen reports the kind of its node and the number of its port
 adapter_by : (guid count number : ℕ) (found : Option AdapterState) (seen : Seen)
     → option_map (λ (one : AdapterState).
     record { node_type = node_type.ChannelAdapter; num_ports = count; node_guid = guid; port_guid = one.port_guid; local_port_num = number }) found ≡ Some seen
@@ -121,7 +121,7 @@ begins fabric good =
       ends = ap (option_map (last_of fabric.manager)) (paths_begin fabric [] good.manager_port) ∙ first_hop fabric (far_end fabric.cables fabric.manager) ∙ far;
     }
 
--- ---- what was told along a path that ends
+-- ---- what was reported along a path that ends
 abbrev pub sight : Seen → Result Seen SweepFault
 sight seen = Ok seen
 
@@ -140,26 +140,26 @@ named_if None name is = absurd (cc)
 named_if (Some one) name is = cc
 
 abbrev pub SeenAlong : FabricState → List ℕ → Result Seen SweepFault → Type 0
-SeenAlong fabric path told = told ≡ ok_or (option_and_then (seen_at fabric) (end_of fabric path)) NoReply
+SeenAlong fabric path reported = reported ≡ ok_or (option_and_then (seen_at fabric) (end_of fabric path)) NoReply
 
 abbrev pub NamedAlong : FabricState → List ℕ → Result (List ℕ) SweepFault → Type 0
-NamedAlong fabric path told = told ≡ ok_or (option_and_then (name_at fabric) (end_of fabric path)) NoReply
+NamedAlong fabric path reported = reported ≡ ok_or (option_and_then (name_at fabric) (end_of fabric path)) NoReply
 
 pub seen_ok : (fabric : FabricState) (path : List ℕ) (at : PortRef) (seen : Seen) → end_of fabric path ≡ Some at
     → SeenAlong fabric path (sight seen) → seen_at fabric at ≡ Some seen
-seen_ok fabric path at seen ends told =
-    seen_if (seen_at fabric at) seen (told ∙ ap (λ (o : Option PortRef). ok_or (option_and_then (seen_at fabric) o) NoReply) ends)
+seen_ok fabric path at seen ends reported =
+    seen_if (seen_at fabric at) seen (reported ∙ ap (λ (o : Option PortRef). ok_or (option_and_then (seen_at fabric) o) NoReply) ends)
 
 pub named_ok : (fabric : FabricState) (path : List ℕ) (at : PortRef) (name : List ℕ) → end_of fabric path ≡ Some at
     → NamedAlong fabric path (naming name) → name_at fabric at ≡ Some name
-named_ok fabric path at name ends told =
-    named_if (name_at fabric at) name (told ∙ ap (λ (o : Option PortRef). ok_or (option_and_then (name_at fabric) o) NoReply) ends)
+named_ok fabric path at name ends reported =
+    named_if (name_at fabric at) name (reported ∙ ap (λ (o : Option PortRef). ok_or (option_and_then (name_at fabric) o) NoReply) ends)
 
 pub seen_err : (fabric : FabricState) (path : List ℕ) (at : PortRef) (fault : SweepFault) → IsGood fabric → is_port fabric.nodes at ≡ true
     → end_of fabric path ≡ Some at → SeenAlong fabric path (no_sight fault) → ⊥
-seen_err fabric path at fault good is_there ends told =
+seen_err fabric path at fault good is_there ends reported =
     let shown = (gives_info fabric at good is_there).is in
-    let so = told ∙ ap (λ (o : Option PortRef). ok_or (option_and_then (seen_at fabric) o) NoReply) ends ∙ ap (λ (o : Option Seen). ok_or o NoReply) shown in
+    let so = reported ∙ ap (λ (o : Option PortRef). ok_or (option_and_then (seen_at fabric) o) NoReply) ends ∙ ap (λ (o : Option Seen). ok_or o NoReply) shown in
     absurd (cc)
 
 -- ---- what the sweep begins with
@@ -170,24 +170,24 @@ at_manager fabric none empty = ap (end_of fabric) empty
 -- the path of the first hop, and where it ends
 path_is : (fabric : FabricState) (none path : List ℕ) (here : Seen) → none ≡ [] → path ≡ none ++ here.local_port_num ∷ []
     → SeenAlong fabric none (sight here) → path ≡ fabric.manager.port ∷ []
-path_is fabric none path here empty is told =
-    let seen = seen_ok fabric none fabric.manager here (at_manager fabric none empty) told in
+path_is fabric none path here empty is reported =
+    let seen = seen_ok fabric none fabric.manager here (at_manager fabric none empty) reported in
     is ∙ ap (λ (first : List ℕ). first ++ here.local_port_num ∷ []) empty ∙ ap (λ (n : ℕ). n ∷ []) (kind_at fabric fabric.manager here seen).1
 
 pub no_second : (fabric : FabricState) (none path : List ℕ) (here : Seen) (fault : SweepFault) → IsGood fabric → none ≡ []
     → path ≡ none ++ here.local_port_num ∷ [] → SeenAlong fabric none (sight here) → SeenAlong fabric path (no_sight fault) → ⊥
-no_second fabric none path here fault good empty is first told =
+no_second fabric none path here fault good empty is first reported =
     let b = begins fabric good in
     let ends = ap (end_of fabric) (path_is fabric none path here empty is first) ∙ b.ends in
-    seen_err fabric path b.there fault good (end_port fabric path b.there good ends) ends told
+    seen_err fabric path b.there fault good (end_port fabric path b.there good ends) ends reported
 
 pub second_switch : (fabric : FabricState) (none path : List ℕ) (here there : Seen) → IsGood fabric → none ≡ []
     → path ≡ none ++ here.local_port_num ∷ [] → SeenAlong fabric none (sight here) → SeenAlong fabric path (sight there)
     → is_switch_type there.node_type ≡ false → ⊥
-second_switch fabric none path here there good empty is first told adapter =
+second_switch fabric none path here there good empty is first reported adapter =
     let b = begins fabric good in
     let ends = ap (end_of fabric) (path_is fabric none path here empty is first) ∙ b.ends in
-    let seen = seen_ok fabric path b.there there ends told in
+    let seen = seen_ok fabric path b.there there ends reported in
     let kind = sym adapter ∙ (kind_at fabric b.there there seen).0 ∙ b.switch in
     absurd (cc)
 

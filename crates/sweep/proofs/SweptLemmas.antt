@@ -6,8 +6,8 @@ use Rattle.std.specs.List.{All, Contains}
 use Rattle.std.specs.Option.{option_and_then, option_map_or, unwrap_or}
 use Rattle.std.proofs.lemmas.Bool.{and_parts, eq-eqb, eqb-true, false≢true, or_cases}
 use Rattle.std.proofs.lemmas.List.Elements.{Contains-get_or}
-use Rattle.result_words.proofs.DistinctLemmas.{differ}
-use Rattle.result_words.proofs.ListLemmas.{all_there}
+use Rattle.step_results.proofs.DistinctLemmas.{differ}
+use Rattle.step_results.proofs.ListLemmas.{all_there}
 use Rattle.fabric_parts.specs.Cable.{far_end, is_same_port, port}
 use Rattle.fabric_parts.specs.declared.cable.PortRef.{PortRef}
 use Rattle.smp_wire.proofs.CableLemmas.{far_is_port}
@@ -27,7 +27,7 @@ use Rattle.sweep.specs.Seen.{name_at}
 use Rattle.sweep.specs.declared.graph.GraphLink.{GraphLink}
 use Rattle.sweep.specs.declared.graph.GraphPort.{GraphPort}
 use Rattle.sweep.proofs.CabledLemmas.{cabled_of}
-use Rattle.sweep.proofs.EndPortLemmas.{hangs, in_all, of_one, one_of, stands, there_is}
+use Rattle.sweep.proofs.EndPortLemmas.{attached, in_all, of_one, one_of, stands, there_is}
 use Rattle.sweep.proofs.FoundLemmas.{place_is}
 use Rattle.sweep.proofs.LayoutLemmas.{At, are_inside, at_less, at_switch, first, less_at, manager_at, none_in, port_of, range_of, row_is, same_node, same_place, switch_at, walk_down, walk_up}
 use Rattle.sweep.proofs.LeastLemmas.{begins}
@@ -78,7 +78,7 @@ module _ (fabric : FabricState) (graph : GraphState) (good : IsGood fabric) (lay
           (down.steps, ap (is_walk_by (is_next_to graph.rows) s down.steps) (sym same) ∙ down.leads)
 
   -- ---- near
-  near_within : (k node : ℕ) → Stands k node → IsNear graph.rows (manager_switch graph) k → IsWithin fabric 62 node
+  pub near_within : (k node : ℕ) → Stands k node → IsNear graph.rows (manager_switch graph) k → IsWithin fabric 62 node
   near_within k node at near =
       let start = first fabric graph good layout in
       let up = walk_up fabric graph good layout start.0 (manager_switch graph) k near.steps (manager_at fabric graph good layout) near.leads in
@@ -95,7 +95,7 @@ module _ (fabric : FabricState) (graph : GraphState) (good : IsGood fabric) (lay
         node_is = same_node fabric graph good layout k _ node up.at at;
       }
 
-  within_near : (k node : ℕ) → Stands k node → IsWithin fabric 62 node → IsNear graph.rows (manager_switch graph) k
+  pub within_near : (k node : ℕ) → Stands k node → IsWithin fabric 62 node → IsNear graph.rows (manager_switch graph) k
   within_near k node at within =
       let start = first fabric graph good layout in
       let from = begins fabric within.rest within.at start.0 (far_end fabric.cables fabric.manager) start.1
@@ -143,7 +143,7 @@ module _ (fabric : FabricState) (graph : GraphState) (good : IsGood fabric) (lay
       by true kind = of_link (at_switch fabric graph good layout b.node kind) (whole.links s.0 (record { port = a.port; to = placed nodes b }) (link_there s.0 a.node a.port b s.1 far kind))
       by false kind =
           let held = held_at fabric b kind (far_is_port fabric.nodes fabric.cables a b (present_right good) far) in
-          let hung = hangs fabric layout.found b good layout.all kind (cabled_of fabric.cables b a (good_once fabric a b good far)) held in
+          let hung = attached fabric layout.found b good layout.all kind (cabled_of fabric.cables b a (good_once fabric a b good far)) held in
           let shown = port_seen (port hung.place hung.number) (unwrap_or (name_at fabric b) []) (seen_of held.ports b.port held.one) in
           let has : Contains graph.ports shown = subst (λ (ports : List GraphPort). Contains ports shown) (sym layout.ports) hung.among in
           let of = port_of fabric graph good layout shown has in

@@ -10,7 +10,7 @@ use Rattle.std.proofs.lemmas.Bool.Decides.{Decides-eqb, nat_tests}
 use Rattle.std.proofs.lemmas.List.{append-nil}
 use Rattle.std.proofs.lemmas.List.Folds.{list_any-append}
 use Rattle.std.proofs.lemmas.Option.{get_or_from_slice_get, same_Some, slice_get_cases, slice_get_within}
-use Rattle.result_words.proofs.ListLemmas.{all_have}
+use Rattle.step_results.proofs.ListLemmas.{all_have}
 use Rattle.fabric_parts.specs.Cable.{ends_at, far_end, is_same_port, other_end, port}
 use Rattle.fabric_parts.specs.declared.cable.Cable.{Cable}
 use Rattle.fabric_parts.specs.declared.cable.PortRef.{PortRef}

@@ -8,7 +8,7 @@ use Rattle.std.proofs.lemmas.Bool.Decides.{nat_tests}
 use Rattle.std.proofs.lemmas.List.Folds.{list_all-map}
 use Rattle.std.proofs.lemmas.List.{append_assoc, append-nil, length-append, length-map}
 use Rattle.std.proofs.lemmas.Option.{same_Some, slice_get-map}
-use Rattle.result_words.proofs.ListLemmas.{all_have, all_there, list_all_push}
+use Rattle.step_results.proofs.ListLemmas.{all_have, all_there, list_all_push}
 use Rattle.fabric_parts.specs.Cable.{far_end, is_cabled, port}
 use Rattle.fabric_parts.specs.declared.cable.PortRef.{PortRef}
 use Rattle.smp_wire.specs.FabricState.{FabricState, is_port, is_switch_at}
@@ -33,7 +33,7 @@ use Rattle.sweep.proofs.MetLemmas.{good_once, met_more, met_on}
 use Rattle.sweep.proofs.CabledLemmas.{cabled_of, end_more, far_none}
 use Rattle.sweep.proofs.PlaceLemmas.{count_found, found_place, has_guid, not_found, switch_seen}
 use Rattle.sweep.proofs.ProgressLemmas.{IsKnownNext, IsNew, NotesAt, links_here, next_switch, node_of, port_more, ports_here, switch_more}
-use Rattle.result_words.proofs.RangeLemmas.{get_kept, get_last}
+use Rattle.step_results.proofs.RangeLemmas.{get_kept, get_last}
 
 -- ---- each switch that was found is one
 pub stands_switch : (fabric : FabricState) (found : List Found) (k : ℕ) (one : Found) → list_all (is_switch_at fabric.nodes) (nodes_of found) ≡ true
@@ -399,12 +399,12 @@ behind_it fabric one path next here at there seen is base cable goes short seen_
   seen_is = seen_is;
 }
 
--- ---- what was told of a link
+-- ---- what was reported of a link
 abbrev pub bit : Bool → Result Bool SweepFault
 bit b = Ok b
 
 pub same_bit : (a b v : Bool) → bit a ≡ bit b → a ≡ v → b ≡ v
-same_bit a b v told is = let same : a ≡ b = cc in sym same ∙ is
+same_bit a b v reported is = let same : a ≡ b = cc in sym same ∙ is
 
 pub no_cable : (fabric : FabricState) (one : Found) (path : List ℕ) (here at : PortRef) → IsBase fabric one path here at
     → is_cabled fabric.cables (port at.node here.port) ≡ false → far_end fabric.cables (port one.node here.port) ≡ None

@@ -1,4 +1,4 @@
--- Why a sweep stops: the codes that are printed, and what a request that told nothing means.
+-- Why a sweep stops: the codes that are printed, and what a request that reported nothing means.
 use Rattle.std.specs.Prelude.{ℕ, List, codes, Option, Some, None, Result, Ok, Err}
 use Rattle.smp_wire.specs.declared.reply.ReplyFault.{ReplyFault}
 use Rattle.smp_wire.specs.declared.reply.ReplyFault.TheVariants as reply
@@ -18,7 +18,7 @@ fault_of reply.NoReply = NoReply
 fault_of reply.Refused = WrongReply
 fault_of reply.WrongReply = WrongReply
 
--- what was told, with what a sweep stops with in place of the fault
+-- what was reported, with what a sweep stops with in place of the fault
 abbrev pub heard : {X : Type 0} → Result X ReplyFault → Result X SweepFault
 heard (Ok x) = Ok x
 heard (Err fault) = Err (fault_of fault)

@@ -1,5 +1,5 @@
 -- What a subnet manager knows of a fabric: its switches in order of discovery, the links between them, and the ports of
--- channel adapters that hang on them. And what holds of every such graph, whatever wire it came over.
+-- channel adapters that are attached to them. And what holds of every such graph, whatever wire it came over.
 use Rattle.std.specs.Prelude.{ℕ, ◌≡◌, ◌≤◌, ◌==◌, ◌&&◌, ◌||◌, not, nat_le, nat_lt, Bool, true, List, [], ◌∷◌, ◌++◌, map, length, get_or, slice_get}
 use Rattle.std.specs.List.{IsDistinct, list_all, list_any, range_with_len}
 use Rattle.std.specs.Option.{option_map_or}
@@ -86,7 +86,7 @@ is_right_port switches port =
     && (nat_le port.num_ports (most_ports node_type.ChannelAdapter)
     && (is_no_switch switches port.node_guid && nat_lt (hops_to switches port.at.node) PATH_HOPS)))
 
--- two ports of one adapter have two numbers, and tell one number of ports
+-- two ports of one adapter have two numbers, and report one number of ports
 abbrev pub agree : GraphPort → GraphPort → Bool
 agree one other =
     not (one.node_guid == other.node_guid) || ((one.num_ports == other.num_ports) && not (one.number == other.number))

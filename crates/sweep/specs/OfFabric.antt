@@ -79,7 +79,7 @@ port_seen at name seen =
       at = at;
     }
 
--- the port that hangs at that port of a switch, if there is an adapter at the other end of its cable
+-- the port that is attached at that port of a switch, if there is an adapter at the other end of its cable
 abbrev pub port_to : FabricState → PortRef → PortRef → List GraphPort
 port_to fabric at there =
     if is_switch_at fabric.nodes there.node then []
@@ -90,7 +90,7 @@ ports_up_to fabric place node count =
     flat_map (λ number. option_map_or (port_to fabric (port place number)) (far_end fabric.cables (port node number)) [])
     (range_with_len 1 count)
 
--- those that hang on the switches at the first places of the list
+-- those that are attached to the switches at the first places of the list
 abbrev pub node_at : List Found → ℕ → ℕ
 node_at found place = option_map_or (λ one. one.node) (slice_get found place) 0
 

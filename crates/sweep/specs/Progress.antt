@@ -45,11 +45,11 @@ pub record IsDiscovery (fabric : FabricState) (found : List Found) : Type 0 wher
   pub are : list_all (is_switch_at fabric.nodes) (nodes_of found) ≡ true
   pub few : length found ≤ SWITCHES
   pub lead : All (Leads fabric) found
-  -- the first switch is the one that the subnet manager's port hangs on
+  -- the first switch is the one that the subnet manager's port is attached to
   pub first : PortRef
   pub first_cable : far_end fabric.cables fabric.manager ≡ Some first
   pub first_found : is_found found 1 first.node ≡ true
-  -- each other hangs on one that was found earlier
+  -- each other is attached to one that was found earlier
   pub joined : (k : ℕ) (one : Found) → 1 ≤ k → StandsAt found k one → HasNeighbour fabric (take k (nodes_of found)) one.node
   -- they stand in order of their distances
   pub sorted : (j k : ℕ) (near far : Found) → j ≤ k → StandsAt found j near → StandsAt found k far
@@ -83,7 +83,7 @@ abbrev pub WasAsked : List Found → ℕ → ℕ → PortRef → Type 0
 WasAsked found i count at =
     ((at.node < i) ⊎ ((at.node ≡ i) × (at.port ≤ count))) × ((1 ≤ at.port) × (at.node < length found))
 
--- it hangs on a port that was asked
+-- it is attached to a port that was asked
 pub record WasMet (fabric : FabricState) (found : List Found) (i count : ℕ) (met : Met) : Type 0 where
   pub asked : WasAsked found i count met.port.at
   pub cable : far_end fabric.cables (port (node_at found met.port.at.node) met.port.at.port) ≡ Some met.end

@@ -57,7 +57,7 @@ pub record MayBeCabled (graph : GraphState) (a b : PortRef) : Type 0 where
   pub second_free : is_free graph.rows b ≡ true
 
 -- ---- whether the cables serve to sweep it
--- the place of the switch on which the subnet manager's port hangs
+-- the place of the switch to which the subnet manager's port is attached
 abbrev pub manager_switch : GraphState → ℕ
 manager_switch graph = unwrap_or (option_map (λ port. port.at.node) (find (λ port. port.port_guid == graph.manager) graph.ports)) 0
 

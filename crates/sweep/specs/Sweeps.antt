@@ -23,7 +23,7 @@ pub record IsSweepable (fabric : FabricState) : Type 0 where
   pub links : ShowsLinks fabric
   pub joined : SwitchesJoined fabric
 
--- ---- what comes of a step: it is done, or memory is refused, or the fabric is too deep or too big; each request is
+-- ---- what comes of a step: it is done, or an allocation fails, or the fabric is too deep or too big; each request is
 -- answered, and no reply is wrong
 abbrev pub Fails : FabricState → SweepFault → Type 0
 Fails fabric NoMemory = Unit {0}
@@ -36,7 +36,7 @@ abbrev pub Comes : {X : Type 0} → FabricState → (X → Type 0) → Result X 
 Comes fabric Done (Ok x) = Done x
 Comes fabric Done (Err fault) = Fails fabric fault
 
--- it is done, or memory is refused, or there is no room
+-- it is done, or an allocation fails, or there is no room
 abbrev pub IsFull : Type 0 → SweepFault → Type 0
 IsFull full NoMemory = Unit {0}
 IsFull full NoReply = ⊥
@@ -48,7 +48,7 @@ abbrev pub Adds : {X : Type 0} → Type 0 → (X → Type 0) → Result X SweepF
 Adds full Done (Ok x) = Done x
 Adds full Done (Err fault) = IsFull full fault
 
--- a link is noted, or memory is refused
+-- a link is noted, or an allocation fails
 abbrev pub Noted : List GraphLink → List GraphLink → PortRef → PortRef → Result (Unit {0}) SweepFault → Type 0
 Noted row next here to (Ok done) = next ≡ row ++ record { port = here.port; to = to } ∷ []
 Noted row next here to (Err fault) = fault ≡ NoMemory

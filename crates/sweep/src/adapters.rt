@@ -15,25 +15,25 @@ struct AdapterPort {
     number: u8,
 }
 
-/// Whether that number of ports is the one that was told before, if one was.
-fn is_count(told: Option<u8>, count: u8) -> bool
-    ensures { result ≡ is_count count told }
+/// Whether that number of ports is the one that was reported before, if one was.
+fn is_count(reported: Option<u8>, count: u8) -> bool
+    ensures { result ≡ is_count count reported }
 {
-    match told {
+    match reported {
         Some(known) => known == count,
         None => true,
     }
 }
 
-/// Whether each two ports agree: those of one adapter have two numbers, and tell one number of ports. Each is looked
-/// up in constant time. Memory alone can be refused.
+/// Whether each two ports agree: those of one adapter have two numbers, and report one number of ports. Each is looked
+/// up in constant time. It can only run out of memory.
 pub(crate) fn all_agree(alloc: Global, ports: &[GraphPort]) -> Result<bool, AllocError>
     ensures { IfOk result (λ b. b ≡ all_agree ports.now) }
 {
     let mut counts = IndexMap::new(alloc);
     let mut numbers = IndexSet::new(alloc);
     for port in ports {
-        let told = counts.insert(port.node_guid, port.num_ports)?;
+        let reported = counts.insert(port.node_guid, port.num_ports)?;
         let is_new = numbers.insert(AdapterPort {
             guid: port.node_guid,
             number: port.number,
@@ -41,7 +41,7 @@ pub(crate) fn all_agree(alloc: Global, ports: &[GraphPort]) -> Result<bool, Allo
         if !is_new {
             return Ok(false);
         }
-        if !is_count(told, port.num_ports) {
+        if !is_count(reported, port.num_ports) {
             return Ok(false);
         }
     }

@@ -1,4 +1,4 @@
-//! Whether what was told of a fabric agrees with itself.
+//! Whether what was reported of a fabric agrees with itself.
 
 ghost use Rattle.std.specs.Prelude.{◌≡◌, ◌==◌, ◌&&◌, nat_le, [], length, get_or, IfOk};
 ghost use Rattle.std.specs.Bool.{Decides};
@@ -14,7 +14,7 @@ use fabric_parts::{ADAPTER_PORTS, NodeType, PortRef, SWITCHES};
 use std::alloc::{AllocError, Global};
 use std::collections::HashSet;
 
-/// Whether these are a graph. Memory alone can be refused.
+/// Whether these are a graph. It can only run out of memory.
 pub(crate) fn are_a_graph(
     alloc: Global,
     manager: u64,
@@ -199,7 +199,7 @@ fn hops_to(switches: &[GraphSwitch], place: usize) -> usize
     }
 }
 
-/// Whether it hangs on a port of a switch that a path goes on from, and is one of an adapter of 1 to 8 ports.
+/// Whether it is attached to a port of a switch that a path goes on from, and is one of an adapter of 1 to 8 ports.
 fn is_right_port(switches: &SwitchList, port: &GraphPort) -> bool
     ensures { result ≡ is_right_port switches.now port.now }
 {
@@ -218,7 +218,7 @@ fn has_guid(ports: &[GraphPort], guid: u64) -> bool
     ports.iter().any(|port| port.port_guid == guid)
 }
 
-/// Whether no two of switches and ports have one GUID. Memory alone can be refused.
+/// Whether no two of switches and ports have one GUID. It can only run out of memory.
 fn have_own_guids(
     alloc: Global,
     switches: &[GraphSwitch],
@@ -230,7 +230,7 @@ fn have_own_guids(
     are_distinct(alloc, &guids)
 }
 
-/// The GUIDs of switches and ports. Memory alone can be refused.
+/// The GUIDs of switches and ports. It can only run out of memory.
 pub(crate) fn end_guids(
     alloc: Global,
     switches: &[GraphSwitch],
@@ -243,7 +243,7 @@ pub(crate) fn end_guids(
     of_switches.chain(of_ports).collect(alloc)
 }
 
-/// Whether no two are the same. Memory alone can be refused.
+/// Whether no two are the same. It can only run out of memory.
 fn are_distinct(alloc: Global, guids: &[u64]) -> Result<bool, AllocError>
     ensures { IfOk result (λ b. Decides b (IsDistinct (λ a b. a == b) guids.now)) }
 {

@@ -7,7 +7,7 @@ ghost use Rattle.fabric_parts.specs.Cable.{is_cabled, port};
 ghost use Rattle.smp_wire.specs.FabricState.{is_port, is_switch_at};
 ghost use Rattle.smp_wire.specs.Get.{gives_along};
 ghost use Rattle.smp_wire.specs.Good.{IsGood, ShowsLinks};
-ghost use Rattle.smp_wire.specs.Replies.{told_for};
+ghost use Rattle.smp_wire.specs.Replies.{reported_for};
 ghost use Rattle.smp_wire.specs.Walk.{end_of};
 ghost use Rattle.sweep.specs.Fault.{heard};
 ghost use Rattle.sweep.specs.Seen.{name_at, seen_at};
@@ -19,7 +19,7 @@ use crate::seen::{Seen, seen_of};
 use attr_tables::{NodeDescription, NodeInfo, PortInfo, PortState, SmpAttribute};
 use smp_wire::{SmpWire, get_attribute};
 
-/// Gets that part of an attribute, under the next TransactionID, so that a late reply is told from its own.
+/// Gets that part of an attribute, under the next TransactionID, so that a late reply is distinguished from its own.
 fn get<W: SmpWire>(
     wire: &mut W,
     transaction_id: &mut u64,
@@ -27,8 +27,8 @@ fn get<W: SmpWire>(
     modifier: u32,
     path: &Path,
 ) -> Result<[u8; 64], SweepFault>
-    ensures told { ForSome (W.fabric wire.old) (λ fabric. IsGood fabric
-        → result ≡ heard (told_for (gives_along fabric path.now attribute modifier))) }
+    ensures reported { ForSome (W.fabric wire.old) (λ fabric. IsGood fabric
+        → result ≡ heard (reported_for (gives_along fabric path.now attribute modifier))) }
     ensures left { ForSome (W.fabric wire.old) (λ fabric. IsGood fabric → W.fabric wire.new ≡ Some fabric) }
     ensures counted { transaction_id.new ≡ (transaction_id.old + 1) % 2 ^ 64 }
 {
@@ -47,7 +47,7 @@ pub(crate) fn look<W: SmpWire>(
     transaction_id: &mut u64,
     path: &Path,
 ) -> Result<Seen, SweepFault>
-    ensures told { ForSome (W.fabric wire.old) (λ fabric. IsGood fabric
+    ensures reported { ForSome (W.fabric wire.old) (λ fabric. IsGood fabric
         → result ≡ ok_or (option_and_then (seen_at fabric) (end_of fabric path.now)) NoReply) }
     ensures left { ForSome (W.fabric wire.old) (λ fabric. IsGood fabric → W.fabric wire.new ≡ Some fabric) }
 {
@@ -65,7 +65,7 @@ pub(crate) fn name_of<W: SmpWire>(
     transaction_id: &mut u64,
     path: &Path,
 ) -> Result<[u8; 64], SweepFault>
-    ensures told { ForSome (W.fabric wire.old) (λ fabric. IsGood fabric
+    ensures reported { ForSome (W.fabric wire.old) (λ fabric. IsGood fabric
         → result ≡ ok_or (option_and_then (name_at fabric) (end_of fabric path.now)) NoReply) }
     ensures left { ForSome (W.fabric wire.old) (λ fabric. IsGood fabric → W.fabric wire.new ≡ Some fabric) }
 {
@@ -84,7 +84,7 @@ pub(crate) fn has_link<W: SmpWire>(
     path: &Path,
     number: u8,
 ) -> Result<bool, SweepFault>
-    ensures told { ForSome (W.fabric wire.old) (λ fabric. (at : PortRef) → IsGood fabric → ShowsLinks fabric
+    ensures reported { ForSome (W.fabric wire.old) (λ fabric. (at : PortRef) → IsGood fabric → ShowsLinks fabric
         → end_of fabric path.now ≡ Some at → is_switch_at fabric.nodes at.node ≡ true
         → is_port fabric.nodes (port at.node number) ≡ true → result ≡ Ok (is_cabled fabric.cables (port at.node number))) }
     ensures left { ForSome (W.fabric wire.old) (λ fabric. IsGood fabric → W.fabric wire.new ≡ Some fabric) }

@@ -34,6 +34,26 @@ pub(crate) struct Origin {
     pub switch: GraphSwitch,
 }
 
+/// A switch that is asked port by port.
+#[derive(Drop)]
+struct Asked {
+    /// Its place among those that were found.
+    place: usize,
+    /// How many ports it has.
+    num_ports: u8,
+    /// The path to it.
+    path: Path,
+}
+
+/// What is at the far end of a link.
+#[derive(Drop)]
+struct Behind {
+    /// What was seen of its node.
+    seen: Seen,
+    /// The path to it.
+    path: Path,
+}
+
 /// The subnet manager's port, learned by an SMP of no hop, and the switch that its cable leads to.
 ///
 /// `WrongReply` where the first is no port of a channel adapter, or the second no switch.
@@ -41,7 +61,7 @@ pub(crate) fn start<W: SmpWire>(
     wire: &mut W,
     transaction_id: &mut u64,
 ) -> Result<Origin, SweepFault>
-    ensures told { ForSome (W.fabric wire.old) (λ fabric. IsGood fabric → Starts fabric result) }
+    ensures reported { ForSome (W.fabric wire.old) (λ fabric. IsGood fabric → Starts fabric result) }
     ensures left { ForSome (W.fabric wire.old) (λ fabric. IsGood fabric → W.fabric wire.new ≡ Some fabric) }
 {
     let here = match look(wire, transaction_id, &Path::new()) {
@@ -122,7 +142,12 @@ fn visit_all<W: SmpWire>(
         let Some((num_ports, path)) = survey.way_to(place) else {
             return Ok(());
         };
-        match visit_switch(alloc, wire, transaction_id, survey, place, num_ports, &path) {
+        let switch = Asked {
+            place,
+            num_ports,
+            path,
+        };
+        match visit_switch(alloc, wire, transaction_id, survey, &switch) {
             Ok(()) => {}
             Err(fault) => return Err(fault),
         }
@@ -136,20 +161,19 @@ fn visit_switch<W: SmpWire>(
     wire: &mut W,
     transaction_id: &mut u64,
     survey: &mut Survey,
-    place: usize,
-    num_ports: u8,
-    path: &Path,
+    switch: &Asked,
 ) -> Result<(), SweepFault>
-    ensures went { ForSome (W.fabric wire.old) (λ fabric. SwitchIsAsked fabric place num_ports path.now survey.old survey.new result) }
+    ensures went { ForSome (W.fabric wire.old)
+        (λ fabric. SwitchIsAsked fabric switch.now.place switch.now.num_ports switch.now.path survey.old survey.new result) }
     ensures left { ForSome (W.fabric wire.old) (λ fabric. IsGood fabric → W.fabric wire.new ≡ Some fabric) }
 {
     let mut row = GraphRow::new(alloc);
-    for before in 0..num_ports {
+    for before in 0..switch.num_ports {
         let here = PortRef {
-            node: place,
+            node: switch.place,
             port: before + 1,
         };
-        match visit_port(wire, transaction_id, survey, &mut row, here, path) {
+        match visit_port(wire, transaction_id, survey, &mut row, here, &switch.path) {
             Ok(()) => {}
             Err(fault) => return Err(fault),
         }
@@ -185,9 +209,10 @@ fn visit_port<W: SmpWire>(
         Ok(seen) => seen,
         Err(fault) => return Err(fault),
     };
-    match seen.node_type {
-        NodeType::Switch => meet_switch(wire, transaction_id, survey, row, here, &seen, path),
-        NodeType::ChannelAdapter => meet_port(wire, transaction_id, survey, here, &seen, &path),
+    let behind = Behind { seen, path };
+    match behind.seen.node_type {
+        NodeType::Switch => meet_switch(wire, transaction_id, survey, row, here, &behind),
+        NodeType::ChannelAdapter => meet_port(wire, transaction_id, survey, here, &behind),
     }
 }
 
@@ -221,23 +246,22 @@ fn meet_switch<W: SmpWire>(
     survey: &mut Survey,
     row: &mut GraphRow,
     here: PortRef,
-    seen: &Seen,
-    path: Path,
+    behind: &Behind,
 ) -> Result<(), SweepFault>
     ensures went { ForSome (W.fabric wire.old)
-        (λ fabric. SwitchIsMet fabric here path seen.now survey.old survey.new row.old row.new result) }
+        (λ fabric. SwitchIsMet fabric here behind.now.path behind.now.seen survey.old survey.new row.old row.new result) }
     ensures left { ForSome (W.fabric wire.old) (λ fabric. IsGood fabric → W.fabric wire.new ≡ Some fabric) }
 {
-    let node = match place_behind(wire, transaction_id, survey, seen, path) {
+    let node = match place_behind(wire, transaction_id, survey, behind) {
         Ok(place) => place,
         Err(fault) => return Err(fault),
     };
-    if survey.count_at(node) != seen.num_ports {
+    if survey.count_at(node) != behind.seen.num_ports {
         return Err(SweepFault::WrongReply);
     }
     let to = PortRef {
         node,
-        port: seen.local_port_num,
+        port: behind.seen.local_port_num,
     };
     note(row, here, to)
 }
@@ -247,15 +271,15 @@ fn place_behind<W: SmpWire>(
     wire: &mut W,
     transaction_id: &mut u64,
     survey: &mut Survey,
-    seen: &Seen,
-    path: Path,
+    behind: &Behind,
 ) -> Result<usize, SweepFault>
-    ensures went { ForSome (W.fabric wire.old) (λ fabric. SwitchIsPlaced fabric path seen.now survey.old survey.new result) }
+    ensures went { ForSome (W.fabric wire.old)
+        (λ fabric. SwitchIsPlaced fabric behind.now.path behind.now.seen survey.old survey.new result) }
     ensures left { ForSome (W.fabric wire.old) (λ fabric. IsGood fabric → W.fabric wire.new ≡ Some fabric) }
 {
-    match survey.place_of(seen.node_guid) {
+    match survey.place_of(behind.seen.node_guid) {
         Some(place) => Ok(place),
-        None => find_switch(wire, transaction_id, survey, seen, path),
+        None => find_switch(wire, transaction_id, survey, behind),
     }
 }
 
@@ -264,22 +288,22 @@ fn find_switch<W: SmpWire>(
     wire: &mut W,
     transaction_id: &mut u64,
     survey: &mut Survey,
-    seen: &Seen,
-    path: Path,
+    behind: &Behind,
 ) -> Result<usize, SweepFault>
-    requires new { position (λ switch. switch.guid == seen.now.node_guid) survey.old.switches ≡ None }
-    ensures added { ForSome (W.fabric wire.old) (λ fabric. SwitchIsAdded fabric path seen.now survey.old survey.new result) }
+    requires new { position (λ switch. switch.guid == behind.now.seen.node_guid) survey.old.switches ≡ None }
+    ensures added { ForSome (W.fabric wire.old)
+        (λ fabric. SwitchIsAdded fabric behind.now.path behind.now.seen survey.old survey.new result) }
     ensures left { ForSome (W.fabric wire.old) (λ fabric. IsGood fabric → W.fabric wire.new ≡ Some fabric) }
 {
-    let name = match name_of(wire, transaction_id, &path) {
+    let name = match name_of(wire, transaction_id, &behind.path) {
         Ok(name) => name,
         Err(fault) => return Err(fault),
     };
     survey.add_switch(GraphSwitch {
-        guid: seen.node_guid,
-        num_ports: seen.num_ports,
+        guid: behind.seen.node_guid,
+        num_ports: behind.seen.num_ports,
         name,
-        path,
+        path: behind.path.copied(),
     })
 }
 
@@ -289,13 +313,14 @@ fn meet_port<W: SmpWire>(
     transaction_id: &mut u64,
     survey: &mut Survey,
     here: PortRef,
-    seen: &Seen,
-    path: &Path,
+    behind: &Behind,
 ) -> Result<(), SweepFault>
-    ensures added { ForSome (W.fabric wire.old) (λ fabric. PortIsAdded fabric here path.now seen.now survey.old survey.new result) }
+    ensures added { ForSome (W.fabric wire.old)
+        (λ fabric. PortIsAdded fabric here behind.now.path behind.now.seen survey.old survey.new result) }
     ensures left { ForSome (W.fabric wire.old) (λ fabric. IsGood fabric → W.fabric wire.new ≡ Some fabric) }
 {
-    let name = match name_of(wire, transaction_id, path) {
+    let seen = behind.seen;
+    let name = match name_of(wire, transaction_id, &behind.path) {
         Ok(name) => name,
         Err(fault) => return Err(fault),
     };

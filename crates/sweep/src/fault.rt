@@ -10,7 +10,7 @@ use thiserror::Error;
 /// Why a fabric was not found.
 #[derive(Clone, Copy, Debug, PartialEq, Eq, Error)]
 pub enum SweepFault {
-    /// Memory was refused.
+    /// Out of memory.
     #[error("out of memory")]
     NoMemory,
     /// Nothing came back along a path.
@@ -29,7 +29,7 @@ pub enum SweepFault {
 }
 
 impl SweepFault {
-    /// The code that is printed for the fault; want of memory has none.
+    /// The code that is printed for the fault; out of memory has none.
     pub fn code(self) -> Option<&'static str>
         ensures { option_map (λ code. code.now) result ≡ code_of self }
     {
@@ -43,7 +43,7 @@ impl SweepFault {
     }
 }
 
-/// What a sweep stops with where a request told nothing: a refusal too is a wrong reply.
+/// What a sweep stops with where a request reported nothing: a refusal too is a wrong reply.
 pub(crate) fn fault_of(fault: ReplyFault) -> SweepFault
     ensures { result ≡ fault_of fault }
 {

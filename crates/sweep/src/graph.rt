@@ -120,7 +120,7 @@ impl GraphRow {
         &self.links
     }
 
-    /// Adds a link. Memory alone can be refused.
+    /// Adds a link. It can only run out of memory.
     pub(crate) fn push(&mut self, link: GraphLink) -> Result<(), AllocError>
         ensures ok { OnOk result (self.new ≡ self.old ++ link ∷ []) }
     {
@@ -130,7 +130,7 @@ impl GraphRow {
 }
 
 /// What a subnet manager knows of a fabric: its switches in the order of their discovery, the links between
-/// them, and the ports of channel adapters that hang on them.
+/// them, and the ports of channel adapters that are attached to them.
 ///
 /// `specs/Graph.antt` says what holds of every graph, whatever wire it came over.
 #[derive(Debug)]
@@ -209,8 +209,8 @@ impl Graph {
         &self.ports
     }
 
-    /// The GUIDs of the ends of packets: those of the switches, and then those of the ports. Memory alone can be
-    /// refused.
+    /// The GUIDs of the ends of packets: those of the switches, and then those of the ports. It can only run out of
+    /// memory.
     pub fn end_guids(&self, alloc: Global) -> Result<Vec<u64>, AllocError>
         ensures { IfOk result (λ guids. guids.items ≡ end_guids self.now.switches self.now.ports) }
     {

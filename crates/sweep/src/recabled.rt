@@ -35,7 +35,7 @@ impl Graph {
     }
 
     /// The graph without the cable between two ports of its switches, as when it is cut. All else is kept, also the paths
-    /// by which the switches were found. Memory alone can be refused.
+    /// by which the switches were found. It can only run out of memory.
     pub fn without(&self, alloc: Global, a: PortRef, b: PortRef) -> Result<Graph, AllocError>
         requires { is_linked self.now.rows a b ≡ true }
         ensures { IfOk result (λ graph. graph ≡ without a b self.now) }
@@ -44,8 +44,8 @@ impl Graph {
         self.with_rows(alloc, rows)
     }
 
-    /// The graph with a cable between two free ports of its switches, as when it is mended. All else is kept. Memory
-    /// alone can be refused.
+    /// The graph with a cable between two free ports of its switches, as when it is mended. All else is kept. It
+    /// can only run out of memory.
     pub fn with(&self, alloc: Global, a: PortRef, b: PortRef) -> Result<Graph, AllocError>
         requires { MayBeCabled self.now a b }
         ensures { IfOk result (λ graph. graph ≡ with_cable a b self.now) }

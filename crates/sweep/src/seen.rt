@@ -7,7 +7,7 @@ use crate::fault::SweepFault;
 use attr_tables::NodeInfo;
 use fabric_parts::NodeType;
 
-/// What NodeInfo tells of a node and of the port that was asked.
+/// What NodeInfo reports of a node and of the port that was asked.
 #[derive(Clone, Copy, Debug, PartialEq, Eq)]
 pub struct Seen {
     /// What kind of node it is.
@@ -22,7 +22,7 @@ pub struct Seen {
     pub local_port_num: u8,
 }
 
-/// What NodeInfo tells, or `WrongReply` where no node of a fabric shows it: a type that is none, a number of
+/// What NodeInfo reports, or `WrongReply` where no node of a fabric shows it: a type that is none, a number of
 /// ports that no such node has, a port that the node has not.
 #[tactic(auto, unfolding(crate::specs::Seen::seen_of))]
 pub fn seen_of(info: &NodeInfo) -> Result<Seen, SweepFault>

@@ -99,7 +99,7 @@ impl Survey {
         Ok(())
     }
 
-    /// Adds the links of a switch. Memory alone can be refused.
+    /// Adds the links of a switch. It can only run out of memory.
     pub(crate) fn add_row(&mut self, row: GraphRow) -> Result<(), AllocError>
         ensures ok { OnOk result (self.new ≡ record self.old { rows = self.old.rows ++ row ∷ [] }) }
     {

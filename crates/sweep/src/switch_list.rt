@@ -52,7 +52,7 @@ impl SwitchList {
         self.guids.get_index_of(&guid)
     }
 
-    /// The same switches again. Memory alone can be refused.
+    /// The same switches again. It can only run out of memory.
     pub(crate) fn copied(&self, alloc: Global) -> Result<SwitchList, AllocError>
         ensures { IfOk result (λ list. list ≡ self.now) }
     {
@@ -72,7 +72,7 @@ impl SwitchList {
         self.guids.contains(&guid)
     }
 
-    /// Adds a switch whose GUID is new. Memory alone can be refused.
+    /// Adds a switch whose GUID is new. It can only run out of memory.
     pub(crate) fn push(&mut self, switch: GraphSwitch) -> Result<(), AllocError>
         requires new { position (λ known. known.guid == switch.guid) self.old ≡ None }
         ensures ok { OnOk result (self.new ≡ self.old ++ switch ∷ []) }

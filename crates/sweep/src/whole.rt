@@ -15,7 +15,7 @@ use std::alloc::{AllocError, Global};
 
 impl Graph {
     /// Whether its cables join all its switches, and an SMP goes over each of them: whether a sweep of a fabric that has
-    /// these cables finds all of it. Memory alone can be refused.
+    /// these cables finds all of it. It can only run out of memory.
     pub fn is_whole(&self, alloc: Global) -> Result<bool, AllocError>
         ensures { IfOk result (λ whole. Decides whole (IsWhole self.now)) }
     {
@@ -23,7 +23,7 @@ impl Graph {
         Ok(serve(&self.rows, &self.ports, &found))
     }
 
-    /// The place of the switch on which the subnet manager's port hangs.
+    /// The place of the switch to which the subnet manager's port is attached.
     fn manager_switch(&self) -> usize
         ensures { result ≡ manager_switch self.now }
     {
@@ -31,7 +31,7 @@ impl Graph {
     }
 }
 
-/// The place of the switch on which the first port with that GUID hangs.
+/// The place of the switch to which the first port with that GUID is attached.
 fn switch_of(ports: &[GraphPort], guid: u64) -> Option<usize>
     ensures { result ≡ option_map (λ port. port.at.node) (find (λ port. port.port_guid == guid) ports.now) }
 {
@@ -41,7 +41,7 @@ fn switch_of(ports: &[GraphPort], guid: u64) -> Option<usize>
         .map(|port| port.at.node)
 }
 
-/// How many cables lead from the switch at that place to each, where some do. Memory alone can be refused.
+/// How many cables lead from the switch at that place to each, where some do. It can only run out of memory.
 fn distances(
     alloc: Global,
     rows: &[GraphRow],
@@ -124,7 +124,7 @@ fn is_served(links: &[GraphLink], found: &[Option<usize>], place: usize) -> bool
     is_reached(found, place) || links.iter().all(|link| is_reached(found, link.to.node))
 }
 
-/// Whether each port hangs on a switch that is near.
+/// Whether each port is attached to a switch that is near.
 fn are_reached(ports: &[GraphPort], found: &[Option<usize>]) -> bool
     ensures { result ≡ list_all (λ port. is_reached found.now port.at.node) ports.now }
 {

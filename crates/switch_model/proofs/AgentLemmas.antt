@@ -7,7 +7,7 @@ use Rattle.attr_tables.specs.declared.port_info.PortInfo.{PortInfo as Port}
 use Rattle.attr_tables.specs.declared.switch_info.SwitchInfo.{SwitchInfo as Info}
 use Rattle.attr_tables.specs.declared.smp_attribute.SmpAttribute.TheVariants.{NodeDescription, NodeInfo, SwitchInfo, PortInfo, PKeyTable}
 use Rattle.attr_tables.specs.declared.smp_attribute.SmpAttribute.TheVariants.{LinearForwardingTable, MulticastForwardingTable}
-use Rattle.result_words.specs.Steps.{◌>>=◌}
+use Rattle.step_results.specs.Steps.{◌>>=◌}
 use Rattle.agent_rules.specs.Agent.{shown_at, word_block, set_word_block}
 use Rattle.agent_rules.specs.Laws.{DiffersInBlock}
 use Rattle.attr_tables.specs.Blocks.{block_of, has_block, with_block}
@@ -15,7 +15,7 @@ use Rattle.attr_tables.specs.PortInfo.{port_info_bytes}
 use Rattle.agent_rules.specs.PortSetting.{port_info_after, port_setting}
 use Rattle.agent_rules.specs.Carried.{linear_fdb_top_in, ports_in}
 use Rattle.attr_tables.specs.SwitchInfo.{switch_info_bytes}
-use Rattle.result_words.proofs.StepLemmas.{bind_done, bind_ok, let_through}
+use Rattle.step_results.proofs.StepLemmas.{bind_done, bind_ok, let_through}
 use Rattle.agent_rules.proofs.GuardLemmas.{passed, taken_ok}
 use Rattle.agent_rules.proofs.AgentLemmas.{Shows}
 use Rattle.agent_rules.proofs.TableLemmas.{block_differs, length-ports_in, same_blocks, words_shown}

@@ -1,11 +1,11 @@
--- A packet leaves by the port that its fate tells.
+-- A packet leaves by the port that its fate reports.
 use Rattle.std.proofs.Common.{◌≡◌, ℕ, ◌==◌, ◌&&◌, nat_lt, nat_le, refl, arith, Bool, true, false, not, if◌then◌else◌, List, length, Option, Some, None, slice_get}
 use Rattle.std.specs.Option.{option_and_then, option_map_or}
 use Rattle.std.proofs.lemmas.Bool.Decides.{nat_tests}
 use Rattle.std.proofs.lemmas.Option.{slice_get_past}
 use Rattle.switch_model.specs.Fate.{fate, fate_by, way_out}
 use Rattle.switch_model.specs.Forwarding.{leaves_by, passes_inbound, passes_outbound}
-use Rattle.switch_model.specs.Laws.{FatesTellWaysOut}
+use Rattle.switch_model.specs.Laws.{FatesReportWaysOut}
 use Rattle.switch_model.specs.declared.fate.Fate.TheVariants.{KeptOut, OverTop, NoPort, Taken, KeptIn, Leaves}
 use Rattle.switch_model.specs.declared.switch_port.SwitchPort.{SwitchPort}
 
@@ -35,7 +35,7 @@ by_table ports p_key true false entry = refl
 by_table ports p_key true true None = refl
 by_table ports p_key true true (Some entry) = by_entry ports p_key entry
 
-pub fates_tell_ways_out : FatesTellWaysOut
+pub fates_report_ways_out : FatesReportWaysOut
 unfolding fate
-fates_tell_ways_out held in_port packet =
+fates_report_ways_out held in_port packet =
     by_table held.ports packet.p_key (passes_inbound held.ports in_port packet.p_key) (nat_le packet.dlid held.info.linear_fdb_top) (slice_get held.linear packet.dlid)

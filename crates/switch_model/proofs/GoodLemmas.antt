@@ -17,8 +17,8 @@ use Rattle.attr_tables.specs.declared.smp_attribute.SmpAttribute.TheVariants.{No
 use Rattle.attr_tables.specs.declared.smp_attribute.SmpAttribute.TheVariants.{LinearForwardingTable, MulticastForwardingTable}
 use Rattle.attr_tables.specs.declared.switch_info.SwitchInfo.{SwitchInfo as Info}
 use Rattle.attr_tables.proofs.AttributeLemmas.{attributes}
-use Rattle.result_words.proofs.ListLemmas.{all_alike, all_have}
-use Rattle.result_words.proofs.StepLemmas.{bind_done, bind_ok}
+use Rattle.step_results.proofs.ListLemmas.{all_alike, all_have}
+use Rattle.step_results.proofs.StepLemmas.{bind_done, bind_ok}
 use Rattle.agent_rules.specs.Agent.{shown_at, word_block}
 use Rattle.agent_rules.specs.Carried.{linear_fdb_top_in}
 use Rattle.agent_rules.specs.Good.{IsTable}

@@ -10,8 +10,8 @@ use Rattle.attr_tables.specs.declared.port_info.PortInfo.{PortInfo}
 use Rattle.fabric_parts.specs.declared.lid.TheConstants.{LAST_UNICAST_LID}
 use Rattle.mad_layout.specs.Layout.{Fits}
 use Rattle.mad_layout.proofs.LayoutLemmas.{fits_both, fits_drop, fits_take}
-use Rattle.result_words.proofs.ElementLemmas.{get_other, get_written}
-use Rattle.result_words.proofs.ListLemmas.{all_have}
+use Rattle.step_results.proofs.ElementLemmas.{get_other, get_written}
+use Rattle.step_results.proofs.ListLemmas.{all_have}
 use Rattle.switch_model.specs.Good.{IsGoodPort}
 use Rattle.switch_model.specs.Laws.{LinksKeepGood, LinksShow}
 use Rattle.switch_model.specs.Links.{linked, port_linked, ports_linked}

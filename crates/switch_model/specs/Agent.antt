@@ -8,7 +8,7 @@ use Rattle.fabric_parts.specs.declared.node_type.NodeType.TheVariants.{Switch}
 use Rattle.attr_tables.specs.declared.smp_attribute.SmpAttribute.{SmpAttribute}
 use Rattle.attr_tables.specs.declared.smp_attribute.SmpAttribute.TheVariants.{NodeDescription, NodeInfo, SwitchInfo, PortInfo, PKeyTable}
 use Rattle.attr_tables.specs.declared.smp_attribute.SmpAttribute.TheVariants.{LinearForwardingTable, MulticastForwardingTable}
-use Rattle.result_words.specs.Steps.{◌>>=◌}
+use Rattle.step_results.specs.Steps.{◌>>=◌}
 use Rattle.agent_rules.specs.Agent.{after, reply_of, shown_at, whole, word_block, set_word_block}
 use Rattle.attr_tables.specs.Blocks.{block_of, has_block, with_block}
 use Rattle.attr_tables.specs.NodeInfo.{node_info_bytes}

@@ -98,7 +98,7 @@ MulticastGoesByMasks =
     (held : SwitchState) (in_port : ℕ) (packet : Packet) (out : ℕ) → is_multicast packet.dlid ≡ true
     → (sends_out held in_port packet out ≡ true) ↔ IsCopiedOut held in_port packet out
 
--- a packet leaves by the port that its fate tells, and else not
-abbrev pub FatesTellWaysOut : Type 0
-FatesTellWaysOut =
+-- a packet leaves by the port that its fate reports, and else not
+abbrev pub FatesReportWaysOut : Type 0
+FatesReportWaysOut =
     (held : SwitchState) (in_port : ℕ) (packet : Packet) → out_port held in_port packet ≡ way_out (fate held in_port packet)

@@ -2,7 +2,7 @@
 
 ghost use Rattle.std.specs.Prelude.{◌≡◌};
 ghost use Rattle.switch_model.specs.declared.multicast_table.TheConstants.{POSITIONS};
-ghost use Rattle.switch_model.specs.Laws.{FatesTellWaysOut, GoodSwitchesGiveAttributes, LinksKeepGood, LinksShow, MulticastGoesByMasks, NewSwitchesAreGood, PortsHaveTheirLinks, SmpsAreReadAlike, SmpsChangeWhatTheyName, SmpsKeepGood, SmpsSettle, UnicastGoesByEntries, UnseenComesBack};
+ghost use Rattle.switch_model.specs.Laws.{FatesReportWaysOut, GoodSwitchesGiveAttributes, LinksKeepGood, LinksShow, MulticastGoesByMasks, NewSwitchesAreGood, PortsHaveTheirLinks, SmpsAreReadAlike, SmpsChangeWhatTheyName, SmpsKeepGood, SmpsSettle, UnicastGoesByEntries, UnseenComesBack};
 
 /// An SMP changes at most what it names, and each port is Down afterwards exactly where it was Down. Like
 /// the laws below it does nothing: its contract is the law.
@@ -62,8 +62,8 @@ pub fn multicast_goes_by_masks()
 {}
 
 /// A unicast packet leaves by a port exactly where its fate says so, by that port.
-pub fn fates_tell_ways_out()
-    ensures { FatesTellWaysOut }
+pub fn fates_report_ways_out()
+    ensures { FatesReportWaysOut }
 {}
 
 /// How many positions the masks of a switch have, written out. The number is ours: three positions of 16 ports have

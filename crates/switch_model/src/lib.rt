@@ -22,7 +22,7 @@ mod switch_port;
 pub use crate::enforcement::{passes_inbound, passes_outbound};
 pub use crate::fate::Fate;
 pub use crate::laws::{
-    fates_tell_ways_out, good_switches_give_attributes, links_show, ports_have_their_links,
+    fates_report_ways_out, good_switches_give_attributes, links_show, ports_have_their_links,
     smps_are_read_alike, smps_change_what_they_name, smps_settle, switches_stay_good, the_numbers,
     unicast_goes_by_entries, unseen_comes_back,
 };

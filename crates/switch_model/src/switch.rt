@@ -25,7 +25,7 @@ use agent_rules::{
 use arrayvec::ArrayVec;
 use attr_tables::{NodeDescription, SmpAttribute, SwitchInfo};
 use data_packet::Packet;
-use fabric_parts::{NodeType, SWITCH_PORTS};
+use fabric_parts::{NO_PORT, NodeType, SWITCH_PORTS};
 use mad_layout::{Mad, MadStatus};
 use pkey_rules::PKey;
 use std::marker::Model;
@@ -81,7 +81,7 @@ impl<const LFT: usize, const MFT: usize> Switch<LFT, MFT> {
                 ..switch_info_at_power_up()
             },
             ports: ports_at_power_up(links),
-            linear: [0xff; LFT],
+            linear: [NO_PORT; LFT],
             masks: [[0; MFT]; POSITIONS],
         }
     }
@@ -103,7 +103,7 @@ impl<const LFT: usize, const MFT: usize> Switch<LFT, MFT> {
         ensures held { self.new ≡ agent_after self.old smp.old }
         ensures kept { KeepsRest smp.old smp.new }
         ensures refused { result ≡ true → field smp.new 33 15 ≢ 0 → self.new ≡ self.old }
-        ensures spelled { result ≡ true → IfOk (answer (get in_port) set self.old smp.old) IsAttribute }
+        ensures encoded { result ≡ true → IfOk (answer (get in_port) set self.old smp.old) IsAttribute }
     {
         if !is_request(smp) {
             return false;

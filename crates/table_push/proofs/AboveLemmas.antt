@@ -6,11 +6,11 @@ use Rattle.std.proofs.lemmas.Bool.{eq-eqb, eqb-true, false≢true, ltb-false, lt
 use Rattle.std.proofs.lemmas.List.{length-set}
 use Rattle.std.proofs.lemmas.Option.{none-some, option_and_then_some, same_Some}
 use Rattle.std.proofs.lemmas.Bool.Decides.{nat_tests}
-use Rattle.result_words.proofs.ListLemmas.{found_passes}
+use Rattle.step_results.proofs.ListLemmas.{found_passes}
 use Rattle.table_push.specs.MaskSteps.{is_that_port}
 use Rattle.table_push.specs.TreeSteps.{ArePut, is_up_to}
 use Rattle.table_push.proofs.ReachLemmas.{no_bits, same_answers}
-use Rattle.table_push.proofs.SeatBitLemmas.{own_bit}
+use Rattle.table_push.proofs.AttachmentBitLemmas.{own_bit}
 use Rattle.updn_routes.specs.declared.link.Link.{Link}
 use Rattle.updn_routes.specs.Cabling.{links_of}
 use Rattle.updn_routes.specs.Sides.{above, is_below, parent}

@@ -1,4 +1,4 @@
--- A fabric whose switches have all masks of a test is up where it was, and each slice is part of them.
+-- A fabric whose switches have all masks of a test is up where it was, and each MLID range is part of them.
 use Rattle.std.proofs.Common.{ℕ, ◌≡◌, ◌+◌, ◌*◌, ◌<◌, ◌∙◌, ap, refl, sym, true, false, nat_lt, Bool, List, [], ◌∷◌, get_or, length, map, slice_get, Option, Some, None, option_map}
 use Rattle.std.specs.List.{All, list_all, range_with_len}
 use Rattle.std.specs.Option.{option_and_then, option_map_or}
@@ -11,10 +11,10 @@ use Rattle.agent_rules.specs.Good.{IsTable}
 use Rattle.agent_rules.specs.declared.power_up.TheConstants.{MULTICAST_TABLE}
 use Rattle.fabric_parts.specs.declared.cable.PortRef.{PortRef}
 use Rattle.fabric_parts.specs.declared.lid.TheConstants.{FIRST_MULTICAST_LID}
-use Rattle.packet_ways.specs.Deliveries.{adapter_at, adapter_ports}
-use Rattle.packet_ways.specs.Forwards.{IsCabledPort, node_switch_port, switch_port_at}
+use Rattle.delivery_laws.specs.Deliveries.{adapter_at, adapter_ports}
+use Rattle.delivery_laws.specs.Forwards.{IsCabledPort, node_switch_port, switch_port_at}
 use Rattle.port_model.specs.AdapterState.{AdapterState}
-use Rattle.result_words.proofs.ElementLemmas.{or_same}
+use Rattle.step_results.proofs.ElementLemmas.{or_same}
 use Rattle.smp_wire.proofs.GoodLemmas.{down_at}
 use Rattle.smp_wire.proofs.KeptLemmas.{IsSame, stays_good, walk_same}
 use Rattle.smp_wire.specs.FabricState.{FabricState, adapter_port, is_switch, port_count}
@@ -27,11 +27,11 @@ use Rattle.switch_model.specs.SwitchState.{SwitchState}
 use Rattle.table_push.proofs.KeptLemmas.{graph_stays}
 use Rattle.table_push.proofs.MaskLemmas.{WasSwitch, bits_below, was_switch, whole_slice}
 use Rattle.table_push.proofs.NodeLemmas.{both_written}
-use Rattle.table_push.proofs.SightLemmas.{IsUnseen}
+use Rattle.table_push.proofs.SightLemmas.{IsUnseen, switches_unseen}
 use Rattle.table_push.specs.BroughtUp.{IsBroughtUp}
 use Rattle.table_push.specs.BroughtUpLaws.{AllMasksAreThere, MasksKeepWhatIsUp}
-use Rattle.table_push.specs.Laws.{HasItsTable, SlicesMakeAll}
-use Rattle.table_push.specs.Masks.{all_masks_pushed, is_in_mask, is_in_slice, mask_of_position, mask_word, masks_of, wanted_slice, with_all_masks, with_masks, with_slice}
+use Rattle.table_push.specs.Laws.{HasItsTable, MlidRangesMakeAll}
+use Rattle.table_push.specs.Masks.{all_masks_pushed, is_in_mask, is_in_mlid_range, mask_of_position, mask_word, masks_of, wanted_range, with_all_masks, with_masks, with_range}
 use Rattle.table_push.specs.Nodes.{switch_by}
 use Rattle.updn_routes.specs.Subnet.{RoutesState, place_of}
 
@@ -64,16 +64,16 @@ are_masks routes receives place = record {
       (λ i d within. table_of_masks routes receives place (get_or (range_with_len 0 3) i d));
 }
 
--- ---- slices
+-- ---- MLID ranges
 slice_of_all : (routes : RoutesState) (partition : ℕ) (one other : ℕ → ℕ → Bool) (masks : List (List ℕ))
-    → ((mlid lid : ℕ) → is_in_slice partition mlid ≡ false → one mlid lid ≡ other mlid lid) → (o : Option ℕ)
-    → option_map_or (λ place. with_slice partition (wanted_slice routes partition other place) (option_map_or (masks_of routes one) o masks)) o (option_map_or (masks_of routes one) o masks)
+    → ((mlid lid : ℕ) → is_in_mlid_range partition mlid ≡ false → one mlid lid ≡ other mlid lid) → (o : Option ℕ)
+    → option_map_or (λ place. with_range partition (wanted_range routes partition other place) (option_map_or (masks_of routes one) o masks)) o (option_map_or (masks_of routes one) o masks)
     ≡ option_map_or (masks_of routes other) o masks
 slice_of_all routes partition one other masks agree None = refl
 slice_of_all routes partition one other masks agree (Some place) = whole_slice routes partition place one other agree
 
-pub slices_make_all : SlicesMakeAll
-slices_make_all routes partition fabric one other agree =
+pub mlid_ranges_make_all : MlidRangesMakeAll
+mlid_ranges_make_all routes partition fabric one other agree =
     both_written (with_masks routes partition other) (with_all_masks routes one) (with_all_masks routes other) fabric (λ guid held. refl)
     (λ guid held. ap (λ (masks : List (List ℕ)). record held { masks = masks })
     (slice_of_all routes partition one other held.masks agree (place_of routes.graph.switches guid)))
@@ -101,13 +101,7 @@ module _ (routes : RoutesState) (receives : ℕ → ℕ → Bool) where
       by (Some node) = same_of f same node
 
   unseen : IsUnseen change
-  unseen = record {
-    kind = same_of is_switch (λ held. refl);
-    guid = same_of node_guid (λ held. refl);
-    count = same_of port_count (λ held. refl);
-    name = λ number. same_of (λ node. name_in node number) (λ held. refl);
-    seen = λ number. same_of (λ node. seen_in node number) (λ held. refl);
-  }
+  unseen = switches_unseen (with_all_masks routes receives) (λ guid held. (_, _, _, refl))
 
   -- ---- and nodes stay good
   masks_stay : (o : Option ℕ) (masks : List (List ℕ)) → AreMasks masks → AreMasks (option_map_or (masks_of routes receives) o masks)

@@ -3,7 +3,7 @@ use Rattle.std.proofs.Common.{ℕ, suc, ◌≡◌, ◌+◌, ◌||◌, ◌∙◌,
 use Rattle.std.specs.List.{list_any, range_with_len}
 use Rattle.std.proofs.Math.Nat.{zero-add}
 use Rattle.std.proofs.lemmas.List.Folds.{list_any-append}
-use Rattle.result_words.proofs.RangeLemmas.{range_more}
+use Rattle.step_results.proofs.RangeLemmas.{range_more}
 
 -- ---- one switch more
 pub range_any : (p : ℕ → Bool) (count : ℕ) → list_any p (range_with_len 0 (count + 1)) ≡ (list_any p (range_with_len 0 count) || p count)

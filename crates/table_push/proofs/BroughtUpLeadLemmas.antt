@@ -9,10 +9,10 @@ use Rattle.fabric_parts.specs.Cable.{far_end, port}
 use Rattle.fabric_parts.specs.declared.cable.PortRef.{PortRef}
 use Rattle.lid_assign.specs.Lids.{adapter_end, end_ports, guid_in, lid_in, switch_end}
 use Rattle.lid_assign.proofs.LawLemmas.{lids_and_guids_name_each_other}
-use Rattle.packet_ways.specs.Forwards.{Follows, IsCabledPort, Leads, entry_at}
+use Rattle.delivery_laws.specs.Forwards.{Follows, IsCabledPort, Leads, entry_at}
 use Rattle.pkey_rules.specs.declared.end_port.EndPort.{EndPort}
 use Rattle.port_model.specs.AdapterState.{AdapterState}
-use Rattle.result_words.proofs.ListLemmas.{all_have}
+use Rattle.step_results.proofs.ListLemmas.{all_have}
 use Rattle.subnet_model.specs.EndPorts.{lid_of}
 use Rattle.smp_wire.proofs.CableLemmas.{far_is_port}
 use Rattle.smp_wire.specs.FabricState.{FabricState, is_switch_at}
@@ -28,19 +28,12 @@ use Rattle.updn_routes.specs.Subnet.{RoutesState, home_in, homes_of, rows_of}
 use Rattle.updn_routes.specs.UpDown.{is_legal}
 use Rattle.table_push.specs.BroughtUp.{IsBroughtUp, RoutesLeadHome}
 use Rattle.table_push.proofs.EntryLemmas.{entry_there}
-use Rattle.table_push.proofs.HomeLemmas.{home_at, port_home, switch_home}
+use Rattle.table_push.proofs.HomeLemmas.{home_at, home_there, port_home, switch_home}
 use Rattle.table_push.proofs.RowLemmas.{linked, row_within}
-use Rattle.table_push.proofs.SeatLemmas.{IsSeated, seated}
+use Rattle.table_push.proofs.AttachmentLemmas.{IsAttached, attached}
 use Rattle.smp_wire.proofs.PresentLemmas.{present_right}
 
 -- ---- homes
-home_there : (homes : List PortRef) (lid : ℕ) (home : PortRef) → home_of homes lid ≡ Some home → slice_get homes (lid - 1) ≡ Some home
-home_there homes lid home is = by (lid == 0) is
-  where
-    by : (b : Bool) → (if b then None else slice_get homes (lid - 1)) ≡ Some home → slice_get homes (lid - 1) ≡ Some home
-    by true is = absurd (none-some home is)
-    by false is = is
-
 lid_within : (lids : List ℕ) (lid guid : ℕ) → guid_in lids lid ≡ Some guid → lid ≤ length lids
 lid_within lids lid guid named = by (lid == 0) refl named
   where
@@ -134,15 +127,15 @@ module _ (routes : RoutesState) (keys : List (List ℕ)) (fabric : FabricState) 
   -- ---- from one port to another
   record HasLid (guid lid : ℕ) (at : PortRef) : Type 0 where
     named : guid_in routes.lids lid ≡ Some guid
-    hangs : home_of homes lid ≡ Some at
+    attached : home_of homes lid ≡ Some at
 
-  port_lid : (at back : PortRef) (one : AdapterState) → IsCabledPort fabric at one → (seat : IsSeated fabric routes.graph up.graph at back one)
-      → HasLid one.port_guid one.info.lid (port seat.place back.port)
-  port_lid at back one cabled seat =
+  port_lid : (at back : PortRef) (one : AdapterState) → IsCabledPort fabric at one → (attachment : IsAttached fabric routes.graph up.graph at back one)
+      → HasLid one.port_guid one.info.lid (port attachment.place back.port)
+  port_lid at back one cabled attachment =
       let named = (lids_and_guids_name_each_other routes.lids one.port_guid one.info.lid home.own_lids).0 (up.lids at one cabled) in
-      let there : home_in routes.graph one.port_guid ≡ port seat.place back.port =
-      ap (home_in routes.graph) (sym seat.guid_is) ∙ port_home routes.graph seat.index seat.hung home.graph seat.has ∙ seat.at_is in
-      record { named = named; hangs = home_at routes.graph routes.lids one.info.lid one.port_guid named ∙ ap (λ (p : PortRef). Some p) there }
+      let there : home_in routes.graph one.port_guid ≡ port attachment.place back.port =
+      ap (home_in routes.graph) (sym attachment.guid_is) ∙ port_home routes.graph attachment.index attachment.hung home.graph attachment.has ∙ attachment.at_is in
+      record { named = named; attached = home_at routes.graph routes.lids one.info.lid one.port_guid named ∙ ap (λ (p : PortRef). Some p) there }
 
   switch_lid : (place : ℕ) (found : Found) → slice_get up.graph.layout.found place ≡ Some found → (lid : ℕ) × (home_of homes lid ≡ Some (port place 0))
   switch_lid place found stands =
@@ -184,15 +177,15 @@ module _ (routes : RoutesState) (keys : List (List ℕ)) (fabric : FabricState) 
   pub lead_there : (from at : PortRef) (sender one : AdapterState) (begin : IsCabledPort fabric from sender) → IsCabledPort fabric at one
       → (way : List PortRef) × Follows fabric.nodes fabric.cables one.info.lid begin.far way at
   lead_there from at sender one begin end =
-      let first = seated fabric routes.graph from sender up.good up.graph begin in
-      let last = seated fabric routes.graph at one up.good up.graph end in
+      let first = attached fabric routes.graph from sender up.good up.graph begin in
+      let last = attached fabric routes.graph at one up.good up.graph end in
       let here = port_lid from begin.far sender begin first in
       let there = port_lid at end.far one end last in
       let own = switch_lid first.place first.found first.there in
       let begins = in_range fabric begin.far.node begin.far.port (far_is_port fabric.nodes fabric.cables from begin.far (present_right up.good) begin.cable) in
       let ends = in_range fabric end.far.node end.far.port (far_is_port fabric.nodes fabric.cables at end.far (present_right up.good) end.cable) in
-      let way = arrives first.place last.place one.info.lid end.far.port (row_within fabric routes.graph first.place first.found up.graph first.there) there.hangs
-      (λ is. omega (arith, ends.0, is)) own.0 own.1 (carried_by sender.info.lid first.place begin.far.port here.hangs begins.0) in
+      let way = arrives first.place last.place one.info.lid end.far.port (row_within fabric routes.graph first.place first.found up.graph first.there) there.attached
+      (λ is. omega (arith, ends.0, is)) own.0 own.1 (carried_by sender.info.lid first.place begin.far.port here.attached begins.0) in
       follow one.info.lid last.place end.far.port at way.0 first.place first.found begin.far
       (record {
         last = last.found;

@@ -10,11 +10,11 @@ use Rattle.attr_tables.specs.declared.port_state.PortState.TheVariants.{Active}
 use Rattle.fabric_parts.specs.Cable.{far_end, is_same_port, port}
 use Rattle.fabric_parts.specs.declared.cable.PortRef.{PortRef}
 use Rattle.lid_assign.specs.Lids.{adapter_end, end_ports, lid_in, switch_end}
-use Rattle.packet_ways.specs.Deliveries.{adapter_at}
-use Rattle.packet_ways.specs.Forwards.{IsCabledPort, switch_port_at}
+use Rattle.delivery_laws.specs.Deliveries.{adapter_at}
+use Rattle.delivery_laws.specs.Forwards.{IsCabledPort, switch_port_at}
 use Rattle.port_model.specs.AdapterState.{AdapterState}
 use Rattle.port_model.specs.Packets.{is_active}
-use Rattle.result_words.proofs.ListLemmas.{all_have, all_there}
+use Rattle.step_results.proofs.ListLemmas.{all_have, all_there}
 use Rattle.smp_wire.proofs.CableLemmas.{cabled_is_port, same_port}
 use Rattle.smp_wire.specs.FabricState.{FabricState, is_switch, is_switch_at}
 use Rattle.smp_wire.specs.Good.{IsGood, node_guid}
@@ -35,17 +35,17 @@ use Rattle.sweep.proofs.MetLemmas.{good_once}
 use Rattle.sweep.proofs.ProgressLemmas.{node_of}
 use Rattle.sweep.proofs.WholeLemmas.{found_there}
 use Rattle.switch_model.specs.declared.switch_port.SwitchPort.{SwitchPort}
-use Rattle.table_push.specs.Keys.{hanging_at, key_table, keys_of, port_of}
+use Rattle.table_push.specs.Keys.{attached_at, key_table, keys_of, port_of}
 use Rattle.table_push.specs.Ports.{change_wanted, changed, has_link, stays}
 use Rattle.table_push.proofs.GuidLemmas.{no_place}
-use Rattle.table_push.proofs.HangLemmas.{found_is, is_hung}
-use Rattle.table_push.proofs.WantedLemmas.{hanging_is, port_is, wanted_adapter, wanted_there}
+use Rattle.table_push.proofs.AttachedLemmas.{found_is, is_hung}
+use Rattle.table_push.proofs.WantedLemmas.{attached_is, port_is, wanted_adapter, wanted_there}
 use Rattle.updn_routes.specs.Subnet.{RoutesState, place_of}
 use Rattle.table_push.specs.BroughtUp.{AreGiven, RoutesLeadHome}
 use Rattle.table_push.specs.Pushed.{all_pushed}
 use Rattle.table_push.proofs.HomeLemmas.{later, own_switch}
 use Rattle.table_push.proofs.BroughtUpNodeLemmas.{SwitchPortAfter, adapter_port_after, switch_port_after}
-use Rattle.table_push.proofs.SeatLemmas.{IsSeated, seated}
+use Rattle.table_push.proofs.AttachmentLemmas.{IsAttached, attached}
 use Rattle.smp_wire.proofs.PresentLemmas.{present_right}
 
 fourth : (a b c d e : Bool) → (a && (b && (c && (d && e)))) ≡ true → d ≡ true
@@ -72,7 +72,7 @@ module _ (routes : RoutesState) (keys : List (List ℕ)) (fabric : FabricState) 
   changed_adapter guid number one none there = rw (none, there) refl
 
   changed_between : (guid place number : ℕ) → place_of routes.graph.switches guid ≡ Some place → (number == 0) ≡ false
-      → hanging_at routes.graph.ports place number ≡ None → has_link routes.graph place number ≡ true
+      → attached_at routes.graph.ports place number ≡ None → has_link routes.graph place number ≡ true
       → change_wanted routes guid number ≡ record stays { enforcement = Some false; active = true }
   unfolding change_wanted
   changed_between guid place number there some none linked = rw (there, some, none, linked) refl
@@ -91,37 +91,37 @@ module _ (routes : RoutesState) (keys : List (List ℕ)) (fabric : FabricState) 
 
   pub record IsSet (at : PortRef) (one : AdapterState) (cabled : IsCabledPort (all_pushed routes keys fabric) at one) : Type 0 where
     pub was : AdapterState
-    pub seat : IsSeated fabric routes.graph of at cabled.far was
+    pub attachment : IsAttached fabric routes.graph of at cabled.far was
     pub lid_is : lid_in routes.lids one.port_guid ≡ Some one.info.lid
     pub active : is_active one.info ≡ true
-    pub wanted : (own : List ℕ) → AreGiven keys one own → keys_of routes keys seat.hung.port_guid ≡ Some own
+    pub wanted : (own : List ℕ) → AreGiven keys one own → keys_of routes keys attachment.hung.port_guid ≡ Some own
     pub own : (own : List ℕ) → AreGiven keys one own → one.keys ≡ key_table false own
 
   pub is_set : (at : PortRef) (one : AdapterState) (cabled : IsCabledPort (all_pushed routes keys fabric) at one) → IsSet at one cabled
   is_set at one cabled =
       let after = adapter_port_after routes keys fabric at one cabled.there in
-      let seat = seated fabric routes.graph at after.was good of (record { there = after.there; far = cabled.far; cable = cabled.cable }) in
-      let there : port_of routes.graph.ports (guid_at fabric at.node) at.port ≡ Some seat.hung =
-      (λ i. port_of routes.graph.ports (sym seat.node_is i) (sym seat.number_is i)) ∙ port_is routes.graph seat.index seat.hung home.graph seat.has in
-      let right = all_there (is_right_port routes.graph.switches) routes.graph.ports seat.index seat.hung home.graph.ports seat.has in
+      let attachment = attached fabric routes.graph at after.was good of (record { there = after.there; far = cabled.far; cable = cabled.cable }) in
+      let there : port_of routes.graph.ports (guid_at fabric at.node) at.port ≡ Some attachment.hung =
+      (λ i. port_of routes.graph.ports (sym attachment.node_is i) (sym attachment.number_is i)) ∙ port_is routes.graph attachment.index attachment.hung home.graph attachment.has in
+      let right = all_there (is_right_port routes.graph.switches) routes.graph.ports attachment.index attachment.hung home.graph.ports attachment.has in
       let none : place_of routes.graph.switches (guid_at fabric at.node) ≡ None =
-      ap (place_of routes.graph.switches) (sym seat.node_is) ∙ apart routes.graph.switches seat.hung right in
-      let lid = lid_there seat.index seat.hung seat.has in
+      ap (place_of routes.graph.switches) (sym attachment.node_is) ∙ apart routes.graph.switches attachment.hung right in
+      let lid = lid_there attachment.index attachment.hung attachment.has in
       let change : change_wanted routes (guid_at fabric at.node) at.port ≡ record stays { lid = Some lid.0; active = true } =
-      changed_adapter (guid_at fabric at.node) at.port seat.hung none there ∙ ap (λ (o : Option ℕ). record stays { lid = o; active = true }) lid.1 in
+      changed_adapter (guid_at fabric at.node) at.port attachment.hung none there ∙ ap (λ (o : Option ℕ). record stays { lid = o; active = true }) lid.1 in
       let all = after.info_is ∙ ap (λ (c : _). changed c after.was.info) change in
       let info : one.info.lid ≡ lid.0 = ap (λ (info : _). info.lid) all in
-      let found : (own : List ℕ) → AreGiven keys one own → keys_of routes keys seat.hung.port_guid ≡ Some own =
+      let found : (own : List ℕ) → AreGiven keys one own → keys_of routes keys attachment.hung.port_guid ≡ Some own =
       λ own given. ap (option_and_then (λ n. slice_get keys (n - 1))) lid.1 ∙ ap (λ (n : ℕ). slice_get keys (n - 1)) (sym info) ∙ given in
       record {
         was = after.was;
-        seat = seat;
-        lid_is = ap (lid_in routes.lids) (after.guid_is ∙ sym seat.guid_is) ∙ lid.1 ∙ ap (λ (n : ℕ). Some n) (sym info);
+        attachment = attachment;
+        lid_is = ap (lid_in routes.lids) (after.guid_is ∙ sym attachment.guid_is) ∙ lid.1 ∙ ap (λ (n : ℕ). Some n) (sym info);
         active = eq-eqb one.info.port_state (port_state_code Active) (ap (λ (info : _). info.port_state) all);
         wanted = found;
         own = λ own given. after.keys_are
             ∙ ap (λ (o : Option (List ℕ)). unwrap_or o after.was.keys)
-            (wanted_adapter routes keys (guid_at fabric at.node) at.port (Some seat.hung) none there ∙ ap (option_map (key_table false)) (found own given));
+            (wanted_adapter routes keys (guid_at fabric at.node) at.port (Some attachment.hung) none there ∙ ap (option_map (key_table false)) (found own given));
       }
 
   -- ---- a port of a switch
@@ -168,31 +168,31 @@ module _ (routes : RoutesState) (keys : List (List ℕ)) (fabric : FabricState) 
   faces_adapter here at mine one own there cable port_there given =
       let after = switch_port_after routes keys fabric here mine there in
       let set = is_set at one (record { there = port_there; far = here; cable = good_once fabric here at good cable }) in
-      let seat = set.seat in
-      let place = place_at seat.place here.node after.held.node_guid seat.found seat.there seat.node (guid_held here mine after) in
-      let hangs : hanging_at routes.graph.ports seat.place here.port ≡ Some seat.hung =
-      (λ i. hanging_at routes.graph.ports (sym seat.at_is i).node (sym seat.at_is i).port) ∙ hanging_is fabric routes.graph seat.index seat.hung of seat.has in
+      let attachment = set.attachment in
+      let place = place_at attachment.place here.node after.held.node_guid attachment.found attachment.there attachment.node (guid_held here mine after) in
+      let attached : attached_at routes.graph.ports attachment.place here.port ≡ Some attachment.hung =
+      (λ i. attached_at routes.graph.ports (sym attachment.at_is i).node (sym attachment.at_is i).port) ∙ attached_is fabric routes.graph attachment.index attachment.hung of attachment.has in
       after.keys_are
       ∙ ap (λ (o : Option (List ℕ)). unwrap_or o after.was.keys)
-      (wanted_there routes keys after.held.node_guid seat.place here.port (Some seat.hung) place (not_first here at cable) hangs
+      (wanted_there routes keys after.held.node_guid attachment.place here.port (Some attachment.hung) place (not_first here at cable) attached
       ∙ ap (option_map (key_table true)) (set.wanted own given))
 
   -- ---- ports of switches that face each other
-  none_hangs : (here at : PortRef) (at_place : IsFoundAt here.node) → far_end fabric.cables here ≡ Some at → is_switch_at fabric.nodes at.node ≡ true
-      → hanging_at routes.graph.ports at_place.place here.port ≡ None
-  none_hangs here at at_place cable switch = by (hanging_at routes.graph.ports at_place.place here.port) refl
+  none_attached : (here at : PortRef) (at_place : IsFoundAt here.node) → far_end fabric.cables here ≡ Some at → is_switch_at fabric.nodes at.node ≡ true
+      → attached_at routes.graph.ports at_place.place here.port ≡ None
+  none_attached here at at_place cable switch = by (attached_at routes.graph.ports at_place.place here.port) refl
     where
-      by : (o : Option GraphPort) → hanging_at routes.graph.ports at_place.place here.port ≡ o → o ≡ None
+      by : (o : Option GraphPort) → attached_at routes.graph.ports at_place.place here.port ≡ o → o ≡ None
       by None none = refl
       by (Some one) some =
           let found = found_is (λ other. is_same_port other.at (port at_place.place here.port)) routes.graph.ports one some in
-          let hangs = is_hung fabric routes.graph found.0 one of found.1 in
+          let attached = is_hung fabric routes.graph found.0 one of found.1 in
           let same : one.at ≡ port at_place.place here.port = same_port one.at (port at_place.place here.port) found.2 in
           let near : far_end fabric.cables here ≡ far_end fabric.cables (port (node_at of.layout.found one.at.node) one.at.port) =
           ap (λ (n : ℕ). far_end fabric.cables (port n here.port)) (sym at_place.at_place)
           ∙ ap (λ (p : PortRef). far_end fabric.cables (port (node_at of.layout.found p.node) p.port)) (sym same) in
-          let there : hangs.there ≡ at = same_Some _ at (sym hangs.cable ∙ sym near ∙ cable) in
-          absurd (false≢true (sym hangs.adapter ∙ ap (λ (p : PortRef). is_switch_at fabric.nodes p.node) there ∙ switch))
+          let there : attached.there ≡ at = same_Some _ at (sym attached.cable ∙ sym near ∙ cable) in
+          absurd (false≢true (sym attached.adapter ∙ ap (λ (p : PortRef). is_switch_at fabric.nodes p.node) there ∙ switch))
 
   is_linked : (here at : PortRef) (at_place : IsFoundAt here.node) → far_end fabric.cables here ≡ Some at → is_switch_at fabric.nodes at.node ≡ true
       → has_link routes.graph at_place.place here.port ≡ true
@@ -226,6 +226,6 @@ module _ (routes : RoutesState) (keys : List (List ℕ)) (fabric : FabricState) 
       let at_place = found_at here.node is_one in
       let place = place_at at_place.place here.node after.held.node_guid at_place.found at_place.there at_place.node_is (guid_held here mine after) in
       let change = changed_between after.held.node_guid at_place.place here.port place (not_first here at cable)
-      (none_hangs here at at_place cable switch) (is_linked here at at_place cable switch) in
+      (none_attached here at at_place cable switch) (is_linked here at at_place cable switch) in
       let info = after.info_is ∙ ap (λ (c : _). changed c after.was.info) change in
       (ap (λ (info : _). info.partition_enforcement_inbound) info, ap (λ (info : _). info.partition_enforcement_outbound) info)

@@ -9,7 +9,7 @@ use Rattle.std.proofs.lemmas.List.Folds.{list_any_more}
 use Rattle.std.proofs.lemmas.Option.{get_or_from_slice_get, slice_get-get_or, slice_get_cases}
 use Rattle.fabric_parts.specs.NodeType.{most_ports}
 use Rattle.fabric_parts.specs.declared.node_type.NodeType.TheVariants as node_type
-use Rattle.result_words.proofs.ListLemmas.{all_there}
+use Rattle.step_results.proofs.ListLemmas.{all_there}
 use Rattle.smp_wire.specs.FabricState.{FabricState}
 use Rattle.smp_wire.specs.Good.{IsGood}
 use Rattle.sweep.specs.Graph.{GraphState, IsGraph, count_at, hops_to, is_no_switch, is_right_port, is_switch_port}
@@ -21,15 +21,15 @@ use Rattle.table_push.specs.Keys.{at_cable, at_cables, at_switches, guid_of, key
 use Rattle.table_push.specs.Nodes.{with_keys}
 use Rattle.table_push.specs.Pushes.{Leaves, Stands}
 use Rattle.table_push.specs.declared.fault.PushFault.{PushFault}
-use Rattle.result_words.proofs.DistinctLemmas.{left_part}
+use Rattle.step_results.proofs.DistinctLemmas.{left_part}
 use Rattle.table_push.proofs.GuidLemmas.{no_place, place_is}
-use Rattle.table_push.proofs.HangLemmas.{adapter_leads, switch_leads}
+use Rattle.table_push.proofs.AttachedLemmas.{adapter_leads, switch_leads}
 use Rattle.table_push.proofs.LeadLemmas.{begins_as, ends_as}
-use Rattle.table_push.proofs.WantedLemmas.{PutsAt, hanging_is, port_is, put_all, put_more, put_none, put_same, wanted_adapter, wanted_own, wanted_there, with_this}
+use Rattle.table_push.proofs.WantedLemmas.{PutsAt, attached_is, port_is, put_all, put_more, put_none, put_same, wanted_adapter, wanted_own, wanted_there, with_this}
 use Rattle.updn_routes.specs.Subnet.{RoutesState}
 
--- ---- the switch that a port hangs on
-pub record Seat (graph : GraphState) (one : GraphPort) : Type 0 where
+-- ---- the switch that a port is attached to
+pub record Attachment (graph : GraphState) (one : GraphPort) : Type 0 where
   pub switch : GraphSwitch
   pub place : one.at.node < length graph.switches
   pub there : slice_get graph.switches one.at.node ≡ Some switch
@@ -38,8 +38,8 @@ pub record Seat (graph : GraphState) (one : GraphPort) : Type 0 where
   pub near : length switch.path < 63
   pub no_switch : list_any (λ switch. switch.guid == one.node_guid) graph.switches ≡ false
 
-pub seat : (graph : GraphState) (k : ℕ) (one : GraphPort) → IsGraph graph → slice_get graph.ports k ≡ Some one → Seat graph one
-seat graph k one is at =
+pub attachment : (graph : GraphState) (k : ℕ) (one : GraphPort) → IsGraph graph → slice_get graph.ports k ≡ Some one → Attachment graph one
+attachment graph k one is at =
     let right = and_parts (is_switch_port graph.switches one.at) _ (all_there (is_right_port graph.switches) graph.ports k one is.ports at) in
     let own = and_parts (nat_le 1 one.number && nat_le one.number one.num_ports) _ right.1 in
     let few = and_parts (nat_le one.num_ports (most_ports node_type.ChannelAdapter)) _ own.1 in
@@ -54,7 +54,7 @@ seat graph k one is at =
     by : ((x : GraphSwitch) × (one.at.node < length graph.switches) × (slice_get graph.switches one.at.node ≡ Some x) × (get_or graph.switches one.at.node x ≡ x))
         ⊎ ((length graph.switches ≤ one.at.node) × (slice_get graph.switches one.at.node ≡ None))
         → 1 ≤ one.at.port → one.at.port ≤ count_at graph.switches one.at.node → hops_to graph.switches one.at.node < 63
-        → list_any (λ switch. switch.guid == one.node_guid) graph.switches ≡ false → Seat graph one
+        → list_any (λ switch. switch.guid == one.node_guid) graph.switches ≡ false → Attachment graph one
     by (inr past) low high hops none =
         let no_room : count_at graph.switches one.at.node ≡ 0 = ap (λ (o : Option GraphSwitch). option_map_or (λ (switch : GraphSwitch). switch.num_ports) o 0) past.1 in
         absurd (omega (arith, low, high, no_room))
@@ -74,10 +74,10 @@ seat graph k one is at =
 pub record Home (graph : GraphState) (place : ℕ) (one : GraphPort) (switches : List GraphSwitch) : Type 0 where
   pub is : IsGraph graph
   pub at : slice_get graph.ports place ≡ Some one
-  pub seat : Seat graph one
+  pub attachment : Attachment graph one
   pub within : one.at.node < length switches
   pub few : length switches ≤ 64
-  pub same : (d : GraphSwitch) → get_or switches one.at.node d ≡ seat.switch
+  pub same : (d : GraphSwitch) → get_or switches one.at.node d ≡ attachment.switch
 
 pub home : (graph given : GraphState) (ports : List GraphPort) (switches : List GraphSwitch) (place : ℕ) → IsGraph given → given ≡ graph
     → ports ≡ given.ports → switches ≡ given.switches → place < length graph.ports → Home graph place (get_or ports place no_port) switches
@@ -88,11 +88,11 @@ home graph given ports switches place whole same ports_are switches_are within =
     let one = get_or ports place no_port in
     let at : slice_get graph.ports place ≡ Some one =
     slice_get-get_or graph.ports place no_port within ∙ ap (λ (some : List GraphPort). Some (get_or some place no_port)) (sym ports_same) in
-    let sits = seat graph place one is at in
+    let sits = attachment graph place one is at in
     record {
       is = is;
       at = at;
-      seat = sits;
+      attachment = sits;
       within = omega (arith, sits.place, ap length switches_same);
       few = omega (arith, is.few_switches, ap length switches_same);
       same = λ d. ap (λ (some : List GraphSwitch). get_or some one.at.node d) switches_same ∙ get_or_from_slice_get graph.switches one.at.node sits.switch d sits.there;
@@ -111,28 +111,28 @@ own_guids graph is = left_part (λ a b. a == b) (map (λ (one : GraphSwitch). on
 -- ---- the two tables of a cable
 pub at_switch : (stood left : Option FabricState) (result : Result (Unit {0}) PushFault) (fabric : FabricState) (routes : RoutesState) (keys : List (List ℕ))
     (there : ℕ → ℕ → Bool) (k : ℕ) (one : GraphPort) (table : Option (List ℕ)) → IsGraph routes.graph → IsGraphOf routes.graph fabric
-    → slice_get routes.graph.ports k ≡ Some one → (seat : Seat routes.graph one) → table ≡ option_map (key_table true) (keys_of routes keys one.port_guid)
-    → Stands stood fabric (with_keys (keys_where there routes keys) fabric) → PutsAt stood left result seat.switch.path one.at.port table
+    → slice_get routes.graph.ports k ≡ Some one → (attachment : Attachment routes.graph one) → table ≡ option_map (key_table true) (keys_of routes keys one.port_guid)
+    → Stands stood fabric (with_keys (keys_where there routes keys) fabric) → PutsAt stood left result attachment.switch.path one.at.port table
     → Leaves result left fabric (with_keys (keys_where (with_this there (guid_of routes.graph.switches one.at.node) one.at.port) routes keys) fabric)
-at_switch stood left result fabric routes keys there k one table is of at seat tells stands puts =
-    let guid : guid_of routes.graph.switches one.at.node ≡ seat.switch.guid = ap (λ (o : Option GraphSwitch). option_map_or (λ (s : GraphSwitch). s.guid) o 0) seat.there in
-    let place = place_is routes.graph.switches one.at.node seat.switch (own_guids routes.graph is) seat.there in
-    let some : (one.at.port == 0) ≡ false = ne_eqb one.at.port 0 (λ none. omega (arith, none, seat.from)) in
-    let wanted = wanted_there routes keys seat.switch.guid one.at.node one.at.port (Some one) place some (hanging_is fabric routes.graph k one of at) in
+at_switch stood left result fabric routes keys there k one table is of at attachment reports stands puts =
+    let guid : guid_of routes.graph.switches one.at.node ≡ attachment.switch.guid = ap (λ (o : Option GraphSwitch). option_map_or (λ (s : GraphSwitch). s.guid) o 0) attachment.there in
+    let place = place_is routes.graph.switches one.at.node attachment.switch (own_guids routes.graph is) attachment.there in
+    let some : (one.at.port == 0) ≡ false = ne_eqb one.at.port 0 (λ none. omega (arith, none, attachment.from)) in
+    let wanted = wanted_there routes keys attachment.switch.guid one.at.node one.at.port (Some one) place some (attached_is fabric routes.graph k one of at) in
     subst (λ (g : ℕ). Leaves result left fabric (with_keys (keys_where (with_this there g one.at.port) routes keys) fabric)) (sym guid)
-    (put_more stood left result fabric routes keys there seat.switch.path one.at.port seat.switch.guid one.at.port table (wanted ∙ sym tells)
-    (switch_leads fabric routes.graph one.at.node one.at.port seat.switch of seat.there seat.within) stands puts)
+    (put_more stood left result fabric routes keys there attachment.switch.path one.at.port attachment.switch.guid one.at.port table (wanted ∙ sym reports)
+    (switch_leads fabric routes.graph one.at.node one.at.port attachment.switch of attachment.there attachment.within) stands puts)
 
 pub at_adapter : (stood left : Option FabricState) (result : Result (Unit {0}) PushFault) (fabric : FabricState) (routes : RoutesState) (keys : List (List ℕ))
     (there : ℕ → ℕ → Bool) (k : ℕ) (one : GraphPort) (table : Option (List ℕ)) → IsGood fabric → IsGraph routes.graph → IsGraphOf routes.graph fabric
-    → slice_get routes.graph.ports k ≡ Some one → (seat : Seat routes.graph one) → table ≡ option_map (key_table false) (keys_of routes keys one.port_guid)
-    → Stands stood fabric (with_keys (keys_where there routes keys) fabric) → PutsAt stood left result (seat.switch.path ++ one.at.port ∷ []) 0 table
+    → slice_get routes.graph.ports k ≡ Some one → (attachment : Attachment routes.graph one) → table ≡ option_map (key_table false) (keys_of routes keys one.port_guid)
+    → Stands stood fabric (with_keys (keys_where there routes keys) fabric) → PutsAt stood left result (attachment.switch.path ++ one.at.port ∷ []) 0 table
     → Leaves result left fabric (with_keys (keys_where (with_this there one.node_guid one.number) routes keys) fabric)
-at_adapter stood left result fabric routes keys there k one table good is of at seat tells stands puts =
-    let wanted = wanted_adapter routes keys one.node_guid one.number (Some one) (no_place routes.graph.switches one.node_guid seat.no_switch)
+at_adapter stood left result fabric routes keys there k one table good is of at attachment reports stands puts =
+    let wanted = wanted_adapter routes keys one.node_guid one.number (Some one) (no_place routes.graph.switches one.node_guid attachment.no_switch)
     (port_is routes.graph k one is at) in
-    put_more stood left result fabric routes keys there (seat.switch.path ++ one.at.port ∷ []) 0 one.node_guid one.number table (wanted ∙ sym tells)
-    (adapter_leads fabric routes.graph k one seat.switch good of at seat.there) stands puts
+    put_more stood left result fabric routes keys there (attachment.switch.path ++ one.at.port ∷ []) 0 one.node_guid one.number table (wanted ∙ sym reports)
+    (adapter_leads fabric routes.graph k one attachment.switch good of at attachment.there) stands puts
 
 or_first : (a b c : Bool) → ((a || b) || c) ≡ (a || (b || c))
 or_first true b c = refl
@@ -193,7 +193,7 @@ pub switches_more : (stood left : Option FabricState) (result : Result (Unit {0}
     → Stands stood fabric (with_keys (keys_where (at_switches (take place routes.graph.switches)) routes keys) fabric)
     → PutsAt stood left result switch.path 0 table
     → Leaves result left fabric (with_keys (keys_where (at_switches (take (place + 1) routes.graph.switches)) routes keys) fabric)
-switches_more stood left result fabric routes keys place switch table is of within there tells stands puts =
+switches_more stood left result fabric routes keys place switch table is of within there reports stands puts =
     let own = place_is routes.graph.switches place switch (own_guids routes.graph is) there in
     let leads = switch_leads fabric routes.graph place 0 switch of there (omega arith) in
     let grown : (guid number : ℕ) → with_this (at_switches (take place routes.graph.switches)) switch.guid 0 guid number ≡ at_switches (take (place + 1) routes.graph.switches) guid number =
@@ -202,7 +202,7 @@ switches_more stood left result fabric routes keys place switch table is of with
     ∙ sym (list_any_more (λ one. (one.guid == guid) && (0 == number)) routes.graph.switches place switch within) in
     subst (Leaves result left fabric) (put_same routes keys fabric _ _ grown)
     (put_more stood left result fabric routes keys (at_switches (take place routes.graph.switches)) switch.path 0 switch.guid 0 table
-    (wanted_own routes keys switch.guid place own ∙ sym tells) leads stands puts)
+    (wanted_own routes keys switch.guid place own ∙ sym reports) leads stands puts)
 
 -- which switch stands at a place of the graph
 pub switch_at : (graph given : GraphState) (switches : List GraphSwitch) (place : ℕ) (d switch : GraphSwitch) → given ≡ graph → switches ≡ given.switches

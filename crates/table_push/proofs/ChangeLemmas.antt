@@ -6,7 +6,7 @@ use Rattle.std.proofs.lemmas.Option.{same_Some}
 use Rattle.std.proofs.lemmas.Bool.Decides.{nat_tests}
 use Rattle.agent_rules.specs.Agent.{shown_at}
 use Rattle.agent_rules.specs.PortSetting.{may_follow, port_info_after, port_setting}
-use Rattle.agent_rules.proofs.CarriedLemmas.{spelled_is_read}
+use Rattle.agent_rules.proofs.CarriedLemmas.{encoded_is_read}
 use Rattle.agent_rules.proofs.PortSettingLemmas.{shown_fits}
 use Rattle.attr_tables.specs.PortInfo.{port_info, port_info_bytes}
 use Rattle.attr_tables.specs.PortState.{port_state_code}
@@ -20,13 +20,13 @@ use Rattle.mad_layout.specs.Bits.{field}
 use Rattle.mad_layout.specs.Layout.{Fits}
 use Rattle.smp_wire.specs.FabricState.{FabricState, is_switch}
 use Rattle.smp_wire.specs.Get.{gives_along}
-use Rattle.result_words.proofs.ElementLemmas.{or_same}
+use Rattle.step_results.proofs.ElementLemmas.{or_same}
 use Rattle.smp_wire.specs.Good.{IsGood, info_at, is_up}
 use Rattle.fabric_parts.specs.Cable.{port}
 use Rattle.sweep.specs.OfFabric.{guid_at}
 use Rattle.table_push.specs.Fault.{compared, without_state}
 use Rattle.table_push.specs.Nodes.{on_port, with_infos}
-use Rattle.table_push.specs.Ports.{TakesChange, changed, end_told, enforces, state_asked, told, with_state}
+use Rattle.table_push.specs.Ports.{TakesChange, changed, with_end_set, enforces, state_asked, with_lid_and_enforcement, with_state}
 use Rattle.table_push.specs.Pushes.{Leaves}
 use Rattle.table_push.specs.declared.fault.PushFault.{PushFault}
 use Rattle.table_push.specs.declared.ports.PortChange.{PortChange}
@@ -38,7 +38,7 @@ use Rattle.table_push.proofs.PortLemmas.{port_on}
 
 -- ---- a change, in whatever order its parts come
 abbrev change_of : Option ℕ → Option Bool → PortInfo → PortInfo
-change_of lid enforcement info = enforces enforcement (end_told lid info)
+change_of lid enforcement info = enforces enforcement (with_end_set lid info)
 
 shown_first : (lid : Option ℕ) (enforcement : Option Bool) (shown code : ℕ) (info : PortInfo)
     → ◌≡◌ {A = PortInfo} (record (change_of lid enforcement (shown_at shown info)) { port_state = code })
@@ -95,43 +95,43 @@ shown_again None (Some on) shown code was info = refl
 shown_again (Some lid) None shown code was info = refl
 shown_again (Some lid) (Some on) shown code was info = refl
 
-shown_told : (lid : Option ℕ) (enforcement : Option Bool) (shown was : ℕ) (info : PortInfo)
+shown_reported : (lid : Option ℕ) (enforcement : Option Bool) (shown was : ℕ) (info : PortInfo)
     → ◌≡◌ {A = PortInfo} (change_of lid enforcement (shown_at shown (change_of lid enforcement (record info { port_state = was }))))
     (record (change_of lid enforcement (shown_at shown info)) { port_state = was })
-shown_told None None shown was info = refl
-shown_told None (Some on) shown was info = refl
-shown_told (Some lid) None shown was info = refl
-shown_told (Some lid) (Some on) shown was info = refl
+shown_reported None None shown was info = refl
+shown_reported None (Some on) shown was info = refl
+shown_reported (Some lid) None shown was info = refl
+shown_reported (Some lid) (Some on) shown was info = refl
 
 -- ---- one Set
 -- what a port has after a Set with that state
 abbrev pub stepped : PortChange → PortState → PortInfo → PortInfo
-stepped change state info = told change (as_held (port_state_code state) info)
+stepped change state info = with_lid_and_enforcement change (as_held (port_state_code state) info)
 
 -- what is compared of the reply is what was set
-compares : (change : PortChange) (state : PortState) (shown : ℕ) (info : PortInfo) → Fits (port_info (told change (shown_at shown info)))
-    → compared PortInfoAsked (port_info_bytes (with_state state (told change (shown_at shown info)))) (port_info_bytes (shown_at shown (stepped change state info)))
-    ≡ port_info_bytes (with_state state (told change (shown_at shown info)))
+compares : (change : PortChange) (state : PortState) (shown : ℕ) (info : PortInfo) → Fits (port_info (with_lid_and_enforcement change (shown_at shown info)))
+    → compared PortInfoAsked (port_info_bytes (with_state state (with_lid_and_enforcement change (shown_at shown info)))) (port_info_bytes (shown_at shown (stepped change state info)))
+    ≡ port_info_bytes (with_state state (with_lid_and_enforcement change (shown_at shown info)))
 unfolding compared
 compares change state shown info fits = by state
   where
     asked : PortState → PortInfo
-    asked state = with_state state (told change (shown_at shown info))
+    asked state = with_state state (with_lid_and_enforcement change (shown_at shown info))
 
     is : (state : PortState) → field (port_info_bytes (asked state)) 260 4 ≡ port_state_code state
-    is state = state_is (asked state) (state_fits state (told change (shown_at shown info)) fits)
+    is state = state_is (asked state) (state_fits state (with_lid_and_enforcement change (shown_at shown info)) fits)
 
-    bytes : (code : ℕ) → port_info_bytes (shown_at shown (told change (record info { port_state = code }))) ≡ port_info_bytes (record (told change (shown_at shown info)) { port_state = code })
+    bytes : (code : ℕ) → port_info_bytes (shown_at shown (with_lid_and_enforcement change (record info { port_state = code }))) ≡ port_info_bytes (record (with_lid_and_enforcement change (shown_at shown info)) { port_state = code })
     bytes code = ap port_info_bytes (sym (shown_first change.lid change.enforcement shown code info))
 
-    narrow : Fits (port_info (shown_at shown (told change (as_held 0 info))))
+    narrow : Fits (port_info (shown_at shown (with_lid_and_enforcement change (as_held 0 info))))
     narrow = subst (λ (one : PortInfo). Fits (port_info one)) (shown_same change.lid change.enforcement shown info) fits
 
     by : (state : PortState)
         → (if field (port_info_bytes (asked state)) 260 4 == 0 then without_state (port_info_bytes (shown_at shown (stepped change state info)))
         else port_info_bytes (shown_at shown (stepped change state info)))
         ≡ port_info_bytes (asked state)
-    by NoChange = rw (is NoChange) (state_put (shown_at shown (told change (as_held 0 info))) 0 narrow (omega arith)
+    by NoChange = rw (is NoChange) (state_put (shown_at shown (with_lid_and_enforcement change (as_held 0 info))) 0 narrow (omega arith)
         ∙ ap port_info_bytes (state_last change.lid change.enforcement shown 0 info.port_state info))
     by Down = rw (is Down) (bytes 1)
     by Initialize = rw (is Initialize) (bytes 2)
@@ -142,21 +142,21 @@ compares change state shown info fits = by state
 abbrev MayAsk : PortInfo → PortState → Type 0
 MayAsk info state = ((port_state_code state == 0) || may_follow info.port_state (port_state_code state)) ≡ true
 
--- what a port can be told
-record CanBeTold (change : PortChange) (on : Bool) : Type 0 where
+-- what a port can be set to
+record CanBeReported (change : PortChange) (on : Bool) : Type 0 where
   lid : option_map_or (λ lid. nat_le lid LAST_UNICAST_LID) change.lid true ≡ true
   enforces : is_some change.enforcement ≡ true → on ≡ true
 
 is_set : (fabric : FabricState) (stood left : Option FabricState) (result : Result (Unit {0}) PushFault) (path : List ℕ) (asked guid number : ℕ) (at : PortRef)
     (change : PortChange) (state : PortState) → IsGood fabric → stood ≡ Some fabric → (here : InfoThere fabric path asked guid number at)
-    → CanBeTold change here.on → MayAsk here.info state → Fits (port_info (told change (shown_at at.port here.info)))
-    → SetsAt stood left result path PortInfoAsked asked (port_info_bytes (with_state state (told change (shown_at at.port here.info))))
+    → CanBeReported change here.on → MayAsk here.info state → Fits (port_info (with_lid_and_enforcement change (shown_at at.port here.info)))
+    → SetsAt stood left result path PortInfoAsked asked (port_info_bytes (with_state state (with_lid_and_enforcement change (shown_at at.port here.info))))
     → Leaves result left fabric (with_infos (on_port guid number (stepped change state)) fabric)
 is_set fabric stood left result path asked guid number at change state good stands here can may fits sets =
     let info = here.info in
-    let wanted = with_state state (told change (shown_at at.port info)) in
+    let wanted = with_state state (with_lid_and_enforcement change (shown_at at.port info)) in
     let taken : port_info_after here.on info (port_setting (port_info_bytes wanted)) ≡ Ok (stepped change state info) =
-    ap (port_info_after here.on info) (spelled_is_read.setting wanted (state_fits state (told change (shown_at at.port info)) fits))
+    ap (port_info_after here.on info) (encoded_is_read.setting wanted (state_fits state (with_lid_and_enforcement change (shown_at at.port info)) fits))
     ∙ setting_taken here.on change.lid change.enforcement (port_state_code state) at.port info here.good can.lid can.enforces may in
     sets fabric stands (with_infos (on_port guid number (stepped change state)) fabric) good
     (info_takes fabric path asked guid number at good here (stepped change state) (port_info_bytes wanted) taken)
@@ -186,7 +186,7 @@ is_enough : (change : PortChange) (info : PortInfo) → (change.active ≡ true 
 is_enough change info up other = by change.active (info.port_state == 2) (info.port_state == 3) refl refl refl
   where
     result : Bool → PortInfo
-    result active = if active then with_state Active (told change info) else told change info
+    result active = if active then with_state Active (with_lid_and_enforcement change info) else with_lid_and_enforcement change info
 
     by : (active a b : Bool) → change.active ≡ active → (info.port_state == 2) ≡ a → (info.port_state == 3) ≡ b
         → stepped change (state_asked change.active info.port_state) info ≡ result change.active
@@ -196,25 +196,25 @@ is_enough change info up other = by change.active (info.port_state == 2) (info.p
     by true false false is first second =
         let four = active_four info.port_state (up is) first second in
         rw (is, first, second) (with_it change.lid change.enforcement info.port_state info
-        ∙ ap (λ (n : ℕ). record (told change info) { port_state = n }) four)
+        ∙ ap (λ (n : ℕ). record (with_lid_and_enforcement change info) { port_state = n }) four)
 
 -- ---- what is known of the port
-can_be_told : (fabric : FabricState) (path : List ℕ) (asked guid number : ℕ) (change : PortChange) (takes : TakesChange fabric path asked guid number change)
-    → (here : InfoThere fabric path asked guid number takes.leads.at) → CanBeTold change here.on
-can_be_told fabric path asked guid number change takes here = record {
+can_be_reported : (fabric : FabricState) (path : List ℕ) (asked guid number : ℕ) (change : PortChange) (takes : TakesChange fabric path asked guid number change)
+    → (here : InfoThere fabric path asked guid number takes.leads.at) → CanBeReported change here.on
+can_be_reported fabric path asked guid number change takes here = record {
   lid = takes.lid;
   enforces = λ some. sym here.on_is ∙ takes.enforces some;
 }
 
--- what a Get is known to tell
+-- what a Get is known to report
 abbrev Reads : FabricState → List ℕ → ℕ → Result PortInfo PushFault → Type 0
-Reads fabric path asked told =
-    (info : PortInfo) → Fits (port_info info) → gives_along fabric path PortInfoAsked asked ≡ Some (Ok (port_info_bytes info)) → told ≡ Ok info
+Reads fabric path asked reported =
+    (info : PortInfo) → Fits (port_info info) → gives_along fabric path PortInfoAsked asked ≡ Some (Ok (port_info_bytes info)) → reported ≡ Ok info
 
 same_Ok : (one other : PortInfo) → ◌≡◌ {A = Result PortInfo PushFault} (Ok one) (Ok other) → one ≡ other
 same_Ok one other h = cc
 
--- it is told, and no fault
+-- it is reported, and no fault
 pub no_refusal : (fabric : FabricState) (path : List ℕ) (asked guid number : ℕ) (change : PortChange) (fault : PushFault) → IsGood fabric
     → TakesChange fabric path asked guid number change → Reads fabric path asked (Err fault) → ⊥
 no_refusal fabric path asked guid number change fault good takes reads =
@@ -227,22 +227,22 @@ no_refusal fabric path asked guid number change fault good takes reads =
 pub record Asks (fabric : FabricState) (path : List ℕ) (asked guid number : ℕ) (at : PortRef) (change : PortChange) (held wanted : PortInfo) (state : PortState) : Type 0 where
   pub here : InfoThere fabric path asked guid number at
   pub held_is : held ≡ shown_at at.port here.info
-  pub wanted_is : wanted ≡ told change (shown_at at.port here.info)
+  pub wanted_is : wanted ≡ with_lid_and_enforcement change (shown_at at.port here.info)
   pub state_is : state ≡ state_asked change.active here.info.port_state
-  pub fits : Fits (port_info (told change (shown_at at.port here.info)))
+  pub fits : Fits (port_info (with_lid_and_enforcement change (shown_at at.port here.info)))
 
 pub asks : (fabric : FabricState) (path : List ℕ) (asked guid number : ℕ) (change : PortChange) (held wanted : PortInfo) (state : PortState) → IsGood fabric
     → (takes : TakesChange fabric path asked guid number change)
     → Reads fabric path asked (Ok held)
-    → wanted ≡ told change held → Fits (port_info wanted) → state ≡ state_asked change.active held.port_state
+    → wanted ≡ with_lid_and_enforcement change held → Fits (port_info wanted) → state ≡ state_asked change.active held.port_state
     → Asks fabric path asked guid number takes.leads.at change held wanted state
-asks fabric path asked guid number change held wanted state good takes reads told_is fits state_is =
+asks fabric path asked guid number change held wanted state good takes reads reported_is fits state_is =
     let at = takes.leads.at in
     let here = info_there fabric path asked guid number good takes.leads in
     let same : held ≡ shown_at at.port here.info =
     same_Ok held (shown_at at.port here.info)
     (reads (shown_at at.port here.info) (shown_fits at.port here.info here.good.fits here.small) (info_given fabric path asked guid number at good here)) in
-    let wanted_is = told_is ∙ ap (told change) same in
+    let wanted_is = reported_is ∙ ap (with_lid_and_enforcement change) same in
     record {
       here = here;
       held_is = same;
@@ -260,7 +260,7 @@ set_first fabric stood left result path asked guid number change held wanted sta
     let at = takes.leads.at in
     let here = does.here in
     let asks_for = state_asked change.active here.info.port_state in
-    is_set fabric stood left result path asked guid number at change asks_for good stands here (can_be_told fabric path asked guid number change takes here)
+    is_set fabric stood left result path asked guid number at change asks_for good stands here (can_be_reported fabric path asked guid number change takes here)
     (may_ask change.active here.info) does.fits
     (subst (λ (info : PortInfo). SetsAt stood left result path PortInfoAsked asked (port_info_bytes info))
     (λ i. with_state (does.state_is i) (does.wanted_is i)) sets)
@@ -323,20 +323,20 @@ set_twice fabric stood mid left first result path asked guid number change held 
     let leads = port_on fabric now path asked guid number leaves.stands.shape takes.leads in
     let next = info_there now path asked guid number leaves.stands.good leads in
     let info : next.info ≡ stepped change Armed here.info = info_then fabric path asked guid number at (stepped change Armed) here next takes.leads.guid_is in
-    let can : CanBeTold change next.on = record {
+    let can : CanBeReported change next.on = record {
       lid = takes.lid;
       enforces = λ some. sym next.on_is
           ∙ ap (λ (b : Bool). b && nat_lt 0 number) (or_same is_switch false fabric.nodes now.nodes at.node leaves.stands.shape.switches) ∙ takes.enforces some;
     } in
     let code : next.info.port_state ≡ 3 = ap (λ (one : PortInfo). one.port_state) info ∙ state_then lid enforcement 3 here.info in
     let may : MayAsk next.info Active = rw code refl in
-    let fits : Fits (port_info (told change (shown_at at.port next.info))) =
+    let fits : Fits (port_info (with_lid_and_enforcement change (shown_at at.port next.info))) =
     subst (λ (one : PortInfo). Fits (port_info one))
-    (sym (ap (λ (one : PortInfo). told change (shown_at at.port one)) info ∙ shown_told lid enforcement at.port 3 here.info))
-    (state_fits Armed (told change (shown_at at.port here.info)) does.fits) in
-    let same : with_state Active wanted ≡ with_state Active (told change (shown_at at.port next.info)) =
+    (sym (ap (λ (one : PortInfo). with_lid_and_enforcement change (shown_at at.port one)) info ∙ shown_reported lid enforcement at.port 3 here.info))
+    (state_fits Armed (with_lid_and_enforcement change (shown_at at.port here.info)) does.fits) in
+    let same : with_state Active wanted ≡ with_state Active (with_lid_and_enforcement change (shown_at at.port next.info)) =
     ap (with_state Active) does.wanted_is ∙ sym (shown_again lid enforcement at.port 4 3 here.info)
-    ∙ ap (λ (one : PortInfo). with_state Active (told change (shown_at at.port one))) (sym info) in
+    ∙ ap (λ (one : PortInfo). with_state Active (with_lid_and_enforcement change (shown_at at.port one))) (sym info) in
     let second = is_set now mid left result path asked guid number at change Active leaves.stands.good leaves.stands.is next can may fits
     (subst (λ (one : PortInfo). SetsAt mid left result path PortInfoAsked asked (port_info_bytes one)) same later) in
     let active : change.active ≡ true = when_armed change.active here.info.port_state asked_first in

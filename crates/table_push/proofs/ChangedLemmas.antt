@@ -8,7 +8,7 @@ use Rattle.std.proofs.lemmas.List.{map-id}
 use Rattle.std.proofs.lemmas.List.FromFn.{sum_by-map-range_with_len_more}
 use Rattle.std.proofs.lemmas.Option.{same_Some}
 use Rattle.attr_tables.specs.Blocks.{with_block}
-use Rattle.result_words.proofs.RangeLemmas.{range_more}
+use Rattle.step_results.proofs.RangeLemmas.{range_more}
 use Rattle.smp_wire.specs.FabricState.{FabricState}
 use Rattle.smp_wire.specs.Good.{IsGood}
 use Rattle.smp_wire.specs.declared.node.Node.{Node}
@@ -16,14 +16,14 @@ use Rattle.smp_wire.specs.declared.node.Node.TheVariants.{Switch, Adapter}
 use Rattle.sweep.specs.OfFabric.{IsGraphOf}
 use Rattle.sweep.specs.declared.graph.GraphSwitch.{GraphSwitch}
 use Rattle.switch_model.specs.SwitchState.{SwitchState}
-use Rattle.table_push.specs.Changes.{HasBlocks, HasSlice, blocks_changed}
-use Rattle.table_push.specs.Masks.{masks_before, set_slice, slice_to, wanted_slice, with_masks, with_slice}
+use Rattle.table_push.specs.Changes.{HasBlocks, HasRange, blocks_changed}
+use Rattle.table_push.specs.Masks.{masks_before, set_range, slice_to, wanted_range, with_masks, with_range}
 use Rattle.table_push.specs.Nodes.{on_switch, switch_by, with_switches}
 use Rattle.table_push.specs.Pushes.{LeadsToSwitch, Leaves, Stands}
 use Rattle.table_push.specs.declared.fault.PushFault.{PushFault}
 use Rattle.table_push.proofs.GuidLemmas.{place_is}
 use Rattle.table_push.proofs.LeadLemmas.{begins_as, graph_leads, leads_on}
-use Rattle.table_push.proofs.SliceLemmas.{its_masks, keeps_before, place_first, push_on}
+use Rattle.table_push.proofs.MlidRangeLemmas.{its_masks, keeps_before, place_first, push_on}
 use Rattle.updn_routes.specs.Subnet.{RoutesState, place_of}
 
 -- ---- counts
@@ -68,20 +68,20 @@ rest_of [] = []
 rest_of (x ∷ xs) = xs
 
 -- one position more, which has the block that stands there
-slice_stays : (partition k : ℕ) (before after masks : List (List ℕ)) (block : List ℕ) → with_slice partition before masks ≡ masks
+range_stays : (partition k : ℕ) (before after masks : List (List ℕ)) (block : List ℕ) → with_range partition before masks ≡ masks
     → slice_get before k ≡ Some block → slice_get after k ≡ Some block
-    → with_slice partition (take (suc k) after) masks ≡ with_slice partition (take k after) masks
-slice_stays partition k [] after masks block is there later = absurd (cc)
-slice_stays partition k (b ∷ before) [] masks block is there later = absurd (cc)
-slice_stays partition zero (b ∷ before) (a ∷ after) [] block is there later = refl
-slice_stays partition (suc k) (b ∷ before) (a ∷ after) [] block is there later = refl
-slice_stays partition zero (b ∷ before) (a ∷ after) (words ∷ masks) block is there later =
+    → with_range partition (take (suc k) after) masks ≡ with_range partition (take k after) masks
+range_stays partition k [] after masks block is there later = absurd (cc)
+range_stays partition k (b ∷ before) [] masks block is there later = absurd (cc)
+range_stays partition zero (b ∷ before) (a ∷ after) [] block is there later = refl
+range_stays partition (suc k) (b ∷ before) (a ∷ after) [] block is there later = refl
+range_stays partition zero (b ∷ before) (a ∷ after) (words ∷ masks) block is there later =
     let same : a ≡ b = same_Some a block later ∙ sym (same_Some b block there) in
     let head : with_block 32 partition b words ≡ words = ap (λ (all : List (List ℕ)). get_or all 0 words) is in
     ap (λ (one : List ℕ). with_block 32 partition one words ∷ masks) same ∙ ap (λ (one : List ℕ). one ∷ masks) head
-slice_stays partition (suc k) (b ∷ before) (a ∷ after) (words ∷ masks) block is there later =
+range_stays partition (suc k) (b ∷ before) (a ∷ after) (words ∷ masks) block is there later =
     ap (λ (rest : List (List ℕ)). with_block 32 partition a words ∷ rest)
-    (slice_stays partition k before after masks block (ap rest_of is) there later)
+    (range_stays partition k before after masks block (ap rest_of is) there later)
 
 -- ---- nodes that one change leaves as they are
 abbrev held_in : SwitchState → Node → SwitchState
@@ -111,9 +111,9 @@ pub blocks_stay : (fabric : FabricState) (guid partition k : ℕ) (before after 
     → with_switches (on_switch guid (slice_to k partition after)) fabric ≡ with_switches (on_switch guid (slice_to (k + 1) partition after)) fabric
 blocks_stay fabric guid partition k before after block has there later =
     let up : suc k ≡ k + 1 = omega arith in
-    let nodes = alike_where guid (set_slice partition before) (slice_to (suc k) partition after) (slice_to k partition after)
+    let nodes = alike_where guid (set_range partition before) (slice_to (suc k) partition after) (slice_to k partition after)
     (λ held left. ap (λ (masks : List (List ℕ)). record held { masks = masks })
-    (slice_stays partition k before after held.masks block (ap (λ (one : SwitchState). one.masks) left) there later))
+    (range_stays partition k before after held.masks block (ap (λ (one : SwitchState). one.masks) left) there later))
     fabric.nodes (ap (λ (one : FabricState). one.nodes) has) in
     ap (λ (some : List Node). record fabric { nodes = some }) (sym nodes)
     ∙ ap (λ (n : ℕ). with_switches (on_switch guid (slice_to n partition after)) fabric) up
@@ -121,7 +121,7 @@ blocks_stay fabric guid partition k before after block has there later =
 -- ---- switches that have their blocks while those before them are written
 module _ (routes : RoutesState) (partition : ℕ) (before after : ℕ → ℕ → Bool) (place : ℕ) (switch : GraphSwitch) (there : slice_get routes.graph.switches place ≡ Some switch) (own : IsDistinct (λ a b. a == b) (map (λ one. one.guid) routes.graph.switches)) where
   abbrev blocks : List (List ℕ)
-  blocks = wanted_slice routes partition before place
+  blocks = wanted_range routes partition before place
 
   abbrev written : ℕ → SwitchState → SwitchState
   written = masks_before routes partition after place
@@ -133,27 +133,27 @@ module _ (routes : RoutesState) (partition : ℕ) (before after : ℕ → ℕ �
       ap (place_of routes.graph.switches) (sym (eqb-true switch.guid guid is)) ∙ place_is routes.graph.switches place switch own there in
       rw (place_first routes.graph.switches guid place placed) refl
 
-  has_them : (guid : ℕ) (held : SwitchState) → (switch.guid == guid) ≡ true → with_masks routes partition before guid held ≡ held → set_slice partition blocks held ≡ held
+  has_them : (guid : ℕ) (held : SwitchState) → (switch.guid == guid) ≡ true → with_masks routes partition before guid held ≡ held → set_range partition blocks held ≡ held
   has_them guid held is left =
       let placed : place_of routes.graph.switches guid ≡ Some place =
       ap (place_of routes.graph.switches) (sym (eqb-true switch.guid guid is)) ∙ place_is routes.graph.switches place switch own there in
       sym (its_masks routes partition before place guid held placed) ∙ left
 
   stays : (held : SwitchState) → with_masks routes partition before held.node_guid held ≡ held
-      → on_switch switch.guid (set_slice partition blocks) (written held.node_guid held).node_guid (written held.node_guid held) ≡ written held.node_guid held
+      → on_switch switch.guid (set_range partition blocks) (written held.node_guid held).node_guid (written held.node_guid held) ≡ written held.node_guid held
   stays held left =
-      ap (λ (guid : ℕ). on_switch switch.guid (set_slice partition blocks) guid (written held.node_guid held)) (keeps_before routes partition after place held.node_guid held)
+      ap (λ (guid : ℕ). on_switch switch.guid (set_range partition blocks) guid (written held.node_guid held)) (keeps_before routes partition after place held.node_guid held)
       ∙ by (switch.guid == held.node_guid) refl
     where
       by : (b : Bool) → (switch.guid == held.node_guid) ≡ b
-          → (if b then set_slice partition blocks (written held.node_guid held) else written held.node_guid held) ≡ written held.node_guid held
+          → (if b then set_range partition blocks (written held.node_guid held) else written held.node_guid held) ≡ written held.node_guid held
       by true is =
           let same = not_yet held.node_guid held is in
-          ap (set_slice partition blocks) same ∙ has_them held.node_guid held is left ∙ sym same
+          ap (set_range partition blocks) same ∙ has_them held.node_guid held is left ∙ sym same
       by false is = refl
 
   all_stay : (nodes : List Node) → map (switch_by (with_masks routes partition before)) nodes ≡ nodes
-      → map (switch_by (on_switch switch.guid (set_slice partition blocks))) (map (switch_by written) nodes) ≡ map (switch_by written) nodes
+      → map (switch_by (on_switch switch.guid (set_range partition blocks))) (map (switch_by written) nodes) ≡ map (switch_by written) nodes
   all_stay [] is = refl
   all_stay (Adapter ports ∷ nodes) is = ap (λ (rest : List Node). Adapter ports ∷ rest) (all_stay nodes (ap rest_of is))
   all_stay (Switch held ∷ nodes) is =
@@ -161,7 +161,7 @@ module _ (routes : RoutesState) (partition : ℕ) (before after : ℕ → ℕ �
       let tail = all_stay nodes (ap rest_of is) in
       λ i. head i ∷ tail i
 
-  pub has_blocks : (fabric : FabricState) → HasSlice routes partition before fabric → HasBlocks switch.guid partition blocks (with_switches written fabric)
+  pub has_blocks : (fabric : FabricState) → HasRange routes partition before fabric → HasBlocks switch.guid partition blocks (with_switches written fabric)
   has_blocks fabric has =
       ap (λ (nodes : List Node). record fabric { nodes = nodes }) (all_stay fabric.nodes (ap (λ (one : FabricState). one.nodes) has))
 
@@ -169,10 +169,10 @@ module _ (routes : RoutesState) (partition : ℕ) (before after : ℕ → ℕ �
 pub place_more : {X : Type 0} (stood left : Option FabricState) (result : Result X PushFault) (fabric : FabricState) (routes : RoutesState) (partition : ℕ) (before after : ℕ → ℕ → Bool)
     (place : ℕ) (switch : GraphSwitch) (path : List ℕ) (had has : List (List ℕ)) → place < length routes.graph.switches → slice_get routes.graph.switches place ≡ Some switch
     → IsDistinct (λ a b. a == b) (map (λ one. one.guid) routes.graph.switches) → path ≡ switch.path
-    → had ≡ wanted_slice routes partition before place → has ≡ wanted_slice routes partition after place
-    → IsGraphOf routes.graph fabric → HasSlice routes partition before fabric → Stands stood fabric (with_switches (masks_before routes partition after place) fabric)
+    → had ≡ wanted_range routes partition before place → has ≡ wanted_range routes partition after place
+    → IsGraphOf routes.graph fabric → HasRange routes partition before fabric → Stands stood fabric (with_switches (masks_before routes partition after place) fabric)
     → ((x : FabricState) → stood ≡ Some x → (guid : ℕ) → IsGood x → LeadsToSwitch x path guid → HasBlocks guid partition had x
-    → Leaves result left x (with_switches (on_switch guid (set_slice partition has)) x))
+    → Leaves result left x (with_switches (on_switch guid (set_range partition has)) x))
     → Leaves result left fabric (with_switches (masks_before routes partition after (place + 1)) fabric)
 place_more stood left result fabric routes partition before after place switch path had has less there own path_is had_is has_is of slice stands sets =
     let now = with_switches (masks_before routes partition after place) fabric in
@@ -183,11 +183,6 @@ place_more stood left result fabric routes partition before after place switch p
     record { done = at.done; stands = on.stands }
 
 -- ---- a switch whose blocks are the same
-pub some_there : {X : Type 0} (xs : List X) (k : ℕ) → k < length xs → (x : X) × (slice_get xs k ≡ Some x)
-some_there [] k less = absurd (omega (arith, less))
-some_there (x ∷ xs) zero less = (x, refl)
-some_there (x ∷ xs) (suc k) less = some_there xs k (omega (arith, less))
-
 pub none_changed : (before after : List (List ℕ)) → before ≡ after → blocks_changed before after ≡ 0
 none_changed before after same =
     ap (λ (blocks : List (List ℕ)). blocks_changed before blocks) (sym same) ∙ rw (same_text before 0, same_text before 1, same_text before 2) refl
@@ -197,12 +192,12 @@ none_changed before after same =
 
 pub place_stays : (stood : Option FabricState) (fabric : FabricState) (routes : RoutesState) (partition : ℕ) (before after : ℕ → ℕ → Bool) (place : ℕ) (switch : GraphSwitch)
     → place < length routes.graph.switches → slice_get routes.graph.switches place ≡ Some switch → IsDistinct (λ a b. a == b) (map (λ one. one.guid) routes.graph.switches)
-    → wanted_slice routes partition before place ≡ wanted_slice routes partition after place → HasSlice routes partition before fabric
+    → wanted_range routes partition before place ≡ wanted_range routes partition after place → HasRange routes partition before fabric
     → Stands stood fabric (with_switches (masks_before routes partition after place) fabric)
     → Stands stood fabric (with_switches (masks_before routes partition after (place + 1)) fabric)
 place_stays stood fabric routes partition before after place switch less there own same slice stands =
     let now = with_switches (masks_before routes partition after place) fabric in
-    let has : HasBlocks switch.guid partition (wanted_slice routes partition after place) now =
+    let has : HasBlocks switch.guid partition (wanted_range routes partition after place) now =
     subst (λ (blocks : List (List ℕ)). HasBlocks switch.guid partition blocks now) same (has_blocks routes partition before after place switch there own fabric slice) in
-    (push_on stood stood (Ok tt) fabric routes partition after place switch (wanted_slice routes partition after place) less there own refl stands
-    (record { done = refl; stands = begins_as stood now (with_switches (on_switch switch.guid (set_slice partition (wanted_slice routes partition after place))) now) stands.is stands.good has })).stands
+    (push_on stood stood (Ok tt) fabric routes partition after place switch (wanted_range routes partition after place) less there own refl stands
+    (record { done = refl; stands = begins_as stood now (with_switches (on_switch switch.guid (set_range partition (wanted_range routes partition after place))) now) stands.is stands.good has })).stands

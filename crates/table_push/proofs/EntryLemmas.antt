@@ -1,12 +1,14 @@
 -- The entries of a fabric that is brought up are the next hops of its routes.
-use Rattle.std.proofs.Common.{ℕ, ◌≡◌, ◌≤◌, ◌<◌, ◌∙◌, ap, refl, sym, nat_le, Bool, true, false, if◌then◌else◌, List, length, map, slice_get, Option, Some, None, option_map, arith}
+use Rattle.std.proofs.Common.{ℕ, ◌≡◌, ◌≤◌, ◌<◌, ◌-◌, ◌∙◌, ap, refl, sym, nat_le, nat_lt, get_or, unwrap_or, Bool, true, false, if◌then◌else◌, List, length, map, slice_get, Option, Some, None, option_map, arith}
 use Rattle.std.specs.List.{range_with_len}
 use Rattle.std.specs.Option.{option_and_then, option_map_or}
-use Rattle.std.proofs.lemmas.Bool.{false≢true, le-leb, leb-true}
+use Rattle.std.proofs.lemmas.Bool.{false≢true, le-leb, leb-true, ltb-false, ltb-true, ne_eqb}
+use Rattle.std.proofs.lemmas.List.{get_or_past, length-map}
 use Rattle.std.proofs.lemmas.List.FromFn.{get_or-map-range_with_len, length-map-range_with_len}
-use Rattle.std.proofs.lemmas.Option.{none-some, same_Some, slice_get-get_or, slice_get-map}
+use Rattle.std.proofs.lemmas.Option.{none-some, same_Some, slice_get-get_or, slice_get-map, slice_get_past}
 use Rattle.agent_rules.specs.declared.power_up.TheConstants.{LINEAR_TABLE}
-use Rattle.packet_ways.specs.Forwards.{entry_at, node_entry}
+use Rattle.delivery_laws.specs.Forwards.{entry_at, node_entry}
+use Rattle.fabric_parts.specs.declared.cable.PortRef.{PortRef}
 use Rattle.smp_wire.specs.FabricState.{FabricState, is_switch}
 use Rattle.smp_wire.specs.Good.{node_guid}
 use Rattle.smp_wire.specs.declared.node.Node.{Node}
@@ -16,17 +18,18 @@ use Rattle.sweep.specs.OfFabric.{Found, nodes_of, switch_of}
 use Rattle.sweep.specs.declared.graph.GraphSwitch.{GraphSwitch}
 use Rattle.sweep.proofs.FoundLemmas.{among_at, node_there}
 use Rattle.table_push.specs.Linear.{linear_entry, linear_table}
-use Rattle.updn_routes.specs.Subnet.{RoutesState, place_of}
+use Rattle.updn_routes.specs.Routes.{home_of, hop_to}
+use Rattle.updn_routes.specs.Subnet.{RoutesState, home_in, place_of}
 use Rattle.updn_routes.proofs.GraphLemmas.{lids_count}
 use Rattle.table_push.specs.BroughtUp.{IsBroughtUp, RoutesLeadHome}
 use Rattle.table_push.proofs.HomeLemmas.{own_switch}
 
 -- ---- switches
-record IsSwitch (nodes : List Node) (node : ℕ) : Type 0 where
-  held : SwitchState
-  there : slice_get nodes node ≡ Some (Switch held)
+pub record IsSwitch (nodes : List Node) (node : ℕ) : Type 0 where
+  pub held : SwitchState
+  pub there : slice_get nodes node ≡ Some (Switch held)
 
-switch_by : (nodes : List Node) (node : ℕ) (found : Option Node) → slice_get nodes node ≡ found → option_map_or is_switch found false ≡ true
+pub switch_by : (nodes : List Node) (node : ℕ) (found : Option Node) → slice_get nodes node ≡ found → option_map_or is_switch found false ≡ true
     → IsSwitch nodes node
 switch_by nodes node None there is = absurd (false≢true is)
 switch_by nodes node (Some (Adapter ports)) there is = absurd (false≢true is)
@@ -41,6 +44,33 @@ table_at routes place lid within =
   where
     long : length (map (linear_entry routes place) (range_with_len 0 LINEAR_TABLE)) ≡ LINEAR_TABLE
     long = length-map-range_with_len (linear_entry routes place) 0 LINEAR_TABLE
+
+-- no LID of routes that lead home is past the end of a table
+pub few_homes : (routes : RoutesState) → RoutesLeadHome routes → length routes.between.homes < LINEAR_TABLE
+few_homes routes home =
+    let all = lids_count routes.graph routes.lids home.of.lids_are in
+    let switches = home.graph.few_switches in
+    let ports = home.graph.few_ports in
+    let homes = ap (λ (homes : List PortRef). length homes) home.of.homes_are ∙ length-map routes.lids (home_in routes.graph) in
+    omega (arith, all, switches, ports, homes)
+
+none_past : (routes : RoutesState) → RoutesLeadHome routes → (lid : ℕ) → LINEAR_TABLE ≤ lid → home_of routes.between.homes lid ≡ None
+none_past routes home lid past =
+    let low = few_homes routes home in
+    ap (λ (own : Bool). if own then None else slice_get routes.between.homes (lid - 1)) (ne_eqb lid 0 (λ none. omega (arith, none, past)))
+    ∙ slice_get_past routes.between.homes (lid - 1) (omega (arith, low, past))
+
+-- so what their tables have for any LID is its entry
+pub entry_read : (routes : RoutesState) → RoutesLeadHome routes → (place lid : ℕ) → get_or (linear_table routes place) lid 255 ≡ linear_entry routes place lid
+entry_read routes home place lid = by (nat_lt lid LINEAR_TABLE) refl
+  where
+    by : (b : Bool) → nat_lt lid LINEAR_TABLE ≡ b → get_or (linear_table routes place) lid 255 ≡ linear_entry routes place lid
+    by true is = get_or-map-range_with_len (linear_entry routes place) 0 LINEAR_TABLE lid lid 255 (ltb-true lid LINEAR_TABLE is) (omega (arith))
+    by false is =
+        let past = ltb-false lid LINEAR_TABLE is in
+        let long = length-map-range_with_len (linear_entry routes place) 0 LINEAR_TABLE in
+        get_or_past (linear_table routes place) lid 255 (omega (arith, past, long))
+        ∙ sym (ap (λ (to : Option PortRef). unwrap_or (hop_to routes.between place to) 255) (none_past routes home lid past))
 
 module _ (routes : RoutesState) (keys : List (List ℕ)) (fabric : FabricState) (home : RoutesLeadHome routes) (up : IsBroughtUp routes keys fabric) where
   few : (lid : ℕ) → lid ≤ length routes.lids → lid < LINEAR_TABLE

@@ -16,8 +16,9 @@ use Rattle.sweep.specs.Graph.{GraphState}
 use Rattle.sweep.specs.declared.graph.GraphPort.{GraphPort}
 use Rattle.switch_model.specs.SwitchState.{SwitchState}
 use Rattle.switch_model.specs.declared.switch_port.SwitchPort.{SwitchPort}
+use Rattle.table_push.proofs.SetUpLemmas.{with_all}
 use Rattle.table_push.specs.Forget.{PushesForget, PushesReplace, info_left, left_alone, table_left}
-use Rattle.table_push.specs.Keys.{adapter_keys, hanging_at, key_table, keys_of, keys_wanted, port_of, switch_keys}
+use Rattle.table_push.specs.Keys.{adapter_keys, attached_at, key_table, keys_of, keys_wanted, port_of, switch_keys}
 use Rattle.table_push.specs.Linear.{linear_table, with_linear}
 use Rattle.table_push.specs.Nodes.{infos_by, keys_by, numbered, switch_by}
 use Rattle.table_push.specs.Ports.{change_wanted, changed, set_top, with_top}
@@ -58,12 +59,7 @@ module _ (routes : RoutesState) (keys : List (List ℕ)) (info : ℕ → ℕ →
   abbrev changed_before : Node → Node
   changed_before node = switch_by switch_changed (keys_by table (infos_by info node))
 
-  abbrev pushed : Node → Node
-  pushed node =
-      switch_by (with_linear routes) (keys_by (λ guid number held. unwrap_or (keys_wanted routes keys guid number) held)
-      (switch_by (λ guid. set_top (length routes.lids)) (infos_by (λ guid number. changed (change_wanted routes guid number)) node)))
-
-  node_forgets : (node : Node) → pushed (changed_before node) ≡ pushed node
+  node_forgets : (node : Node) → with_all routes keys (changed_before node) ≡ with_all routes keys node
   node_forgets (Switch held) =
       let ports =
       four (λ number (port : SwitchPort). record port { keys = unwrap_or (keys_wanted routes keys held.node_guid number) port.keys })
@@ -188,11 +184,11 @@ module _ (routes : RoutesState) (held keys : List (List ℕ)) (long : length hel
     where
       by : (b : Bool)
           → Alike (if b then option_map (key_table false) (keys_of routes held guid)
-          else option_and_then (λ one. option_map (key_table true) (keys_of routes held one.port_guid)) (hanging_at routes.graph.ports place number))
+          else option_and_then (λ one. option_map (key_table true) (keys_of routes held one.port_guid)) (attached_at routes.graph.ports place number))
           (if b then option_map (key_table false) (keys_of routes keys guid)
-          else option_and_then (λ one. option_map (key_table true) (keys_of routes keys one.port_guid)) (hanging_at routes.graph.ports place number))
+          else option_and_then (λ one. option_map (key_table true) (keys_of routes keys one.port_guid)) (attached_at routes.graph.ports place number))
       by true = alike_map (key_table false) _ _ (alike_of guid)
-      by false = alike_hung true (hanging_at routes.graph.ports place number)
+      by false = alike_hung true (attached_at routes.graph.ports place number)
 
   alike_wanted : (guid number : ℕ) → Alike (keys_wanted routes held guid number) (keys_wanted routes keys guid number)
   unfolding keys_wanted
@@ -228,8 +224,8 @@ linear_twice routes before (Some place) held = refl
 pub pushes_replace : PushesReplace
 pushes_replace routes before keys held fabric graph lids long = ap (all_pushed routes keys) in_order ∙ over_it
   where
-    told : ℕ → ℕ → PortInfo → PortInfo
-    told guid number = changed (change_wanted before guid number)
+    reported : ℕ → ℕ → PortInfo → PortInfo
+    reported guid number = changed (change_wanted before guid number)
 
     table : ℕ → ℕ → List ℕ → List ℕ
     table guid number own = unwrap_or (keys_wanted before held guid number) own
@@ -241,21 +237,21 @@ pushes_replace routes before keys held fabric graph lids long = ap (all_pushed r
     switch guid state = record state { info = with_top (length before.lids) state.info; linear = linear guid state.linear }
 
     one_node : (node : Node)
-        → switch_by (with_linear before) (keys_by table (switch_by (λ guid. set_top (length before.lids)) (infos_by told node)))
-        ≡ switch_by switch (keys_by table (infos_by told node))
+        → switch_by (with_linear before) (keys_by table (switch_by (λ guid. set_top (length before.lids)) (infos_by reported node)))
+        ≡ switch_by switch (keys_by table (infos_by reported node))
     one_node (Switch state) = refl
     one_node (Adapter ports) = refl
 
     in_order : all_pushed before held fabric
-        ≡ record fabric { nodes = map (switch_by switch) (map (keys_by table) (map (infos_by told) fabric.nodes)) }
+        ≡ record fabric { nodes = map (switch_by switch) (map (keys_by table) (map (infos_by reported) fabric.nodes)) }
     in_order =
         let nodes =
-        three (switch_by (with_linear before)) (keys_by table) (switch_by (λ guid. set_top (length before.lids))) (infos_by told)
-        (switch_by switch) (keys_by table) (infos_by told) fabric.nodes one_node in
+        three (switch_by (with_linear before)) (keys_by table) (switch_by (λ guid. set_top (length before.lids))) (infos_by reported)
+        (switch_by switch) (keys_by table) (infos_by reported) fabric.nodes one_node in
         λ i. record fabric { nodes = nodes i }
 
     infos : (guid number : ℕ) (own : PortInfo)
-        → changed (change_wanted routes guid number) (told guid number own) ≡ changed (change_wanted routes guid number) own
+        → changed (change_wanted routes guid number) (reported guid number own) ≡ changed (change_wanted routes guid number) own
     infos guid number own =
         let change = change_wanted routes guid number in
         ap (λ (was : PortChange). changed change (changed was own)) (same_change routes before graph lids guid number)
@@ -274,10 +270,10 @@ pushes_replace routes before keys held fabric graph lids long = ap (all_pushed r
         (option_map_or (linear_table before) (place_of g.switches guid) own)) graph
         ∙ linear_twice routes before (place_of routes.graph.switches guid) own
 
-    over_it : all_pushed routes keys (record fabric { nodes = map (switch_by switch) (map (keys_by table) (map (infos_by told) fabric.nodes)) })
+    over_it : all_pushed routes keys (record fabric { nodes = map (switch_by switch) (map (keys_by table) (map (infos_by reported) fabric.nodes)) })
         ≡ all_pushed routes keys fabric
     over_it =
-        let nodes = forgets routes keys told table linear (length before.lids) infos tables linears fabric.nodes in
+        let nodes = forgets routes keys reported table linear (length before.lids) infos tables linears fabric.nodes in
         λ i. record fabric { nodes = nodes i }
 
 -- ---- one table

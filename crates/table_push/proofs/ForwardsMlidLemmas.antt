@@ -7,9 +7,9 @@ use Rattle.std.proofs.lemmas.Option.{same_Some}
 use Rattle.fabric_parts.specs.Cable.{far_end, port}
 use Rattle.fabric_parts.specs.Lid.{is_multicast}
 use Rattle.fabric_parts.specs.declared.cable.PortRef.{PortRef}
-use Rattle.packet_ways.specs.Deliveries.{adapter_at}
-use Rattle.packet_ways.specs.Forwards.{IsCabledPort}
-use Rattle.packet_ways.specs.Groups.{GoesByMasks, is_in_masks_at}
+use Rattle.delivery_laws.specs.Deliveries.{adapter_at}
+use Rattle.delivery_laws.specs.Forwards.{IsCabledPort}
+use Rattle.delivery_laws.specs.Groups.{GoesByMasks, is_in_masks_at}
 use Rattle.port_model.specs.AdapterState.{AdapterState}
 use Rattle.smp_wire.specs.FabricState.{FabricState}
 use Rattle.sweep.proofs.MetLemmas.{good_once}
@@ -17,21 +17,17 @@ use Rattle.table_push.specs.BroughtUp.{IsBroughtUp, RoutesLeadHome}
 use Rattle.table_push.specs.BroughtUpLaws.{AreOfGroups, BroughtUpForwardsByMlid, by_guid}
 use Rattle.table_push.specs.Laws.{HasMasksOf}
 use Rattle.table_push.specs.Masks.{tree_hop}
+use Rattle.table_push.proofs.ReachLemmas.{same_answers}
 use Rattle.table_push.proofs.ForwardsLemmas.{brought_up_forwards_by_lid}
 use Rattle.table_push.proofs.MaskHopLemmas.{IsReached, bit_is_set, bit_reaches, in_mask}
-use Rattle.table_push.proofs.SeatLemmas.{IsSeated, is_no_switch, seated}
+use Rattle.table_push.proofs.AttachmentLemmas.{IsAttached, is_no_switch, attached}
 use Rattle.table_push.proofs.SpreadAwayLemmas.{away_there}
 use Rattle.table_push.proofs.SpreadLeadLemmas.{IsEnd, leads_there}
-use Rattle.table_push.proofs.SpreadStepLemmas.{by_side, faces_switch, home_within, lid_range, named, one_hanging, out_range, port_hangs}
+use Rattle.table_push.proofs.SpreadStepLemmas.{by_side, faces_switch, home_within, lid_range, named, one_attached, out_range, port_attached}
 use Rattle.table_push.proofs.TreeCableLemmas.{within_rows}
 use Rattle.table_push.proofs.TreeHopLemmas.{hop_home}
 use Rattle.updn_routes.specs.Subnet.{RoutesState}
 use Rattle.updn_routes.specs.Tree.{AreDepths}
-
-same_test : (a b : Bool) → (a ≡ true → b ≡ true) → (b ≡ true → a ≡ true) → a ≡ b
-same_test true b there back = sym (there refl)
-same_test false true there back = back refl
-same_test false false there back = refl
 
 module _ (routes : RoutesState) (roots : List ℕ) (keys : List (List ℕ)) (fabric : FabricState) (receives : ℕ → ℕ → Bool) (home : RoutesLeadHome routes) (right : AreDepths routes.between.rows routes.between.guids roots routes.between.depths) (up : IsBroughtUp routes keys fabric) (has : HasMasksOf routes receives fabric) (groups : AreOfGroups receives) where
   -- a test of GUIDs is one of their LIDs
@@ -43,16 +39,16 @@ module _ (routes : RoutesState) (roots : List ℕ) (keys : List (List ℕ)) (fab
   own_bit : (mlid : ℕ) (here at : PortRef) (one : AdapterState) → is_multicast mlid ≡ true → far_end fabric.cables here ≡ Some at
       → adapter_at fabric.nodes at ≡ Some one → is_in_masks_at fabric.nodes mlid here ≡ by_guid routes.lids receives mlid one.port_guid
   own_bit mlid here at one multi cable there =
-      same_test (is_in_masks_at fabric.nodes mlid here) (receives mlid one.info.lid) (λ set. receives_it (reach set)) sets ∙ sym (by_lid mlid at one cabled)
+      same_answers (is_in_masks_at fabric.nodes mlid here) (receives mlid one.info.lid) (λ set. receives_it (reach set)) sets ∙ sym (by_lid mlid at one cabled)
     where
       cabled : IsCabledPort fabric at one
       cabled = record { there = there; far = here; cable = good_once fabric here at up.good cable }
 
-      seat : IsSeated fabric routes.graph up.graph at here one
-      seat = seated fabric routes.graph at one up.good up.graph cabled
+      attachment : IsAttached fabric routes.graph up.graph at here one
+      attachment = attached fabric routes.graph at one up.good up.graph cabled
 
-      near : far_end fabric.cables (port seat.found.node here.port) ≡ Some at
-      near = ap (λ (n : ℕ). far_end fabric.cables (port n here.port)) seat.node ∙ cable
+      near : far_end fabric.cables (port attachment.found.node here.port) ≡ Some at
+      near = ap (λ (n : ℕ). far_end fabric.cables (port n here.port)) attachment.node ∙ cable
 
       range : (1 ≤ here.port) × (here.port ≤ 36)
       range = out_range routes roots keys fabric home right up here.node here.port at cable
@@ -60,39 +56,39 @@ module _ (routes : RoutesState) (roots : List ℕ) (keys : List (List ℕ)) (fab
       some : (here.port == 0) ≡ false
       some = let low = range.0 in grind (arith, nat_tests, low)
 
-      at_it : is_in_masks_at fabric.nodes mlid (port seat.found.node here.port) ≡ is_in_masks_at fabric.nodes mlid here
-      at_it = ap (λ (n : ℕ). is_in_masks_at fabric.nodes mlid (port n here.port)) seat.node
+      at_it : is_in_masks_at fabric.nodes mlid (port attachment.found.node here.port) ≡ is_in_masks_at fabric.nodes mlid here
+      at_it = ap (λ (n : ℕ). is_in_masks_at fabric.nodes mlid (port n here.port)) attachment.node
 
-      reach : is_in_masks_at fabric.nodes mlid here ≡ true → IsReached routes receives seat.place mlid here.port
-      reach set = bit_reaches routes fabric home.graph up.graph receives has seat.place seat.found seat.there mlid here.port range.1 (at_it ∙ set)
+      reach : is_in_masks_at fabric.nodes mlid here ≡ true → IsReached routes receives attachment.place mlid here.port
+      reach set = bit_reaches routes fabric home.graph up.graph receives has attachment.place attachment.found attachment.there mlid here.port range.1 (at_it ∙ set)
 
-      receives_it : IsReached routes receives seat.place mlid here.port → receives mlid one.info.lid ≡ true
-      receives_it one_lid = by (one_lid.home.node == seat.place) refl
+      receives_it : IsReached routes receives attachment.place mlid here.port → receives mlid one.info.lid ≡ true
+      receives_it one_lid = by (one_lid.home.node == attachment.place) refl
         where
-          by : (b : Bool) → (one_lid.home.node == seat.place) ≡ b → receives mlid one.info.lid ≡ true
+          by : (b : Bool) → (one_lid.home.node == attachment.place) ≡ b → receives mlid one.info.lid ≡ true
           by true is =
-              let node = eqb-true one_lid.home.node seat.place is in
+              let node = eqb-true one_lid.home.node attachment.place is in
               let number : one_lid.home.port ≡ here.port =
-              same_Some one_lid.home.port here.port (sym (hop_home routes roots home right seat.place one_lid.home node) ∙ one_lid.hop) in
-              let same = one_hanging routes roots keys fabric home right up at here one cabled seat one_lid.lid one_lid.home one_lid.home_is
+              same_Some one_lid.home.port here.port (sym (hop_home routes roots home right attachment.place one_lid.home node) ∙ one_lid.hop) in
+              let same = one_attached routes roots keys fabric home right up at here one cabled attachment one_lid.lid one_lid.home one_lid.home_is
               (λ i. record { node = node i; port = number i }) one_lid.some in
               ap (receives mlid) same ∙ one_lid.member
           by false apart =
-              let less = within_rows routes roots fabric home right up.good up.graph seat.place seat.found seat.there in
-              let beside = by_side routes roots keys fabric home right up seat.place one_lid.home here.port less
+              let less = within_rows routes roots fabric home right up.good up.graph attachment.place attachment.found attachment.there in
+              let beside = by_side routes roots keys fabric home right up attachment.place one_lid.home here.port less
               (home_within routes roots keys fabric home right up one_lid.lid one_lid.home one_lid.home_is) apart one_lid.hop in
               absurd (false≢true (sym (is_no_switch fabric.nodes at one there)
-              ∙ faces_switch routes roots keys fabric home right up seat.place seat.found seat.there beside.q here.port at beside.side beside.port_is near))
+              ∙ faces_switch routes roots keys fabric home right up attachment.place attachment.found attachment.there beside.q here.port at beside.side beside.port_is near))
 
       sets : receives mlid one.info.lid ≡ true → is_in_masks_at fabric.nodes mlid here ≡ true
       sets member =
           let few = groups mlid one.info.lid member in
           let among = lid_range routes.lids one.info.lid one.port_guid (named routes roots keys fabric home right up at one cabled) in
-          sym at_it ∙ bit_is_set routes fabric home.graph up.graph receives has seat.place seat.found seat.there mlid here.port range.1
+          sym at_it ∙ bit_is_set routes fabric home.graph up.graph receives has attachment.place attachment.found attachment.there mlid here.port range.1
           (record { multicast = few.0; within = few.1 })
-          (in_mask routes receives seat.place mlid here.port one.info.lid (port seat.place here.port) among.0 among.1 member
-          (port_hangs routes roots keys fabric home right up at here one cabled seat) some
-          (hop_home routes roots home right seat.place (port seat.place here.port) refl))
+          (in_mask routes receives attachment.place mlid here.port one.info.lid (port attachment.place here.port) among.0 among.1 member
+          (port_attached routes roots keys fabric home right up at here one cabled attachment) some
+          (hop_home routes roots home right attachment.place (port attachment.place here.port) refl))
 
   -- ---- to each other one that receives
   lead_bits : (mlid : ℕ) (from at : PortRef) (sender one : AdapterState) (begin : IsCabledPort fabric from sender)
@@ -101,11 +97,11 @@ module _ (routes : RoutesState) (roots : List ℕ) (keys : List (List ℕ)) (fab
   lead_bits mlid from at sender one begin end apart member multi =
       leads_there routes roots keys fabric receives home right up has mlid there at is_end first.place first.found begin.far first.there first.node not_by_own
     where
-      first : IsSeated fabric routes.graph up.graph from begin.far sender
-      first = seated fabric routes.graph from sender up.good up.graph begin
+      first : IsAttached fabric routes.graph up.graph from begin.far sender
+      first = attached fabric routes.graph from sender up.good up.graph begin
 
-      last : IsSeated fabric routes.graph up.graph at end.far one
-      last = seated fabric routes.graph at one up.good up.graph end
+      last : IsAttached fabric routes.graph up.graph at end.far one
+      last = attached fabric routes.graph at one up.good up.graph end
 
       there : PortRef
       there = port last.place end.far.port
@@ -128,7 +124,7 @@ module _ (routes : RoutesState) (roots : List ℕ) (keys : List (List ℕ)) (fab
             low = among.0;
             high = among.1;
             member = it;
-            hangs = port_hangs routes roots keys fabric home right up at end.far one end last;
+            attached = port_attached routes roots keys fabric home right up at end.far one end last;
             some = grind (arith, nat_tests, low);
             last = last.found;
             stands = last.there;

@@ -3,8 +3,8 @@ use Rattle.std.proofs.Common.{ℕ, zero, suc, ◌≡◌, ◌==◌, ◌∙◌, ap
 use Rattle.std.specs.List.{IsDistinct, list_any, position_or_len}
 use Rattle.std.proofs.lemmas.Map.Keys.{IsDistinct-tail, any_passes_from_place}
 use Rattle.std.proofs.lemmas.Option.{same_Some, slice_get-map}
-use Rattle.result_words.proofs.PlaceLemmas.{list_any_place}
-use Rattle.result_words.proofs.DistinctLemmas.{none_shares}
+use Rattle.step_results.proofs.PlaceLemmas.{list_any_place}
+use Rattle.step_results.proofs.DistinctLemmas.{none_shares}
 use Rattle.sweep.specs.declared.graph.GraphSwitch.{GraphSwitch}
 use Rattle.updn_routes.specs.Subnet.{place_of}
 use Rattle.table_push.proofs.NodeLemmas.{none_there, same_number}

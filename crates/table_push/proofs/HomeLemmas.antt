@@ -1,5 +1,5 @@
--- Where each LID hangs.
-use Rattle.std.proofs.Common.{ℕ, zero, suc, ◌≡◌, ◌+◌, ◌-◌, ◌==◌, ◌∙◌, ap, refl, sym, Bool, true, false, if◌then◌else◌, List, [], ◌∷◌, ◌++◌, find, length, map, slice_get, Option, Some, None, option_map, arith}
+-- Where each LID is attached.
+use Rattle.std.proofs.Common.{ℕ, suc, ◌≡◌, ◌+◌, ◌-◌, ◌==◌, ◌∙◌, ap, refl, sym, Bool, true, false, if◌then◌else◌, List, [], ◌∷◌, ◌++◌, find, length, map, slice_get, Option, Some, None, option_map, arith}
 use Rattle.std.proofs.lemmas.Bool.{eq-eqb, eqb-true, false≢true}
 use Rattle.std.proofs.lemmas.Option.{none-some, same_Some, slice_get-map, slice_get_within}
 use Rattle.fabric_parts.specs.declared.cable.PortRef.{PortRef}
@@ -9,11 +9,12 @@ use Rattle.sweep.specs.declared.graph.GraphPort.{GraphPort}
 use Rattle.sweep.specs.declared.graph.GraphSwitch.{GraphSwitch}
 use Rattle.sweep.proofs.FoundLemmas.{one_place}
 use Rattle.sweep.proofs.PlaceLemmas.{position_at}
-use Rattle.result_words.proofs.DistinctLemmas.{left_part}
+use Rattle.step_results.proofs.DistinctLemmas.{left_part}
+use Rattle.step_results.proofs.RangeLemmas.{get_kept}
 use Rattle.table_push.proofs.GuidLemmas.{place_is}
-use Rattle.table_push.proofs.HangLemmas.{found_is, found_own}
+use Rattle.table_push.proofs.AttachedLemmas.{found_is, found_own}
 use Rattle.updn_routes.specs.Routes.{home_of}
-use Rattle.updn_routes.specs.Subnet.{guids_of, home_from, home_in, homes_of, place_of, seat_of}
+use Rattle.updn_routes.specs.Subnet.{guids_of, home_from, home_in, homes_of, place_of, attachment_of}
 
 -- ---- by the GUID that has the LID
 pub home_at : (graph : GraphState) (lids : List ℕ) (lid guid : ℕ) → guid_in lids lid ≡ Some guid → home_of (homes_of graph lids) lid ≡ Some (home_in graph guid)
@@ -44,12 +45,15 @@ at_home graph lids lid home is = by (lid == 0) refl is
     by true later is = absurd (none-some home is)
     by false later is = some later (slice_get lids (lid - 1)) refl (sym (slice_get-map (home_in graph) lids (lid - 1)) ∙ is)
 
--- ---- GUIDs of end ports
-earlier : {X : Type 0} (xs ys : List X) (k : ℕ) (x : X) → slice_get xs k ≡ Some x → slice_get (xs ++ ys) k ≡ Some x
-earlier [] ys k x there = absurd (none-some x there)
-earlier (y ∷ xs) ys zero x there = there
-earlier (y ∷ xs) ys (suc k) x there = earlier xs ys k x there
+-- ---- in the list of homes
+pub home_there : (homes : List PortRef) (lid : ℕ) (home : PortRef) → home_of homes lid ≡ Some home → slice_get homes (lid - 1) ≡ Some home
+home_there homes lid home is = by (lid == 0) is
+  where
+    by : (b : Bool) → (if b then None else slice_get homes (lid - 1)) ≡ Some home → slice_get homes (lid - 1) ≡ Some home
+    by true is = absurd (none-some home is)
+    by false is = is
 
+-- ---- GUIDs of end ports
 pub later : {X : Type 0} (xs ys : List X) (k : ℕ) (x : X) → slice_get ys k ≡ Some x → slice_get (xs ++ ys) (length xs + k) ≡ Some x
 later {X = X} [] ys k x there = let same : length {A = X} [] + k ≡ k = omega arith in ap (slice_get ys) same ∙ there
 later (y ∷ xs) ys k x there =
@@ -79,13 +83,13 @@ no_switch graph k one is there = by (place_of graph.switches one.port_guid) refl
         let guid : slice_get (guids_of graph) place ≡ Some one.port_guid =
         switch_end graph place switch.0 switch.1 ∙ ap (λ (g : ℕ). Some g) (eqb-true switch.0.guid one.port_guid switch.2) in
         let same = one_place (end_guids graph.switches graph.ports) place (length (guids_of graph) + k) one.port_guid is.guids
-        (earlier (guids_of graph) (port_guids graph) place one.port_guid guid) (port_end graph k one there) in
+        (get_kept (guids_of graph) (port_guids graph) place one.port_guid guid) (port_end graph k one there) in
         absurd (omega (arith, same, slice_get_within (guids_of graph) place one.port_guid guid))
 
 -- ---- of an adapter's port, and of a switch
 pub port_home : (graph : GraphState) (k : ℕ) (one : GraphPort) → IsGraph graph → slice_get graph.ports k ≡ Some one → home_in graph one.port_guid ≡ one.at
 port_home graph k one is there =
-    let seat : seat_of graph.ports one.port_guid ≡ Some one.at =
+    let attachment : attachment_of graph.ports one.port_guid ≡ Some one.at =
     ap (option_map (λ (port : GraphPort). port.at))
     (found_own (λ port. port.port_guid == one.port_guid) graph.ports k one there (eq-eqb one.port_guid one.port_guid refl)
     (λ j other at passes.
@@ -93,7 +97,7 @@ port_home graph k one is there =
     (port_end graph j other at ∙ ap (λ (g : ℕ). Some g) (eqb-true other.port_guid one.port_guid passes)) (port_end graph k one there) in
     let index : j ≡ k = omega (arith, same) in
     same_Some other one (sym at ∙ ap (slice_get graph.ports) index ∙ there))) in
-    rw (no_switch graph k one is there, seat) refl
+    rw (no_switch graph k one is there, attachment) refl
 
 pub own_switch : (graph : GraphState) (k : ℕ) (one : GraphSwitch) → IsGraph graph → slice_get graph.switches k ≡ Some one → place_of graph.switches one.guid ≡ Some k
 own_switch graph k one is there = place_is graph.switches k one (left_part (λ a b. a == b) (guids_of graph) (port_guids graph) is.guids) there
@@ -116,9 +120,9 @@ home_of_port graph guid home is some = by (place_of graph.switches guid) (find (
     first : (n : ℕ) → record { node = n; port = 0 } ≡ home → ⊥
     first n same = false≢true (sym (ap (λ (p : PortRef). p.port == 0) same ∙ some))
 
-    by : (place : Option ℕ) (seat : Option GraphPort) → find (λ port. port.port_guid == guid) graph.ports ≡ seat
+    by : (place : Option ℕ) (attachment : Option GraphPort) → find (λ port. port.port_guid == guid) graph.ports ≡ attachment
         → home_from place (option_map (λ port. port.at) (find (λ port. port.port_guid == guid) graph.ports)) ≡ home → IsPortHome graph guid home
-    by (Some place) seat found is = absurd (first place is)
+    by (Some place) attachment found is = absurd (first place is)
     by None None found is = absurd (first 0 (sym (ap (λ (o : Option GraphPort). home_from None (option_map (λ port. port.at) o)) found) ∙ is))
     by None (Some one) found is =
         let at = found_is (λ port. port.port_guid == guid) graph.ports one found in

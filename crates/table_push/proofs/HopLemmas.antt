@@ -1,4 +1,4 @@
--- That a switch's masks are those of what hangs on it and on other switches.
+-- That a switch's masks are those of what is attached to it and on other switches.
 use Rattle.std.proofs.Common.{ℕ, zero, suc, ◌≡◌, ◌+◌, ◌<◌, ◌==◌, ◌&&◌, ◌||◌, not, ◌∙◌, ap, refl, sym, Bool, true, false, if◌then◌else◌, List, slice_get, Option, Some, None, ◌⊎◌, inl, inr, arith}
 use Rattle.std.specs.List.{list_any, range_with_len}
 use Rattle.std.specs.Option.{option_and_then, option_map_or}
@@ -6,14 +6,14 @@ use Rattle.std.proofs.Math.Nat.{zero-add}
 use Rattle.std.proofs.lemmas.Bool.{and_from, and_parts, eqb-true, false≢true, not-true, not_from_false, or_cases, or_left, or_right}
 use Rattle.std.proofs.lemmas.Map.Keys.{any_passes_from_place}
 use Rattle.fabric_parts.specs.declared.cable.PortRef.{PortRef}
-use Rattle.result_words.proofs.ListLemmas.{range_at}
-use Rattle.result_words.proofs.TestLemmas.{same_or}
+use Rattle.step_results.proofs.ListLemmas.{range_at}
+use Rattle.step_results.proofs.TestLemmas.{same_or}
 use Rattle.subnet_model.specs.declared.group_receiver.GroupReceiver.{GroupReceiver}
 use Rattle.table_push.specs.Masks.{is_hop_to, tree_hop}
-use Rattle.table_push.specs.MaskSteps.{adapter_home, hangs_at, hangs_on, is_that_port, leads_away, some_receives}
+use Rattle.table_push.specs.MaskSteps.{adapter_home, is_attached_at, is_attached_to, is_that_port, leads_away, some_receives}
 use Rattle.table_push.proofs.NodeLemmas.{same_number}
 use Rattle.table_push.proofs.ReachLemmas.{among, is_reached, same_answers}
-use Rattle.table_push.proofs.SeatBitLemmas.{adapter_low}
+use Rattle.table_push.proofs.AttachmentBitLemmas.{adapter_low}
 use Rattle.updn_routes.specs.Routes.{AreRoutes, home_of}
 use Rattle.updn_routes.specs.Subnet.{RoutesState}
 
@@ -47,8 +47,8 @@ hop_is routes place number lid = by (home_of routes.between.homes lid)
     by None = refl
     by (Some home) = one home (home.port == 0) (is_that_port (tree_hop routes place home) number) ∙ kept routes home (home.port == 0)
 
-hop_here : (routes : RoutesState) (place number lid : ℕ) → hangs_at routes.between.homes place lid number ≡ true → is_hop_to routes place number lid ≡ true
-hop_here routes place number lid hangs = hop_is routes place number lid ∙ by (adapter_home routes.between.homes lid) hangs
+hop_here : (routes : RoutesState) (place number lid : ℕ) → is_attached_at routes.between.homes place lid number ≡ true → is_hop_to routes place number lid ≡ true
+hop_here routes place number lid attached = hop_is routes place number lid ∙ by (adapter_home routes.between.homes lid) attached
   where
     by : (o : Option PortRef) → option_map_or (λ home. (home.node == place) && (home.port == number)) o false ≡ true
         → option_map_or (λ home. is_that_port (tree_hop routes place home) number) o false ≡ true
@@ -57,9 +57,9 @@ hop_here routes place number lid hangs = hop_is routes place number lid ∙ by (
         let parts = and_parts (home.node == place) (home.port == number) is in
         ap (λ (port : Option ℕ). is_that_port port number) (hop_own routes place home parts.0) ∙ parts.1
 
-hop_away : (routes : RoutesState) (place number lid t : ℕ) → hangs_on routes.between.homes lid t ≡ true → leads_away routes place t number ≡ true
+hop_away : (routes : RoutesState) (place number lid t : ℕ) → is_attached_to routes.between.homes lid t ≡ true → leads_away routes place t number ≡ true
     → is_hop_to routes place number lid ≡ true
-hop_away routes place number lid t hangs leads = hop_is routes place number lid ∙ by (adapter_home routes.between.homes lid) hangs
+hop_away routes place number lid t attached leads = hop_is routes place number lid ∙ by (adapter_home routes.between.homes lid) attached
   where
     by : (o : Option PortRef) → option_map_or (λ home. home.node == t) o false ≡ true
         → option_map_or (λ home. is_that_port (tree_hop routes place home) number) o false ≡ true
@@ -74,15 +74,15 @@ hop_away routes place number lid t hangs leads = hop_is routes place number lid 
 record IsAway (routes : RoutesState) (place number lid : ℕ) : Type 0 where
   t : ℕ
   low : t < 64
-  hangs : hangs_on routes.between.homes lid t ≡ true
+  attached : is_attached_to routes.between.homes lid t ≡ true
   leads : leads_away routes place t number ≡ true
 
 hop_cases : (routes : RoutesState) (place number lid : ℕ) → AreRoutes routes.between → is_hop_to routes place number lid ≡ true
-    → (hangs_at routes.between.homes place lid number ≡ true) ⊎ IsAway routes place number lid
+    → (is_attached_at routes.between.homes place lid number ≡ true) ⊎ IsAway routes place number lid
 hop_cases routes place number lid are is = by (adapter_home routes.between.homes lid) refl (sym (hop_is routes place number lid) ∙ is)
   where
     at : (home : PortRef) → adapter_home routes.between.homes lid ≡ Some home → is_that_port (tree_hop routes place home) number ≡ true → (b : Bool) → (home.node == place) ≡ b
-        → (hangs_at routes.between.homes place lid number ≡ true) ⊎ IsAway routes place number lid
+        → (is_attached_at routes.between.homes place lid number ≡ true) ⊎ IsAway routes place number lid
     at home there hop true own =
         let port : (home.port == number) ≡ true = sym (ap (λ (port : Option ℕ). is_that_port port number) (hop_own routes place home own)) ∙ hop in
         inl (ap (λ (o : Option PortRef). option_map_or (λ home. (home.node == place) && (home.port == number)) o false) there
@@ -90,7 +90,7 @@ hop_cases routes place number lid are is = by (adapter_home routes.between.homes
     at home there hop false other = inr (record {
       t = home.node;
       low = adapter_low routes lid home are there;
-      hangs = ap (λ (o : Option PortRef). option_map_or (λ one. one.node == home.node) o false) there ∙ same_number home.node;
+      attached = ap (λ (o : Option PortRef). option_map_or (λ one. one.node == home.node) o false) there ∙ same_number home.node;
       leads = and_from (not (home.node == place)) (is_that_port (tree_hop routes place (record { node = home.node; port = 0 })) number)
           (not_from_false (home.node == place) other)
           (sym (ap (λ (port : Option ℕ). is_that_port port number) (hop_other routes place home other)) ∙ hop);
@@ -98,20 +98,20 @@ hop_cases routes place number lid are is = by (adapter_home routes.between.homes
 
     by : (o : Option PortRef) → adapter_home routes.between.homes lid ≡ o
         → option_map_or (λ home. is_that_port (tree_hop routes place home) number) o false ≡ true
-        → (hangs_at routes.between.homes place lid number ≡ true) ⊎ IsAway routes place number lid
+        → (is_attached_at routes.between.homes place lid number ≡ true) ⊎ IsAway routes place number lid
     by None there never = absurd (false≢true never)
     by (Some home) there hop = at home there hop (home.node == place) refl
 
 -- ---- all receivers
 abbrev pub away : RoutesState → (place mlid number : ℕ) → List GroupReceiver → ℕ → Bool
 away routes place mlid number receivers t =
-    some_receives receivers mlid (λ lid. hangs_on routes.between.homes lid t) && leads_away routes place t number
+    some_receives receivers mlid (λ lid. is_attached_to routes.between.homes lid t) && leads_away routes place t number
 
 pub turned : (routes : RoutesState) (place mlid number : ℕ) (receivers : List GroupReceiver) → AreRoutes routes.between
-    → (some_receives receivers mlid (λ lid. hangs_at routes.between.homes place lid number) || list_any (away routes place mlid number receivers) (range_with_len 0 64))
+    → (some_receives receivers mlid (λ lid. is_attached_at routes.between.homes place lid number) || list_any (away routes place mlid number receivers) (range_with_len 0 64))
     ≡ list_any (is_reached routes place mlid number) receivers
 turned routes place mlid number receivers are =
-    same_answers (some_receives receivers mlid (λ lid. hangs_at routes.between.homes place lid number) || list_any (away routes place mlid number receivers) (range_with_len 0 64))
+    same_answers (some_receives receivers mlid (λ lid. is_attached_at routes.between.homes place lid number) || list_any (away routes place mlid number receivers) (range_with_len 0 64))
     (list_any (is_reached routes place mlid number) receivers) there back
   where
     reached : (at : ℕ) (one : GroupReceiver) → slice_get receivers at ≡ Some one → (one.mlid == mlid) ≡ true → is_hop_to routes place number one.lid ≡ true
@@ -119,44 +119,44 @@ turned routes place mlid number receivers are =
     reached at one stands own hop =
         any_passes_from_place (is_reached routes place mlid number) receivers at one stands (and_from (one.mlid == mlid) (is_hop_to routes place number one.lid) own hop)
 
-    near : some_receives receivers mlid (λ lid. hangs_at routes.between.homes place lid number) ≡ true → list_any (is_reached routes place mlid number) receivers ≡ true
+    near : some_receives receivers mlid (λ lid. is_attached_at routes.between.homes place lid number) ≡ true → list_any (is_reached routes place mlid number) receivers ≡ true
     near any =
-        let found = among (λ (one : GroupReceiver). (one.mlid == mlid) && hangs_at routes.between.homes place one.lid number) receivers any in
-        let parts = and_parts (found.one.mlid == mlid) (hangs_at routes.between.homes place found.one.lid number) found.passes in
+        let found = among (λ (one : GroupReceiver). (one.mlid == mlid) && is_attached_at routes.between.homes place one.lid number) receivers any in
+        let parts = and_parts (found.one.mlid == mlid) (is_attached_at routes.between.homes place found.one.lid number) found.passes in
         reached found.at found.one found.there parts.0 (hop_here routes place number found.one.lid parts.1)
 
     far : list_any (away routes place mlid number receivers) (range_with_len 0 64) ≡ true → list_any (is_reached routes place mlid number) receivers ≡ true
     far any =
         let at = among (away routes place mlid number receivers) (range_with_len 0 64) any in
-        let leads = and_parts (some_receives receivers mlid (λ lid. hangs_on routes.between.homes lid at.one)) (leads_away routes place at.one number) at.passes in
-        let found = among (λ (one : GroupReceiver). (one.mlid == mlid) && hangs_on routes.between.homes one.lid at.one) receivers leads.0 in
-        let parts = and_parts (found.one.mlid == mlid) (hangs_on routes.between.homes found.one.lid at.one) found.passes in
+        let leads = and_parts (some_receives receivers mlid (λ lid. is_attached_to routes.between.homes lid at.one)) (leads_away routes place at.one number) at.passes in
+        let found = among (λ (one : GroupReceiver). (one.mlid == mlid) && is_attached_to routes.between.homes one.lid at.one) receivers leads.0 in
+        let parts = and_parts (found.one.mlid == mlid) (is_attached_to routes.between.homes found.one.lid at.one) found.passes in
         reached found.at found.one found.there parts.0 (hop_away routes place number found.one.lid at.one parts.1 leads.1)
 
-    there : (some_receives receivers mlid (λ lid. hangs_at routes.between.homes place lid number) || list_any (away routes place mlid number receivers) (range_with_len 0 64)) ≡ true
+    there : (some_receives receivers mlid (λ lid. is_attached_at routes.between.homes place lid number) || list_any (away routes place mlid number receivers) (range_with_len 0 64)) ≡ true
         → list_any (is_reached routes place mlid number) receivers ≡ true
-    there any = elim (or_cases (some_receives receivers mlid (λ lid. hangs_at routes.between.homes place lid number)) (list_any (away routes place mlid number receivers) (range_with_len 0 64)) any) [
+    there any = elim (or_cases (some_receives receivers mlid (λ lid. is_attached_at routes.between.homes place lid number)) (list_any (away routes place mlid number receivers) (range_with_len 0 64)) any) [
       | inl own ↦ near own
       | inr other ↦ far other
     ]
 
     on : (at : ℕ) (one : GroupReceiver) → slice_get receivers at ≡ Some one → (one.mlid == mlid) ≡ true
-        → (hangs_at routes.between.homes place one.lid number ≡ true) ⊎ IsAway routes place number one.lid
-        → (some_receives receivers mlid (λ lid. hangs_at routes.between.homes place lid number) || list_any (away routes place mlid number receivers) (range_with_len 0 64)) ≡ true
-    on at one stands own (inl hangs) =
-        or_left (some_receives receivers mlid (λ lid. hangs_at routes.between.homes place lid number)) (list_any (away routes place mlid number receivers) (range_with_len 0 64))
-        (any_passes_from_place (λ (one : GroupReceiver). (one.mlid == mlid) && hangs_at routes.between.homes place one.lid number) receivers at one stands
-        (and_from (one.mlid == mlid) (hangs_at routes.between.homes place one.lid number) own hangs))
+        → (is_attached_at routes.between.homes place one.lid number ≡ true) ⊎ IsAway routes place number one.lid
+        → (some_receives receivers mlid (λ lid. is_attached_at routes.between.homes place lid number) || list_any (away routes place mlid number receivers) (range_with_len 0 64)) ≡ true
+    on at one stands own (inl attached) =
+        or_left (some_receives receivers mlid (λ lid. is_attached_at routes.between.homes place lid number)) (list_any (away routes place mlid number receivers) (range_with_len 0 64))
+        (any_passes_from_place (λ (one : GroupReceiver). (one.mlid == mlid) && is_attached_at routes.between.homes place one.lid number) receivers at one stands
+        (and_from (one.mlid == mlid) (is_attached_at routes.between.homes place one.lid number) own attached))
     on at one stands own (inr other) =
-        let some : some_receives receivers mlid (λ lid. hangs_on routes.between.homes lid other.t) ≡ true =
-        any_passes_from_place (λ (one : GroupReceiver). (one.mlid == mlid) && hangs_on routes.between.homes one.lid other.t) receivers at one stands
-        (and_from (one.mlid == mlid) (hangs_on routes.between.homes one.lid other.t) own other.hangs) in
-        or_right (some_receives receivers mlid (λ lid. hangs_at routes.between.homes place lid number)) (list_any (away routes place mlid number receivers) (range_with_len 0 64))
+        let some : some_receives receivers mlid (λ lid. is_attached_to routes.between.homes lid other.t) ≡ true =
+        any_passes_from_place (λ (one : GroupReceiver). (one.mlid == mlid) && is_attached_to routes.between.homes one.lid other.t) receivers at one stands
+        (and_from (one.mlid == mlid) (is_attached_to routes.between.homes one.lid other.t) own other.attached) in
+        or_right (some_receives receivers mlid (λ lid. is_attached_at routes.between.homes place lid number)) (list_any (away routes place mlid number receivers) (range_with_len 0 64))
         (any_passes_from_place (away routes place mlid number receivers) (range_with_len 0 64) other.t other.t (range_at 0 64 other.t other.low ∙ ap (λ (t : ℕ). Some t) (zero-add other.t))
-        (and_from (some_receives receivers mlid (λ lid. hangs_on routes.between.homes lid other.t)) (leads_away routes place other.t number) some other.leads))
+        (and_from (some_receives receivers mlid (λ lid. is_attached_to routes.between.homes lid other.t)) (leads_away routes place other.t number) some other.leads))
 
     back : list_any (is_reached routes place mlid number) receivers ≡ true
-        → (some_receives receivers mlid (λ lid. hangs_at routes.between.homes place lid number) || list_any (away routes place mlid number receivers) (range_with_len 0 64)) ≡ true
+        → (some_receives receivers mlid (λ lid. is_attached_at routes.between.homes place lid number) || list_any (away routes place mlid number receivers) (range_with_len 0 64)) ≡ true
     back any =
         let found = among (is_reached routes place mlid number) receivers any in
         let parts = and_parts (found.one.mlid == mlid) (is_hop_to routes place number found.one.lid) found.passes in

@@ -29,9 +29,9 @@ use Rattle.mad_layout.proofs.NumberLemmas.{number_below, number_bytes}
 use Rattle.mad_layout.proofs.PutLemmas.{put_swap}
 use Rattle.smp_wire.specs.FabricState.{FabricState}
 use Rattle.smp_wire.specs.Get.{gives_along}
-use Rattle.smp_wire.specs.Replies.{told_for}
+use Rattle.smp_wire.specs.Replies.{reported_for}
 use Rattle.smp_wire.specs.declared.reply.ReplyFault.{ReplyFault}
-use Rattle.table_push.specs.Ports.{end_told, enforces, with_state}
+use Rattle.table_push.specs.Ports.{with_end_set, enforces, with_state}
 use Rattle.table_push.specs.declared.fault.PushFault.{PushFault}
 use Rattle.table_push.proofs.LeadLemmas.{SetsAt}
 
@@ -141,12 +141,12 @@ is_taken on info next wanted takes same =
 
 abbrev asks : Option ℕ → Option Bool → (code shown : ℕ) → PortInfo → PortSetting
 asks lid enforcement code shown info =
-    setting_asked (record (enforces enforcement (end_told lid (shown_at shown info))) { port_state = code })
+    setting_asked (record (enforces enforcement (with_end_set lid (shown_at shown info))) { port_state = code })
 
 pub setting_taken : (on : Bool) (lid : Option ℕ) (enforcement : Option Bool) (code shown : ℕ) (info : PortInfo) → IsGoodInfo info
     → option_map_or (λ lid. nat_le lid LAST_UNICAST_LID) lid true ≡ true → (is_some enforcement ≡ true → on ≡ true)
     → ((code == 0) || may_follow info.port_state code) ≡ true
-    → port_info_after on info (asks lid enforcement code shown info) ≡ Ok (enforces enforcement (end_told lid (as_held code info)))
+    → port_info_after on info (asks lid enforcement code shown info) ≡ Ok (enforces enforcement (with_end_set lid (as_held code info)))
 unfolding taken_over
 setting_taken true None None code shown info good unicast can follows =
     is_taken true info _ (asks None None code shown info) (valid info (asks None None code shown info) good refl refl (own_lid info good) follows) refl
@@ -233,18 +233,18 @@ state_is info fits = sym (holds_put_all (replicate 64 0) (port_info info) refl f
 
 -- ---- a Get, and a Set
 read_bytes : (x : FabricState) (path bytes given : List ℕ) (asked : ℕ) → gives_along x path PortInfoAsked asked ≡ Some (Ok given)
-    → Ok bytes ≡ told_for (gives_along x path PortInfoAsked asked) → bytes ≡ given
-read_bytes x path bytes given asked gives tells = same (tells ∙ ap told_for gives)
+    → Ok bytes ≡ reported_for (gives_along x path PortInfoAsked asked) → bytes ≡ given
+read_bytes x path bytes given asked gives reports = same (reports ∙ ap reported_for gives)
   where
     same : ◌≡◌ {A = Result (List ℕ) ReplyFault} (Ok bytes) (Ok given) → bytes ≡ given
     same h = cc
 
 pub info_read : (x : FabricState) (path : List ℕ) (asked : ℕ) (bytes : List ℕ) (read info : PortInfo) → Fits (port_info info)
     → gives_along x path PortInfoAsked asked ≡ Some (Ok (port_info_bytes info))
-    → Ok bytes ≡ told_for (gives_along x path PortInfoAsked asked) → Holds bytes (port_info read) → read ≡ info
-info_read x path asked bytes read info fits gives tells holds =
+    → Ok bytes ≡ reported_for (gives_along x path PortInfoAsked asked) → Holds bytes (port_info read) → read ≡ info
+info_read x path asked bytes read info fits gives reports holds =
     info_is (port_info_bytes info) read info
-    (subst (λ (some : List ℕ). Holds some (port_info read)) (read_bytes x path bytes (port_info_bytes info) asked gives tells) holds) (info_holds info fits)
+    (subst (λ (some : List ℕ). Holds some (port_info read)) (read_bytes x path bytes (port_info_bytes info) asked gives reports) holds) (info_holds info fits)
 
 pub sets_state : (stood left : Option FabricState) (result : Result (Unit {0}) PushFault) (path : List ℕ) (asked : ℕ) (info : PortInfo) (state : PortState)
     (code : ℕ) (bytes : List ℕ) → code ≡ port_state_code state → bytes ≡ port_info_bytes (record info { port_state = code })

@@ -16,7 +16,7 @@ use Rattle.fabric_parts.specs.declared.cable.PortRef.{PortRef}
 use Rattle.port_model.specs.AdapterState.{AdapterState}
 use Rattle.port_model.specs.Agent.{get as adapter_gives, set as adapter_set}
 use Rattle.port_model.specs.Good.{IsGoodPort as IsGoodAdapterPort}
-use Rattle.result_words.proofs.ListLemmas.{all_have, all_there}
+use Rattle.step_results.proofs.ListLemmas.{all_have, all_there}
 use Rattle.smp_wire.specs.FabricState.{FabricState, is_switch, is_switch_at, port_count}
 use Rattle.smp_wire.specs.Get.{gives_along, node_gives}
 use Rattle.smp_wire.specs.Good.{IsGood, has_a_right_count, info_at, is_in_order, is_of, node_guid, port_info_at}
@@ -26,7 +26,7 @@ use Rattle.smp_wire.specs.Walk.{end_of}
 use Rattle.smp_wire.specs.declared.node.Node.{Node}
 use Rattle.smp_wire.specs.declared.node.Node.TheVariants.{Switch, Adapter}
 use Rattle.smp_wire.proofs.ArrivalLemmas.{port_small}
-use Rattle.result_words.proofs.ElementLemmas.{get_written}
+use Rattle.step_results.proofs.ElementLemmas.{get_written}
 use Rattle.switch_model.specs.Agent.{get as switch_gives, set as switch_set}
 use Rattle.switch_model.specs.Good.{IsGoodPort as IsGoodSwitchPort}
 use Rattle.switch_model.specs.SwitchState.{SwitchState}
@@ -42,7 +42,7 @@ use Rattle.table_push.proofs.PartLemmas.{adapter_part_at, info_part, other_node,
 use Rattle.table_push.proofs.PortLemmas.{count_is, element, good_ports}
 
 -- ---- one Set, at either kind of node
--- what a Set makes of PortInfo, and what a Get then tells; it tells the port by which it came in
+-- what a Set makes of PortInfo, and what a Get then reports; it reports the port by which it came in
 pub record InfoSet (guid number asked in_port : ℕ) (on : Bool) (node : Node) (info : PortInfo) : Type 0 where
   pub takes : (change : PortInfo → PortInfo) (bytes : List ℕ) → port_info_after on info (port_setting bytes) ≡ Ok (change info)
       → node_takes node in_port PortInfoAsked asked bytes ≡ Some (Ok (infos_by (on_port guid number change) node))

@@ -110,12 +110,12 @@ infos_keep_the_graph routes fabric graph same of =
 
 pub pushes_keep_the_graph : PushesKeepTheGraph
 pushes_keep_the_graph routes keys fabric graph of = (
-  λ same. graph_stays (switch_by (with_linear routes)) (switches_unseen (with_linear routes) (λ guid held. (_, _, refl))) fabric graph same of,
+  λ same. graph_stays (switch_by (with_linear routes)) (switches_unseen (with_linear routes) (λ guid held. (_, _, _, refl))) fabric graph same of,
   λ same. graph_stays (keys_by (λ guid number held. unwrap_or (keys_wanted routes keys guid number) held))
       (keys_unseen (λ guid number held. unwrap_or (keys_wanted routes keys guid number) held)) fabric graph same of,
   λ same. subst (λ (nodes : List Node). IsGraphOf graph (record fabric { nodes = nodes })) (sym at_once)
       (graph_stays (λ node. tops (infos node)) (both_unseen tops infos
-      (switches_unseen (λ guid. set_top (length routes.lids)) (λ guid held. (_, _, refl)))
+      (switches_unseen (λ guid. set_top (length routes.lids)) (λ guid held. (_, _, _, refl)))
       (infos_unseen (λ guid number. changed (change_wanted routes guid number)))) fabric graph
       (subst (λ (nodes : List Node). IsSameShape fabric (record fabric { nodes = nodes })) at_once same) of),
 )

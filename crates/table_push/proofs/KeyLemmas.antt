@@ -3,13 +3,13 @@ use Rattle.std.proofs.Common.{ℕ, ◌≡◌, ◌+◌, ◌*◌, ◌/◌, ◌<◌
 use Rattle.std.specs.List.{list_all}
 use Rattle.std.proofs.lemmas.Bool.{lt-ltb, ltb-true}
 use Rattle.std.proofs.lemmas.List.{append-nil, drop_all, take-append-drop, take_all}
-use Rattle.result_words.proofs.ListLemmas.{all_cut}
+use Rattle.step_results.proofs.ListLemmas.{all_cut}
 use Rattle.attr_tables.specs.Blocks.{block_of, has_block, with_block, word_bytes}
 use Rattle.attr_tables.specs.declared.smp_attribute.SmpAttribute.TheVariants.{PKeyTable}
 use Rattle.agent_rules.specs.Agent.{set_word_block, word_block}
 use Rattle.agent_rules.specs.Carried.{words_in}
 use Rattle.agent_rules.specs.Good.{IsTable}
-use Rattle.agent_rules.proofs.CarriedLemmas.{spelled_is_read}
+use Rattle.agent_rules.proofs.CarriedLemmas.{encoded_is_read}
 use Rattle.agent_rules.proofs.TableLemmas.{block_differs}
 use Rattle.smp_wire.specs.FabricState.{FabricState}
 use Rattle.pkey_rules.specs.declared.key_table.TheConstants.{PARTITIONS}
@@ -39,7 +39,7 @@ has_it block table below long = rw long (lt-ltb block (PARTITIONS / 32) below)
 
 takes_words : (block : ℕ) (words keys : List ℕ) → has_block 32 block keys ≡ true → IsTable 32 65536 words
     → set_word_block block (word_bytes words) keys ≡ Ok (with_block 32 block words keys)
-takes_words block words keys has is = rw (has, spelled_is_read.words words is) refl
+takes_words block words keys has is = rw (has, encoded_is_read.words words is) refl
 
 gives_words : (block : ℕ) (words keys : List ℕ) → has_block 32 block keys ≡ true → block_of 32 block keys ≡ words → word_block block keys ≡ Ok (word_bytes words)
 gives_words block words keys has is = rw (has, is) refl
@@ -90,13 +90,13 @@ own_block block table within =
     ∙ take-append-drop (32 * block + 32) table
 
 same_words : (one other : List ℕ) → IsTable 32 65536 one → IsTable 32 65536 other → word_bytes one ≡ word_bytes other → one ≡ other
-same_words one other is other_is same = sym (spelled_is_read.words one is) ∙ ap words_in same ∙ spelled_is_read.words other other_is
+same_words one other is other_is same = sym (encoded_is_read.words one is) ∙ ap words_in same ∙ encoded_is_read.words other other_is
 
 unchanged : (guid number : ℕ) (fabric : FabricState) → with_keys (on_port guid number (λ held. held)) fabric ≡ fabric
 unchanged guid number fabric =
     parts_stay keys_part (on_port guid number (λ held. held)) fabric (on_none guid number (λ held. held) (λ held. refl))
 
--- what a Get of that block tells, which is what the port holds
+-- what a Get of that block reports, which is what the port holds
 held_given : (fabric : FabricState) (path : List ℕ) (asked guid number block : ℕ) → block < PARTITIONS / 32 → IsGood fabric
     → (here : PortThere fabric path asked guid number)
     → gives_along fabric path PKeyTable (asked * 65536 + block) ≡ Some (Ok (word_bytes (block_of 32 block here.keys)))
@@ -112,11 +112,11 @@ pub block_stands : (fabric : FabricState) (stood : Option FabricState) (path : L
     → block < PARTITIONS / 32 → IsTable 32 65536 words → stood ≡ Some fabric → IsGood fabric → LeadsToPort fabric path asked guid number
     → ((given : List ℕ) → gives_along fabric path PKeyTable (asked * 65536 + block) ≡ Some (Ok given) → given ≡ word_bytes words)
     → Leaves {X = Unit {0}} (Ok tt) stood fabric (with_keys (on_port guid number (with_block 32 block words)) fabric)
-block_stands fabric stood path asked guid number block words below is stands good leads told =
+block_stands fabric stood path asked guid number block words below is stands good leads reported =
     let here = port_there fabric path asked guid number good leads in
     let mine = block_of 32 block here.keys in
     let same : mine ≡ words = same_words mine words (block_is block here.keys below here.table) is
-    (told (word_bytes mine) (held_given fabric path asked guid number block below good here)) in
+    (reported (word_bytes mine) (held_given fabric path asked guid number block below good here)) in
     let stays : with_block 32 block words here.keys ≡ here.keys =
     ap (λ (some : List ℕ). with_block 32 block some here.keys) (sym same) ∙ own_block block here.keys (omega (arith, below, here.table.count)) in
     let next_is : with_keys (on_port guid number (with_block 32 block words)) fabric ≡ fabric =
@@ -124,7 +124,7 @@ block_stands fabric stood path asked guid number block words below is stands goo
     subst (λ (next : FabricState). Leaves {X = Unit {0}} (Ok tt) stood fabric next) (sym next_is)
     (record { done = refl; stands = record { is = stands; good = good; shape = itself fabric } })
 
--- a Get tells something of each block
+-- a Get reports something of each block
 pub block_given : (fabric : FabricState) (path : List ℕ) (asked guid number block : ℕ) → block < PARTITIONS / 32 → IsGood fabric
     → LeadsToPort fabric path asked guid number
     → (given : List ℕ) × (gives_along fabric path PKeyTable (asked * 65536 + block) ≡ Some (Ok given))

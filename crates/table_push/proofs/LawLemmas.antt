@@ -15,7 +15,7 @@ use Rattle.sweep.proofs.FoundLemmas.{among_place}
 use Rattle.table_push.specs.Laws.{EverySwitchHasItsTable}
 use Rattle.table_push.specs.Linear.{linear_table, with_linear}
 use Rattle.table_push.specs.Nodes.{switch_by}
-use Rattle.result_words.proofs.DistinctLemmas.{left_part}
+use Rattle.step_results.proofs.DistinctLemmas.{left_part}
 use Rattle.table_push.proofs.GuidLemmas.{place_is}
 use Rattle.updn_routes.specs.Subnet.{RoutesState, place_of}
 

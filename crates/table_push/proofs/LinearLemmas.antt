@@ -13,7 +13,7 @@ use Rattle.attr_tables.specs.Attribute.{IsAttribute}
 use Rattle.attr_tables.specs.Blocks.{block_of, has_block, with_block}
 use Rattle.attr_tables.specs.declared.smp_attribute.SmpAttribute.TheVariants.{LinearForwardingTable}
 use Rattle.agent_rules.specs.Carried.{ports_in}
-use Rattle.agent_rules.proofs.CarriedLemmas.{spelled_is_read}
+use Rattle.agent_rules.proofs.CarriedLemmas.{encoded_is_read}
 use Rattle.agent_rules.proofs.TableLemmas.{block_differs}
 use Rattle.smp_wire.specs.FabricState.{FabricState}
 use Rattle.smp_wire.specs.Good.{IsGood, IsGoodNode}
@@ -69,7 +69,7 @@ block_leaves fabric stood left result path guid block entries below is stands go
     has_it block (with_block 64 block entries here.held.linear) below (differs.same_length ∙ long) in
     sets fabric stands (with_switches (on_switch guid (block_written block entries)) fabric) good
     (switch_takes fabric path guid (block_written block entries) LinearForwardingTable block entries good here
-    (sets_block here.held block entries has (spelled_is_read.ports entries is)))
+    (sets_block here.held block entries has (encoded_is_read.ports entries is)))
     (λ same. record {
       bytes = entries;
       given = switch_gives_then fabric path guid (block_written block entries) LinearForwardingTable block entries good here

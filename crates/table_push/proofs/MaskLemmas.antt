@@ -1,4 +1,4 @@
--- Masks of multicast LIDs, bit by bit, and their slices.
+-- Masks of multicast LIDs, bit by bit, and their MLID ranges.
 use Rattle.std.proofs.Common.{ℕ, zero, suc, ◌≡◌, ◌+◌, ◌-◌, ◌*◌, ◌/◌, ◌%◌, ◌^◌, ◌<◌, ◌≤◌, ◌==◌, ◌&&◌, ◌∙◌, ap, refl, sym, subst, Bool, true, false, if◌then◌else◌, List, [], ◌∷◌, ◌++◌, length, take, drop, map, nat_le, nat_lt, slice_get, Option, Some, None, option_map, arith}
 use Rattle.std.specs.Int.{bit_at}
 use Rattle.std.specs.List.{list_any, range_with_len}
@@ -11,13 +11,13 @@ use Rattle.std.proofs.lemmas.Option.{slice_get-map}
 use Rattle.agent_rules.specs.declared.power_up.TheConstants.{MULTICAST_TABLE}
 use Rattle.attr_tables.specs.Blocks.{block_of, with_block}
 use Rattle.fabric_parts.specs.declared.lid.TheConstants.{FIRST_MULTICAST_LID}
-use Rattle.result_words.proofs.ListLemmas.{range_at}
+use Rattle.step_results.proofs.ListLemmas.{range_at}
 use Rattle.smp_wire.specs.declared.node.Node.{Node}
 use Rattle.smp_wire.specs.declared.node.Node.TheVariants.{Switch, Adapter}
 use Rattle.switch_model.specs.Multicast.{is_in_masks, mask_of}
 use Rattle.switch_model.specs.SwitchState.{SwitchState}
-use Rattle.table_push.specs.Laws.{MasksAreRead, SlicesAreTheirOwn, SlicesMakeTheWhole}
-use Rattle.table_push.specs.Masks.{bits_where, is_hop_to, is_in_mask, is_in_slice, mask_of_position, mask_word, masks_of, with_masks, with_slice, wanted_slice}
+use Rattle.table_push.specs.Laws.{MasksAreRead, MlidRangesAreTheirOwn, MlidRangesMakeTheWhole}
+use Rattle.table_push.specs.Masks.{bits_where, is_hop_to, is_in_mask, is_in_mlid_range, mask_of_position, mask_word, masks_of, with_masks, with_range, wanted_range}
 use Rattle.table_push.specs.Nodes.{switch_by}
 use Rattle.updn_routes.specs.Subnet.{RoutesState, place_of}
 
@@ -98,7 +98,7 @@ masks_are_read routes receives place mlid number multi within below =
     (mask_there routes receives place position mlid multi (omega (arith, within, low)))
     (reads routes receives place position i (number % 16) mlid number (omega arith) (omega (arith, low)) (omega arith))
 
--- ---- slices
+-- ---- MLID ranges
 pub window_alike : {X : Type 0} (f g : ℕ → X) (a n k m : ℕ) → ((i : ℕ) → a + k ≤ i → i < a + k + m → f i ≡ g i)
     → take m (drop k (map f (range_with_len a n))) ≡ take m (drop k (map g (range_with_len a n)))
 window_alike f g a zero zero m each = refl
@@ -152,25 +152,25 @@ unfolding is_in_mask
 word_alike routes one other place position mlid agree = λ i. bits_where 16 (λ k. list_any (λ lid. agree lid i && is_hop_to routes place (16 * position + k) lid)
     (range_with_len 1 (length routes.lids)))
 
-inside : (partition i : ℕ) → 32 * partition ≤ i → i < 32 * partition + 32 → is_in_slice partition (FIRST_MULTICAST_LID + i) ≡ true
+inside : (partition i : ℕ) → 32 * partition ≤ i → i < 32 * partition + 32 → is_in_mlid_range partition (FIRST_MULTICAST_LID + i) ≡ true
 inside partition i above below = grind (arith, nat_tests)
 
-before_it : (partition i : ℕ) → i < 32 * partition → is_in_slice partition (FIRST_MULTICAST_LID + i) ≡ false
+before_it : (partition i : ℕ) → i < 32 * partition → is_in_mlid_range partition (FIRST_MULTICAST_LID + i) ≡ false
 before_it partition i below = grind (arith, nat_tests)
 
-behind_it : (partition i : ℕ) → 32 * partition + 32 ≤ i → is_in_slice partition (FIRST_MULTICAST_LID + i) ≡ false
+behind_it : (partition i : ℕ) → 32 * partition + 32 ≤ i → is_in_mlid_range partition (FIRST_MULTICAST_LID + i) ≡ false
 behind_it partition i above = grind (arith, nat_tests)
 
-pub slices_are_their_own : SlicesAreTheirOwn
-slices_are_their_own routes partition place one other agree =
+pub mlid_ranges_are_their_own : MlidRangesAreTheirOwn
+mlid_ranges_are_their_own routes partition place one other agree =
     let each : (position : ℕ) → block_of 32 partition (mask_of_position routes one place position) ≡ block_of 32 partition (mask_of_position routes other place position) =
     λ position. block_alike partition (λ i. mask_word routes one place position (FIRST_MULTICAST_LID + i)) (λ i. mask_word routes other place position (FIRST_MULTICAST_LID + i)) MULTICAST_TABLE
     (λ i above below. word_alike routes one other place position (FIRST_MULTICAST_LID + i) (λ lid. agree (FIRST_MULTICAST_LID + i) lid (inside partition i above below))) in
     λ i. each 0 i ∷ each 1 i ∷ each 2 i ∷ []
 
 pub whole_slice : (routes : RoutesState) (partition place : ℕ) (one other : ℕ → ℕ → Bool)
-    → ((mlid lid : ℕ) → is_in_slice partition mlid ≡ false → one mlid lid ≡ other mlid lid)
-    → with_slice partition (wanted_slice routes partition other place) (masks_of routes one place) ≡ masks_of routes other place
+    → ((mlid lid : ℕ) → is_in_mlid_range partition mlid ≡ false → one mlid lid ≡ other mlid lid)
+    → with_range partition (wanted_range routes partition other place) (masks_of routes one place) ≡ masks_of routes other place
 whole_slice routes partition place one other agree =
     let each : (position : ℕ) → with_block 32 partition (block_of 32 partition (mask_of_position routes other place position)) (mask_of_position routes one place position)
     ≡ mask_of_position routes other place position =
@@ -200,13 +200,13 @@ was_switch change nodes node held there = by (slice_get nodes node) refl
         let same = sym there ∙ slice_get-map (switch_by change) nodes node ∙ ap (option_map (switch_by change)) is in
         record { was = was; there = is; is = cc }
 
-pub slices_make_the_whole : SlicesMakeTheWhole
-slices_make_the_whole routes partition fabric one other agree has node place held there at =
+pub mlid_ranges_make_the_whole : MlidRangesMakeTheWhole
+mlid_ranges_make_the_whole routes partition fabric one other agree has node place held there at =
     let was = was_switch (with_masks routes partition other) fabric.nodes node held there in
     let place_was : place_of routes.graph.switches was.was.node_guid ≡ Some place =
     ap (λ (state : SwitchState). place_of routes.graph.switches state.node_guid) (sym was.is) ∙ at in
     let masks_were = has node place was.was was.there place_was in
     ap (λ (state : SwitchState). state.masks) was.is
-    ∙ ap (λ (o : Option ℕ). option_map_or (λ place. with_slice partition (wanted_slice routes partition other place) was.was.masks) o was.was.masks) place_was
-    ∙ ap (with_slice partition (wanted_slice routes partition other place)) masks_were
+    ∙ ap (λ (o : Option ℕ). option_map_or (λ place. with_range partition (wanted_range routes partition other place) was.was.masks) o was.was.masks) place_was
+    ∙ ap (with_range partition (wanted_range routes partition other place)) masks_were
     ∙ whole_slice routes partition place one other agree

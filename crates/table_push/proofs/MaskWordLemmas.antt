@@ -1,4 +1,4 @@
--- The words of a slice, from the bits of ports.
+-- The words of an MLID range, from the bits of ports.
 use Rattle.std.proofs.Common.{ℕ, zero, suc, ◌≡◌, ◌+◌, ◌*◌, ◌/◌, ◌%◌, ◌^◌, ◌<◌, ◌==◌, ◌∙◌, ap, refl, sym, Bool, List, length, take, drop, get_or, arith}
 use Rattle.std.specs.Int.{bit_at}
 use Rattle.std.proofs.Math.Nat.{div-div-eq-div-mul, zero-add}
@@ -12,9 +12,9 @@ use Rattle.agent_rules.proofs.GivenLemmas.{block_long}
 use Rattle.attr_tables.specs.Blocks.{block_of}
 use Rattle.fabric_parts.specs.declared.lid.TheConstants.{FIRST_MULTICAST_LID}
 use Rattle.table_push.specs.Masks.{LiesInTable, bits_where, is_in_mask, mask_of_position, mask_word}
-use Rattle.table_push.specs.MaskSteps.{AreBits, AreSliceBits, word_at, words_at}
+use Rattle.table_push.specs.MaskSteps.{AreBits, AreRangeBits, word_at, words_at}
 use Rattle.table_push.proofs.MaskLemmas.{bit_where, bits_below}
-use Rattle.table_push.proofs.SliceLemmas.{has_it}
+use Rattle.table_push.proofs.MlidRangeLemmas.{has_it}
 use Rattle.updn_routes.specs.Subnet.{RoutesState}
 
 same_bit : (a b : ℕ) → a < 2 → b < 2 → (a == 1) ≡ (b == 1) → a ≡ b
@@ -42,7 +42,7 @@ word_is position bits is_set few are =
     ∙ are (16 * position + k) (omega (arith, few, low)) ∙ sym (bit_where 16 (λ k. is_set (16 * position + k)) k low)))
 
 pub block_is : (routes : RoutesState) (partition place position : ℕ) (receives : ℕ → ℕ → Bool) (bits : List ℕ) → LiesInTable partition → position < 3 → length bits ≡ 32
-    → AreSliceBits routes partition receives place bits
+    → AreRangeBits routes partition receives place bits
     → words_at position bits ≡ block_of 32 partition (mask_of_position routes receives place position)
 unfolding block_of
 block_is routes partition place position receives bits below few long are =

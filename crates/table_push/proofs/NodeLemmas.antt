@@ -11,7 +11,7 @@ use Rattle.smp_wire.specs.FabricState.{FabricState}
 use Rattle.smp_wire.specs.Good.{node_guid}
 use Rattle.smp_wire.specs.declared.node.Node.{Node}
 use Rattle.smp_wire.specs.declared.node.Node.TheVariants.{Switch, Adapter}
-use Rattle.result_words.proofs.DistinctLemmas.{none_shares}
+use Rattle.step_results.proofs.DistinctLemmas.{none_shares}
 use Rattle.switch_model.specs.SwitchState.{SwitchState}
 use Rattle.table_push.specs.Nodes.{on_switch, switch_by, with_switches}
 

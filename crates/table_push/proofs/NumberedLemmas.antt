@@ -67,7 +67,7 @@ got_numbered {X = X} f first (x ∷ xs) (suc k) =
     next : first + 1 + k ≡ first + suc k
     next = omega arith
 
--- each element keeps what a function of it tells
+-- each element keeps what a function of it reports
 pub kept_at : {X Y : Type 0} (f : ℕ → X → X) (g : X → Y) (first : ℕ) (xs : List X) (k : ℕ) → ((n : ℕ) (x : X) → g (f n x) ≡ g x)
     → option_map g (slice_get (numbered f first xs) k) ≡ option_map g (slice_get xs k)
 kept_at f g first [] k keeps = refl

@@ -9,8 +9,8 @@ use Rattle.fabric_parts.specs.Cable.{far_end, port}
 use Rattle.fabric_parts.specs.declared.cable.PortRef.{PortRef}
 use Rattle.lid_assign.specs.Lids.{lid_in}
 use Rattle.lid_assign.proofs.LawLemmas.{lids_and_guids_name_each_other}
-use Rattle.packet_ways.specs.Deliveries.{adapter_at}
-use Rattle.packet_ways.specs.Forwards.{IsCabledPort, Leads, entry_at}
+use Rattle.delivery_laws.specs.Deliveries.{adapter_at}
+use Rattle.delivery_laws.specs.Forwards.{IsCabledPort, Leads, entry_at}
 use Rattle.port_model.specs.AdapterState.{AdapterState}
 use Rattle.smp_wire.proofs.CableLemmas.{cabled_is_port}
 use Rattle.smp_wire.specs.FabricState.{FabricState, is_switch_at, port_count}
@@ -20,8 +20,8 @@ use Rattle.smp_wire.specs.declared.node.Node.TheVariants.{Switch, Adapter}
 use Rattle.sweep.specs.declared.graph.GraphPort.{GraphPort}
 use Rattle.sweep.proofs.LeastLemmas.{in_range}
 use Rattle.sweep.proofs.MetLemmas.{good_once}
-use Rattle.result_words.proofs.ListLemmas.{all_there}
-use Rattle.table_push.proofs.HangLemmas.{one_hangs}
+use Rattle.step_results.proofs.ListLemmas.{all_there}
+use Rattle.table_push.proofs.AttachedLemmas.{one_is_attached}
 use Rattle.updn_routes.specs.Cabling.{leads}
 use Rattle.updn_routes.specs.Choice.{follows, is_route}
 use Rattle.updn_routes.specs.Routes.{hop_to, home_of, next_hop, port_towards}
@@ -30,7 +30,7 @@ use Rattle.table_push.specs.BroughtUp.{IsBroughtUp, RoutesLeadHome}
 use Rattle.table_push.proofs.EntryLemmas.{entry_is}
 use Rattle.table_push.proofs.HomeLemmas.{at_home, home_of_port}
 use Rattle.table_push.proofs.RowLemmas.{linked, row_within}
-use Rattle.table_push.proofs.SeatLemmas.{IsSeated, is_no_switch, seated}
+use Rattle.table_push.proofs.AttachmentLemmas.{IsAttached, is_no_switch, attached}
 use Rattle.smp_wire.proofs.PresentLemmas.{present_right}
 
 -- no node has so many ports that 0xFF is one
@@ -82,50 +82,50 @@ module _ (routes : RoutesState) (keys : List (List ℕ)) (fabric : FabricState) 
       let near : PortRef = port here.node leads.out in
       let back = good_once fabric near at up.good leads.cable in
       let cabled : IsCabledPort fabric at one = record { there = there; far = near; cable = back } in
-      let seat = seated fabric routes.graph at one up.good up.graph cabled in
-      let entry = entry_is routes keys fabric home up seat.place lid leads.out seat.found seat.there
-      (ap (λ (n : ℕ). entry_at fabric.nodes n lid) seat.node ∙ leads.entry) in
+      let attachment = attached fabric routes.graph at one up.good up.graph cabled in
+      let entry = entry_is routes keys fabric home up attachment.place lid leads.out attachment.found attachment.there
+      (ap (λ (n : ℕ). entry_at fabric.nodes n lid) attachment.node ∙ leads.entry) in
       let range = in_range fabric here.node leads.out (cabled_is_port fabric.nodes fabric.cables near at (present_right up.good) leads.cable) in
-      let hop : next_hop routes.between seat.place lid ≡ Some leads.out =
-      some_hop (next_hop routes.between seat.place lid) leads.out (few_ports fabric.nodes here.node leads.out up.good.counts range.1) entry.is in
-      by seat range.0 (home_of (homes_of routes.graph routes.lids) lid) refl hop
-      (ap (λ (homes : List PortRef). hop_to routes.between seat.place (home_of homes lid)) (sym home.of.homes_are) ∙ hop)
+      let hop : next_hop routes.between attachment.place lid ≡ Some leads.out =
+      some_hop (next_hop routes.between attachment.place lid) leads.out (few_ports fabric.nodes here.node leads.out up.good.counts range.1) entry.is in
+      by attachment range.0 (home_of (homes_of routes.graph routes.lids) lid) refl hop
+      (ap (λ (homes : List PortRef). hop_to routes.between attachment.place (home_of homes lid)) (sym home.of.homes_are) ∙ hop)
     where
       near : PortRef
       near = port here.node leads.out
 
-      at_one : (cabled : IsCabledPort fabric at one) (seat : IsSeated fabric routes.graph up.graph at near one) (h : PortRef)
-          → home_of (homes_of routes.graph routes.lids) lid ≡ Some h → h ≡ port seat.place leads.out → 1 ≤ leads.out → one.info.lid ≡ lid
-      at_one cabled seat h is same some =
+      at_one : (cabled : IsCabledPort fabric at one) (attachment : IsAttached fabric routes.graph up.graph at near one) (h : PortRef)
+          → home_of (homes_of routes.graph routes.lids) lid ≡ Some h → h ≡ port attachment.place leads.out → 1 ≤ leads.out → one.info.lid ≡ lid
+      at_one cabled attachment h is same some =
           let named = at_home routes.graph routes.lids lid h is in
           let number : h.port ≡ leads.out = ap (λ (p : PortRef). p.port) same in
           let hung = home_of_port routes.graph named.guid h named.is (grind (arith, nat_tests, some, number)) in
-          let whose : hung.one ≡ seat.hung =
-          one_hangs fabric routes.graph hung.index seat.index hung.one seat.hung up.graph hung.there seat.has (hung.at_is ∙ same ∙ sym seat.at_is) in
-          let guid : named.guid ≡ one.port_guid = sym hung.guid_is ∙ ap (λ (p : GraphPort). p.port_guid) whose ∙ seat.guid_is in
+          let whose : hung.one ≡ attachment.hung =
+          one_is_attached fabric routes.graph hung.index attachment.index hung.one attachment.hung up.graph hung.there attachment.has (hung.at_is ∙ same ∙ sym attachment.at_is) in
+          let guid : named.guid ≡ one.port_guid = sym hung.guid_is ∙ ap (λ (p : GraphPort). p.port_guid) whose ∙ attachment.guid_is in
           let mine : lid_in routes.lids one.port_guid ≡ Some lid =
           ap (lid_in routes.lids) (sym guid) ∙ (lids_and_guids_name_each_other routes.lids named.guid lid home.own_lids).1 named.named in
           same_Some one.info.lid lid (sym (up.lids at one cabled) ∙ mine)
 
-      elsewhere : (seat : IsSeated fabric routes.graph up.graph at near one) (h : PortRef) → home_of (homes_of routes.graph routes.lids) lid ≡ Some h
-          → (h.node == seat.place) ≡ false → next_hop routes.between seat.place lid ≡ Some leads.out → one.info.lid ≡ lid
-      elsewhere seat h is apart hop =
-          let on = goes_to_switch seat.place lid leads.out h.node h.port (row_within fabric routes.graph seat.place seat.found up.graph seat.there) apart is hop in
-          let link = linked fabric routes.graph seat.place leads.out on.0 seat.found up.graph seat.there on.1 in
+      elsewhere : (attachment : IsAttached fabric routes.graph up.graph at near one) (h : PortRef) → home_of (homes_of routes.graph routes.lids) lid ≡ Some h
+          → (h.node == attachment.place) ≡ false → next_hop routes.between attachment.place lid ≡ Some leads.out → one.info.lid ≡ lid
+      elsewhere attachment h is apart hop =
+          let on = goes_to_switch attachment.place lid leads.out h.node h.port (row_within fabric routes.graph attachment.place attachment.found up.graph attachment.there) apart is hop in
+          let link = linked fabric routes.graph attachment.place leads.out on.0 attachment.found up.graph attachment.there on.1 in
           let there_is : link.there ≡ at =
-          same_Some link.there at (sym link.cable ∙ ap (λ (n : ℕ). far_end fabric.cables (port n leads.out)) seat.node ∙ leads.cable) in
+          same_Some link.there at (sym link.cable ∙ ap (λ (n : ℕ). far_end fabric.cables (port n leads.out)) attachment.node ∙ leads.cable) in
           absurd (false≢true (sym (is_no_switch fabric.nodes at one there) ∙ ap (λ (p : PortRef). is_switch_at fabric.nodes p.node) (sym there_is) ∙ link.switch))
 
-      by : (seat : IsSeated fabric routes.graph up.graph at near one) → 1 ≤ leads.out → (o : Option PortRef) → home_of (homes_of routes.graph routes.lids) lid ≡ o
-          → next_hop routes.between seat.place lid ≡ Some leads.out → hop_to routes.between seat.place o ≡ Some leads.out → one.info.lid ≡ lid
-      by seat some None is hop out = absurd (none-some leads.out out)
-      by seat some (Some h) is hop out = by_node (h.node == seat.place) refl out
+      by : (attachment : IsAttached fabric routes.graph up.graph at near one) → 1 ≤ leads.out → (o : Option PortRef) → home_of (homes_of routes.graph routes.lids) lid ≡ o
+          → next_hop routes.between attachment.place lid ≡ Some leads.out → hop_to routes.between attachment.place o ≡ Some leads.out → one.info.lid ≡ lid
+      by attachment some None is hop out = absurd (none-some leads.out out)
+      by attachment some (Some h) is hop out = by_node (h.node == attachment.place) refl out
         where
-          by_node : (b : Bool) → (h.node == seat.place) ≡ b → (if b then Some h.port else port_towards routes.between h.node seat.place) ≡ Some leads.out
+          by_node : (b : Bool) → (h.node == attachment.place) ≡ b → (if b then Some h.port else port_towards routes.between h.node attachment.place) ≡ Some leads.out
               → one.info.lid ≡ lid
-          by_node false apart out = elsewhere seat h is apart hop
+          by_node false apart out = elsewhere attachment h is apart hop
           by_node true here_is out =
-              let node = eqb-true h.node seat.place here_is in
+              let node = eqb-true h.node attachment.place here_is in
               let number = same_Some h.port leads.out out in
-              at_one (record { there = there; far = near; cable = good_once fabric near at up.good leads.cable }) seat h is
+              at_one (record { there = there; far = near; cable = good_once fabric near at up.good leads.cable }) attachment h is
               (λ i. record { node = node i; port = number i }) some

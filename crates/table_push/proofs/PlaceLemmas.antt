@@ -7,13 +7,13 @@ use Rattle.std.proofs.lemmas.List.{take_all}
 use Rattle.std.proofs.lemmas.Option.{none-some, slice_get-get_or}
 use Rattle.fabric_parts.specs.declared.cable.PortRef.{PortRef}
 use Rattle.subnet_model.specs.declared.group_receiver.GroupReceiver.{GroupReceiver}
-use Rattle.table_push.specs.MaskSteps.{adapter_home, hangs_at, hangs_on, is_that_port, some_receives}
+use Rattle.table_push.specs.MaskSteps.{adapter_home, is_attached_at, is_attached_to, is_that_port, some_receives}
 use Rattle.table_push.specs.PlaceSteps.{IsUnturned}
 use Rattle.table_push.specs.TreeSteps.{leads_up, meets, some_lead_down}
 use Rattle.table_push.specs.declared.trees.Tree.{Tree}
 use Rattle.table_push.proofs.NodeLemmas.{same_number}
 use Rattle.table_push.proofs.ReachLemmas.{either_bit}
-use Rattle.table_push.proofs.SeatBitLemmas.{some_more}
+use Rattle.table_push.proofs.AttachmentBitLemmas.{some_more}
 use Rattle.table_push.proofs.TreeMaskLemmas.{down_any, down_first, down_none}
 
 -- ---- bits that are not there
@@ -25,8 +25,8 @@ pub no_bit : (a b n : ℕ) → (bit_at (bit_or a b) n == 1) ≡ false → ((bit_
 no_bit a b n none = neither (bit_at a n == 1) (bit_at b n == 1) (sym (either_bit a b n) ∙ none)
 
 -- ---- receivers
-none_hangs : (homes : List PortRef) (s lid number : ℕ) → hangs_on homes lid s ≡ false → hangs_at homes s lid number ≡ false
-none_hangs homes s lid number none = by (adapter_home homes lid) none
+none_attached : (homes : List PortRef) (s lid number : ℕ) → is_attached_to homes lid s ≡ false → is_attached_at homes s lid number ≡ false
+none_attached homes s lid number none = by (adapter_home homes lid) none
   where
     and_false : (a b : Bool) → a ≡ false → (a && b) ≡ false
     and_false true b is = absurd (false≢true (sym is))
@@ -50,27 +50,27 @@ none_there receivers k none = elim (cases_lt k (length receivers)) [
   | inr past ↦ past
 ]
 
--- at the switches whose bits are not there the same hang of the first receivers of both lists
+-- at the switches whose bits are not there the same of the first receivers are attached of both lists
 abbrev pub SameSoFar : List PortRef → (before after : List GroupReceiver) → (gone come places : ℕ) → Type 0
 SameSoFar homes before after gone come places =
     (s mlid number : ℕ) → s < 64 → (bit_at places s == 1) ≡ false
-    → some_receives (take gone before) mlid (λ lid. hangs_at homes s lid number) ≡ some_receives (take come after) mlid (λ lid. hangs_at homes s lid number)
+    → some_receives (take gone before) mlid (λ lid. is_attached_at homes s lid number) ≡ some_receives (take come after) mlid (λ lid. is_attached_at homes s lid number)
 
 pub both_more : (homes : List PortRef) (before after : List GroupReceiver) (gone come places : ℕ) (one : GroupReceiver) → slice_get before gone ≡ Some one
     → slice_get after come ≡ Some one → SameSoFar homes before after gone come places → SameSoFar homes before after (gone + 1) (come + 1) places
 both_more homes before after gone come places one there too same s mlid number low none =
-    some_more before gone mlid one (λ lid. hangs_at homes s lid number) there
-    ∙ ap (λ (b : Bool). b || ((one.mlid == mlid) && hangs_at homes s one.lid number)) (same s mlid number low none)
-    ∙ sym (some_more after come mlid one (λ lid. hangs_at homes s lid number) too)
+    some_more before gone mlid one (λ lid. is_attached_at homes s lid number) there
+    ∙ ap (λ (b : Bool). b || ((one.mlid == mlid) && is_attached_at homes s one.lid number)) (same s mlid number low none)
+    ∙ sym (some_more after come mlid one (λ lid. is_attached_at homes s lid number) too)
 
 -- a bit is put for one that is in one list alone
-module _ (homes : List PortRef) (before after : List GroupReceiver) (gone come places bit : ℕ) (one : GroupReceiver) (its : (s : ℕ) → s < 64 → (bit_at bit s == 1) ≡ hangs_on homes one.lid s) (same : SameSoFar homes before after gone come places) where
+module _ (homes : List PortRef) (before after : List GroupReceiver) (gone come places bit : ℕ) (one : GroupReceiver) (its : (s : ℕ) → s < 64 → (bit_at bit s == 1) ≡ is_attached_to homes one.lid s) (same : SameSoFar homes before after gone come places) where
   passed : (receivers : List GroupReceiver) (k : ℕ) → slice_get receivers k ≡ Some one → (s mlid number : ℕ) → s < 64 → (bit_at bit s == 1) ≡ false
-      → some_receives (take (k + 1) receivers) mlid (λ lid. hangs_at homes s lid number) ≡ some_receives (take k receivers) mlid (λ lid. hangs_at homes s lid number)
+      → some_receives (take (k + 1) receivers) mlid (λ lid. is_attached_at homes s lid number) ≡ some_receives (take k receivers) mlid (λ lid. is_attached_at homes s lid number)
   passed receivers k there s mlid number low none =
-      some_more receivers k mlid one (λ lid. hangs_at homes s lid number) there
-      ∙ or_none (some_receives (take k receivers) mlid (λ lid. hangs_at homes s lid number)) (one.mlid == mlid) (hangs_at homes s one.lid number)
-      (none_hangs homes s one.lid number (sym (its s low) ∙ none))
+      some_more receivers k mlid one (λ lid. is_attached_at homes s lid number) there
+      ∙ or_none (some_receives (take k receivers) mlid (λ lid. is_attached_at homes s lid number)) (one.mlid == mlid) (is_attached_at homes s one.lid number)
+      (none_attached homes s one.lid number (sym (its s low) ∙ none))
 
   pub gone_more : slice_get before gone ≡ Some one → SameSoFar homes before after (gone + 1) come (bit_or places bit)
   gone_more there s mlid number low none =
@@ -91,11 +91,11 @@ same_as homes before after gone come places gone' come' places' one two three sa
 
 pub same_to_the_end : (homes : List PortRef) (before after : List GroupReceiver) (gone come places : ℕ) → length before ≤ gone → length after ≤ come
     → SameSoFar homes before after gone come places → (s mlid number : ℕ) → s < 64 → (bit_at places s == 1) ≡ false
-    → some_receives before mlid (λ lid. hangs_at homes s lid number) ≡ some_receives after mlid (λ lid. hangs_at homes s lid number)
+    → some_receives before mlid (λ lid. is_attached_at homes s lid number) ≡ some_receives after mlid (λ lid. is_attached_at homes s lid number)
 same_to_the_end homes before after gone come places all too same s mlid number low none =
-    ap (λ (some : List GroupReceiver). some_receives some mlid (λ lid. hangs_at homes s lid number)) (sym (take_all gone before all))
+    ap (λ (some : List GroupReceiver). some_receives some mlid (λ lid. is_attached_at homes s lid number)) (sym (take_all gone before all))
     ∙ same s mlid number low none
-    ∙ ap (λ (some : List GroupReceiver). some_receives some mlid (λ lid. hangs_at homes s lid number)) (take_all come after too)
+    ∙ ap (λ (some : List GroupReceiver). some_receives some mlid (λ lid. is_attached_at homes s lid number)) (take_all come after too)
 
 -- ---- ports that lead to switches
 pub record Unturned (tree : Tree) (before after count s number : ℕ) : Type 0 where
@@ -161,12 +161,12 @@ alike_unturned tree before after s same number =
 -- ---- all of it
 pub record Unchanged (homes : List PortRef) (tree : Tree) (before after : List GroupReceiver) (switches_before switches_after : List ℕ) (count places : ℕ) : Type 0 where
   pub own : (s mlid number : ℕ) → s < 64 → (bit_at places s == 1) ≡ false
-      → some_receives before mlid (λ lid. hangs_at homes s lid number) ≡ some_receives after mlid (λ lid. hangs_at homes s lid number)
+      → some_receives before mlid (λ lid. is_attached_at homes s lid number) ≡ some_receives after mlid (λ lid. is_attached_at homes s lid number)
   pub ways : (s i : ℕ) → s < 64 → i < count → (bit_at places s == 1) ≡ false → IsUnturned tree (get_or switches_before i 0) (get_or switches_after i 0) s
 
 pub nothing_looked_at : (homes : List PortRef) (tree : Tree) (before after : List GroupReceiver) (switches_before switches_after : List ℕ) (places : ℕ)
     → ((s mlid number : ℕ) → s < 64 → (bit_at places s == 1) ≡ false
-    → some_receives before mlid (λ lid. hangs_at homes s lid number) ≡ some_receives after mlid (λ lid. hangs_at homes s lid number))
+    → some_receives before mlid (λ lid. is_attached_at homes s lid number) ≡ some_receives after mlid (λ lid. is_attached_at homes s lid number))
     → Unchanged homes tree before after switches_before switches_after 0 places
 nothing_looked_at homes tree before after switches_before switches_after places own =
     record { own = own; ways = λ s i low never none. absurd (omega (arith, never)) }

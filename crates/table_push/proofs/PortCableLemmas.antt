@@ -7,6 +7,7 @@ use Rattle.std.proofs.lemmas.Bool.{ne_eqb}
 use Rattle.std.proofs.lemmas.List.{take_all}
 use Rattle.std.proofs.lemmas.List.Folds.{list_any-append, list_any_more}
 use Rattle.std.proofs.lemmas.Option.{get_or_from_slice_get, slice_get-get_or}
+use Rattle.step_results.proofs.BoolLemmas.{or_none}
 use Rattle.lid_assign.specs.Lids.{lid_in}
 use Rattle.smp_wire.specs.FabricState.{FabricState}
 use Rattle.smp_wire.specs.Good.{IsGood, ShowsLinks}
@@ -15,29 +16,24 @@ use Rattle.sweep.specs.OfFabric.{IsGraphOf}
 use Rattle.sweep.specs.declared.graph.GraphPort.{GraphPort}
 use Rattle.sweep.specs.declared.graph.GraphSwitch.{GraphSwitch}
 use Rattle.sweep.specs.declared.graph.GraphLink.{GraphLink}
-use Rattle.result_words.proofs.RangeLemmas.{range_more}
+use Rattle.step_results.proofs.RangeLemmas.{range_more}
 use Rattle.table_push.specs.Keys.{at_cable, at_cables, guid_of}
 use Rattle.table_push.specs.Nodes.{with_infos}
 use Rattle.table_push.specs.Ports.{at_switch, at_switches_before, change_wanted, changed, changed_where, has_link, stays}
 use Rattle.table_push.specs.Pushes.{Leaves, Stands}
 use Rattle.table_push.specs.declared.fault.PushFault.{PushFault}
 use Rattle.table_push.specs.declared.ports.PortChange.{PortChange}
-use Rattle.table_push.proofs.CableLemmas.{Seat, own_guids}
+use Rattle.table_push.proofs.CableLemmas.{Attachment, own_guids}
 use Rattle.table_push.proofs.GuidLemmas.{no_place, place_is}
 use Rattle.table_push.proofs.LeadLemmas.{begins_as, ends_as}
 use Rattle.table_push.proofs.SiteLemmas.{link_number, takes_adapter, takes_before, takes_link, takes_own}
-use Rattle.table_push.proofs.WantedChangeLemmas.{ChangesAt, change_more, told_all, told_none, told_same, wanted_adapter, wanted_before, wanted_link, wanted_own}
-use Rattle.table_push.proofs.WantedLemmas.{guid_there, hanging_is, port_is, with_this}
+use Rattle.table_push.proofs.WantedChangeLemmas.{ChangesAt, change_more, reported_all, reported_none, reported_same, wanted_adapter, wanted_before, wanted_link, wanted_own}
+use Rattle.table_push.proofs.WantedLemmas.{guid_there, attached_is, port_is, with_this}
 use Rattle.updn_routes.specs.Subnet.{RoutesState}
 
 -- ---- the ports of a switch with links
 abbrev pub with_links : (ℕ → ℕ → Bool) → ℕ → List GraphLink → ℕ → ℕ → Bool
 with_links there guid links of_guid of_number = there of_guid of_number || ((guid == of_guid) && list_any (λ link. link.port == of_number) links)
-
-or_none : (a b : Bool) → (a || (b && false)) ≡ a
-or_none true b = refl
-or_none false true = refl
-or_none false false = refl
 
 or_both : (a b c d : Bool) → ((a || (b && c)) || (b && d)) ≡ (a || (b && (c || d)))
 or_both true b c d = refl
@@ -48,7 +44,7 @@ pub links_begin : (stood : Option FabricState) (fabric : FabricState) (routes : 
     → Stands stood fabric (with_infos (changed_where there routes) fabric)
     → Stands stood fabric (with_infos (changed_where (with_links there guid []) routes) fabric)
 links_begin stood fabric routes there guid stands =
-    subst (Stands stood fabric) (told_same routes fabric _ _ (λ of_guid of_number. sym (or_none (there of_guid of_number) (guid == of_guid)))) stands
+    subst (Stands stood fabric) (reported_same routes fabric _ _ (λ of_guid of_number. sym (or_none (there of_guid of_number) (guid == of_guid)))) stands
 
 pub links_more : (stood left : Option FabricState) (result : Result (Unit {0}) PushFault) (fabric : FabricState) (routes : RoutesState) (there : ℕ → ℕ → Bool)
     (place k : ℕ) (switch : GraphSwitch) (row : List GraphLink) (link : GraphLink) → IsGood fabric → ShowsLinks fabric → IsGraph routes.graph → IsGraphOf routes.graph fabric
@@ -71,7 +67,7 @@ links_more stood left result fabric routes there place k switch row link good sh
     ∙ ap (λ (b : Bool). there of_guid of_number || ((guid == of_guid) && b))
     (ap (λ (one : GraphLink). list_any (λ other. other.port == of_number) (take k row) || (one.port == of_number)) (sym (get_or_from_slice_get row k link link at))
     ∙ sym (list_any_more (λ one. one.port == of_number) row k link within)) in
-    subst (Leaves result left fabric) (told_same routes fabric _ _ grown) leaves
+    subst (Leaves result left fabric) (reported_same routes fabric _ _ grown) leaves
 
 pub links_end : (stood : Option FabricState) (fabric : FabricState) (routes : RoutesState) (there : ℕ → ℕ → Bool) (place count : ℕ) (row : List GraphLink)
     → slice_get routes.graph.rows place ≡ Some row → length row ≤ count
@@ -92,12 +88,12 @@ and_both : (a b c : Bool) → ((a && b) || (a && c)) ≡ (a && (b || c))
 and_both true b c = refl
 and_both false b c = refl
 
-pub own_told : (stood left : Option FabricState) (result : Result (Unit {0}) PushFault) (fabric : FabricState) (routes : RoutesState) (there : ℕ → ℕ → Bool)
+pub own_reported : (stood left : Option FabricState) (result : Result (Unit {0}) PushFault) (fabric : FabricState) (routes : RoutesState) (there : ℕ → ℕ → Bool)
     (place : ℕ) (switch : GraphSwitch) (change : PortChange) → IsGood fabric → ShowsLinks fabric → IsGraph routes.graph → IsGraphOf routes.graph fabric
     → slice_get routes.graph.switches place ≡ Some switch → length routes.lids ≤ 320 → change ≡ record stays { lid = lid_in routes.lids switch.guid }
     → Stands stood fabric (with_infos (changed_where there routes) fabric) → ChangesAt stood left result switch.path 0 change
     → Leaves result left fabric (with_infos (changed_where (with_this there (guid_of routes.graph.switches place) 0) routes) fabric)
-own_told stood left result fabric routes there place switch change good shows is of home few same stands changes =
+own_reported stood left result fabric routes there place switch change good shows is of home few same stands changes =
     let own = place_is routes.graph.switches place switch (own_guids routes.graph is) home in
     subst (λ (guid : ℕ). Leaves result left fabric (with_infos (changed_where (with_this there guid 0) routes) fabric))
     (sym (guid_there routes.graph.switches place switch home))
@@ -105,12 +101,12 @@ own_told stood left result fabric routes there place switch change good shows is
     (wanted_own routes switch.guid place own) (takes_own fabric good shows routes.graph place switch routes.lids of home few) stands
     (subst (ChangesAt stood left result switch.path 0) same changes))
 
-pub switch_told : (result : Result (Unit {0}) PushFault) (left : Option FabricState) (fabric : FabricState) (routes : RoutesState) (there : ℕ → ℕ → Bool) (place : ℕ)
+pub switch_reported : (result : Result (Unit {0}) PushFault) (left : Option FabricState) (fabric : FabricState) (routes : RoutesState) (there : ℕ → ℕ → Bool) (place : ℕ)
     → Leaves result left fabric (with_infos (changed_where (λ guid number. with_this there (guid_of routes.graph.switches place) 0 guid number
     || ((guid_of routes.graph.switches place == guid) && has_link routes.graph place number)) routes) fabric)
     → Leaves result left fabric (with_infos (changed_where (λ guid number. there guid number || at_switch routes.graph guid number place) routes) fabric)
-switch_told result left fabric routes there place leaves =
-    subst (Leaves result left fabric) (told_same routes fabric _ _ (λ guid number.
+switch_reported result left fabric routes there place leaves =
+    subst (Leaves result left fabric) (reported_same routes fabric _ _ (λ guid number.
     or_first (there guid number) ((guid_of routes.graph.switches place == guid) && (0 == number)) ((guid_of routes.graph.switches place == guid) && has_link routes.graph place number)
     ∙ ap (λ (b : Bool). there guid number || b) (and_both (guid_of routes.graph.switches place == guid) (0 == number) (has_link routes.graph place number)))) leaves
 
@@ -125,13 +121,13 @@ any_below p count =
 
 pub switches_begin : (stood : Option FabricState) (fabric : FabricState) (routes : RoutesState) → stood ≡ Some fabric → IsGood fabric
     → Stands stood fabric (with_infos (changed_where (at_switches_before routes.graph 0) routes) fabric)
-switches_begin stood fabric routes stands good = begins_as stood fabric _ stands good (told_none routes fabric)
+switches_begin stood fabric routes stands good = begins_as stood fabric _ stands good (reported_none routes fabric)
 
 pub switches_more : (result : Result (Unit {0}) PushFault) (left : Option FabricState) (fabric : FabricState) (routes : RoutesState) (place : ℕ)
     → Leaves result left fabric (with_infos (changed_where (λ guid number. at_switches_before routes.graph place guid number || at_switch routes.graph guid number place) routes) fabric)
     → Leaves result left fabric (with_infos (changed_where (at_switches_before routes.graph (place + 1)) routes) fabric)
 switches_more result left fabric routes place leaves =
-    subst (Leaves result left fabric) (told_same routes fabric _ _ (λ guid number. sym (any_below (at_switch routes.graph guid number) place))) leaves
+    subst (Leaves result left fabric) (reported_same routes fabric _ _ (λ guid number. sym (any_below (at_switch routes.graph guid number) place))) leaves
 
 pub switches_end : (stood : Option FabricState) (fabric : FabricState) (routes : RoutesState) (place count : ℕ) → place ≡ count
     → Stands stood fabric (with_infos (changed_where (at_switches_before routes.graph place) routes) fabric)
@@ -161,42 +157,42 @@ row_within graph given rows place is same are within =
     omega (arith, within, ap length are, is.a_row_each, ap (λ (g : GraphState). length g.switches) same)
 
 -- ---- both ends of a cable
-pub before_told : (stood left : Option FabricState) (result : Result (Unit {0}) PushFault) (fabric : FabricState) (routes : RoutesState) (there : ℕ → ℕ → Bool)
+pub before_reported : (stood left : Option FabricState) (result : Result (Unit {0}) PushFault) (fabric : FabricState) (routes : RoutesState) (there : ℕ → ℕ → Bool)
     (k : ℕ) (one : GraphPort) → IsGood fabric → ShowsLinks fabric → IsGraph routes.graph → IsGraphOf routes.graph fabric
-    → slice_get routes.graph.ports k ≡ Some one → (seat : Seat routes.graph one)
+    → slice_get routes.graph.ports k ≡ Some one → (attachment : Attachment routes.graph one)
     → Stands stood fabric (with_infos (changed_where there routes) fabric)
-    → ChangesAt stood left result seat.switch.path one.at.port (record stays { enforcement = Some true; active = true })
+    → ChangesAt stood left result attachment.switch.path one.at.port (record stays { enforcement = Some true; active = true })
     → Leaves result left fabric (with_infos (changed_where (with_this there (guid_of routes.graph.switches one.at.node) one.at.port) routes) fabric)
-before_told stood left result fabric routes there k one good shows is of at seat stands changes =
-    let place = place_is routes.graph.switches one.at.node seat.switch (own_guids routes.graph is) seat.there in
-    let some : (one.at.port == 0) ≡ false = ne_eqb one.at.port 0 (λ none. omega (arith, none, seat.from)) in
+before_reported stood left result fabric routes there k one good shows is of at attachment stands changes =
+    let place = place_is routes.graph.switches one.at.node attachment.switch (own_guids routes.graph is) attachment.there in
+    let some : (one.at.port == 0) ≡ false = ne_eqb one.at.port 0 (λ none. omega (arith, none, attachment.from)) in
     subst (λ (guid : ℕ). Leaves result left fabric (with_infos (changed_where (with_this there guid one.at.port) routes) fabric))
-    (sym (guid_there routes.graph.switches one.at.node seat.switch seat.there))
-    (change_more stood left result fabric routes there seat.switch.path one.at.port seat.switch.guid one.at.port (record stays { enforcement = Some true; active = true })
-    (wanted_before routes seat.switch.guid one.at.node one.at.port one place some (hanging_is fabric routes.graph k one of at))
-    (takes_before fabric good shows routes.graph k one seat.switch of at seat.there) stands changes)
+    (sym (guid_there routes.graph.switches one.at.node attachment.switch attachment.there))
+    (change_more stood left result fabric routes there attachment.switch.path one.at.port attachment.switch.guid one.at.port (record stays { enforcement = Some true; active = true })
+    (wanted_before routes attachment.switch.guid one.at.node one.at.port one place some (attached_is fabric routes.graph k one of at))
+    (takes_before fabric good shows routes.graph k one attachment.switch of at attachment.there) stands changes)
 
-pub adapter_told : (stood left : Option FabricState) (result : Result (Unit {0}) PushFault) (fabric : FabricState) (routes : RoutesState) (there : ℕ → ℕ → Bool)
+pub adapter_reported : (stood left : Option FabricState) (result : Result (Unit {0}) PushFault) (fabric : FabricState) (routes : RoutesState) (there : ℕ → ℕ → Bool)
     (k : ℕ) (one : GraphPort) (change : PortChange) → IsGood fabric → ShowsLinks fabric → IsGraph routes.graph → IsGraphOf routes.graph fabric
-    → slice_get routes.graph.ports k ≡ Some one → (seat : Seat routes.graph one) → length routes.lids ≤ 320
+    → slice_get routes.graph.ports k ≡ Some one → (attachment : Attachment routes.graph one) → length routes.lids ≤ 320
     → change ≡ record stays { lid = lid_in routes.lids one.port_guid; active = true }
-    → Stands stood fabric (with_infos (changed_where there routes) fabric) → ChangesAt stood left result (seat.switch.path ++ one.at.port ∷ []) 0 change
+    → Stands stood fabric (with_infos (changed_where there routes) fabric) → ChangesAt stood left result (attachment.switch.path ++ one.at.port ∷ []) 0 change
     → Leaves result left fabric (with_infos (changed_where (with_this there one.node_guid one.number) routes) fabric)
-adapter_told stood left result fabric routes there k one change good shows is of at seat few same stands changes =
-    change_more stood left result fabric routes there (seat.switch.path ++ one.at.port ∷ []) 0 one.node_guid one.number
+adapter_reported stood left result fabric routes there k one change good shows is of at attachment few same stands changes =
+    change_more stood left result fabric routes there (attachment.switch.path ++ one.at.port ∷ []) 0 one.node_guid one.number
     (record stays { lid = lid_in routes.lids one.port_guid; active = true })
-    (wanted_adapter routes one.node_guid one.number one (no_place routes.graph.switches one.node_guid seat.no_switch) (port_is routes.graph k one is at))
-    (takes_adapter fabric good shows routes.graph k one seat.switch routes.lids of at seat.there few) stands
-    (subst (ChangesAt stood left result (seat.switch.path ++ one.at.port ∷ []) 0) same changes)
+    (wanted_adapter routes one.node_guid one.number one (no_place routes.graph.switches one.node_guid attachment.no_switch) (port_is routes.graph k one is at))
+    (takes_adapter fabric good shows routes.graph k one attachment.switch routes.lids of at attachment.there few) stands
+    (subst (ChangesAt stood left result (attachment.switch.path ++ one.at.port ∷ []) 0) same changes)
 
-pub cable_told : (result : Result (Unit {0}) PushFault) (left : Option FabricState) (fabric : FabricState) (routes : RoutesState)
+pub cable_reported : (result : Result (Unit {0}) PushFault) (left : Option FabricState) (fabric : FabricState) (routes : RoutesState)
     (there : ℕ → ℕ → Bool) (one named : GraphPort) → one ≡ named
     → Leaves result left fabric (with_infos (changed_where (with_this (with_this there (guid_of routes.graph.switches one.at.node) one.at.port) one.node_guid one.number) routes) fabric)
     → Leaves result left fabric (with_infos (changed_where (λ guid number. there guid number || at_cable routes.graph.switches guid number named) routes) fabric)
-cable_told result left fabric routes there one named same leaves =
+cable_reported result left fabric routes there one named same leaves =
     subst (λ (port : GraphPort). Leaves result left fabric (with_infos (changed_where (λ guid number. there guid number || at_cable routes.graph.switches guid number port) routes) fabric)) same
     (subst (Leaves result left fabric)
-    (told_same routes fabric _ _ (λ guid number. or_first (there guid number) ((guid_of routes.graph.switches one.at.node == guid) && (one.at.port == number))
+    (reported_same routes fabric _ _ (λ guid number. or_first (there guid number) ((guid_of routes.graph.switches one.at.node == guid) && (one.at.port == number))
     ((one.node_guid == guid) && (one.number == number)))) leaves)
 
 -- ---- all cables
@@ -208,14 +204,14 @@ pub cables_begin : (stood : Option FabricState) (fabric : FabricState) (routes :
     → Stands stood fabric (with_infos (changed_where (at_switches_before routes.graph (length routes.graph.switches)) routes) fabric)
     → Stands stood fabric (with_infos (changed_where (at_first routes 0) routes) fabric)
 cables_begin stood fabric routes stands =
-    subst (Stands stood fabric) (told_same routes fabric _ _ (λ guid number. sym (or-false (at_switches_before routes.graph (length routes.graph.switches) guid number)))) stands
+    subst (Stands stood fabric) (reported_same routes fabric _ _ (λ guid number. sym (or-false (at_switches_before routes.graph (length routes.graph.switches) guid number)))) stands
 
 pub cables_more : (result : Result (Unit {0}) PushFault) (left : Option FabricState) (fabric : FabricState) (routes : RoutesState)
     (place : ℕ) (one : GraphPort) → place < length routes.graph.ports → slice_get routes.graph.ports place ≡ Some one
     → Leaves result left fabric (with_infos (changed_where (λ guid number. at_first routes place guid number || at_cable routes.graph.switches guid number one) routes) fabric)
     → Leaves result left fabric (with_infos (changed_where (at_first routes (place + 1)) routes) fabric)
 cables_more result left fabric routes place one within there leaves =
-    subst (Leaves result left fabric) (told_same routes fabric _ _ (λ guid number. each guid number)) leaves
+    subst (Leaves result left fabric) (reported_same routes fabric _ _ (λ guid number. each guid number)) leaves
   where
     each : (guid number : ℕ) → (at_first routes place guid number || at_cable routes.graph.switches guid number one) ≡ at_first routes (place + 1) guid number
     each guid number =
@@ -233,7 +229,7 @@ cables_end stood fabric routes count all stands =
     ends_as stood fabric (with_infos (changed_where (at_first routes count) routes) fabric) _ stands
     (ap (λ (ports : List GraphPort). with_infos (changed_where (λ guid number. at_switches_before routes.graph (length routes.graph.switches) guid number
     || at_cables routes.graph.switches ports guid number) routes) fabric) (take_all count routes.graph.ports all)
-    ∙ told_all routes fabric)
+    ∙ reported_all routes fabric)
 
 -- the LID that the code looked up
 pub own_change : (guid : ℕ) (given lids : List ℕ) (lid : Option ℕ) → lid ≡ lid_in given guid → given ≡ lids

@@ -13,7 +13,7 @@ use Rattle.pkey_rules.specs.declared.key_table.TheConstants.{PARTITIONS}
 use Rattle.port_model.specs.AdapterState.{AdapterState}
 use Rattle.port_model.specs.Agent.{get as adapter_gives, set as adapter_set}
 use Rattle.port_model.specs.Good.{IsGoodPort as IsGoodAdapterPort}
-use Rattle.result_words.proofs.ListLemmas.{all_have, all_there}
+use Rattle.step_results.proofs.ListLemmas.{all_have, all_there}
 use Rattle.smp_wire.specs.FabricState.{FabricState, is_switch, is_switch_at, port_count}
 use Rattle.smp_wire.specs.Get.{gives_along, node_gives}
 use Rattle.smp_wire.specs.Good.{IsGood, IsGoodNode, has_a_right_count, most_ports_of, node_guid}
@@ -22,7 +22,7 @@ use Rattle.smp_wire.specs.Shape.{IsSameShape}
 use Rattle.smp_wire.specs.Walk.{end_of}
 use Rattle.smp_wire.specs.declared.node.Node.{Node}
 use Rattle.smp_wire.specs.declared.node.Node.TheVariants.{Switch, Adapter}
-use Rattle.result_words.proofs.ElementLemmas.{get_written, or_same}
+use Rattle.step_results.proofs.ElementLemmas.{get_written, or_same}
 use Rattle.switch_model.specs.Agent.{get as switch_gives, set as switch_set}
 use Rattle.switch_model.specs.Good.{IsGoodPort as IsGoodSwitchPort}
 use Rattle.switch_model.specs.SwitchState.{SwitchState}
@@ -35,7 +35,7 @@ use Rattle.table_push.proofs.NodeLemmas.{one_changes}
 use Rattle.table_push.proofs.PartLemmas.{adapter_part_at, keys_part, other_node, switch_part_at}
 
 -- ---- one Set of a block, at either kind of node
--- what a Set of a block to these bytes makes of the table, and what a Get of it then tells
+-- what a Set of a block to these bytes makes of the table, and what a Get of it then reports
 pub record KeysSet (guid number asked in_port : ℕ) (node : Node) (keys : List ℕ) : Type 0 where
   pub takes : (change : List ℕ → List ℕ) (block : ℕ) (bytes : List ℕ) → block < 65536 → set_word_block block bytes keys ≡ Ok (change keys)
       → node_takes node in_port PKeyTable (asked * 65536 + block) bytes ≡ Some (Ok (keys_by (on_port guid number change) node))

@@ -4,12 +4,12 @@ use Rattle.std.specs.Int.{bit_at}
 use Rattle.std.specs.List.{list_any, range_with_len}
 use Rattle.std.specs.Option.{option_map_or}
 use Rattle.std.proofs.lemmas.Bool.{and_parts, and_from, cases_Bool, eqb-true, false≢true}
-use Rattle.std.proofs.lemmas.Bool.Decides.{nat_tests}
+use Rattle.std.proofs.lemmas.Bool.Decides.{nat_tests, same_from_decides}
 use Rattle.std.proofs.lemmas.Map.Keys.{any_passes_from_place}
 use Rattle.std.proofs.lemmas.Nat.Bits.{bit_at-lt, bit_at-zero, bit_at_or, bit_at_set_other, bit_at_set_same}
 use Rattle.std.proofs.lemmas.Option.{slice_get_within}
 use Rattle.fabric_parts.specs.declared.cable.PortRef.{PortRef}
-use Rattle.result_words.proofs.ListLemmas.{range_at}
+use Rattle.step_results.proofs.ListLemmas.{range_at}
 use Rattle.subnet_model.specs.declared.group_receiver.GroupReceiver.{GroupReceiver}
 use Rattle.table_push.specs.Masks.{is_hop, is_hop_to, is_in_mask, receives_of}
 use Rattle.table_push.proofs.NodeLemmas.{same_number}
@@ -61,10 +61,7 @@ abbrev pub is_reached : RoutesState → (place mlid number : ℕ) → GroupRecei
 is_reached routes place mlid number one = (one.mlid == mlid) && is_hop_to routes place number one.lid
 
 pub same_answers : (a b : Bool) → (a ≡ true → b ≡ true) → (b ≡ true → a ≡ true) → a ≡ b
-same_answers true true there back = refl
-same_answers false false there back = refl
-same_answers true false there back = sym (there refl)
-same_answers false true there back = back refl
+same_answers a b there back = same_from_decides a b (there, back) (λ is. is, λ is. is)
 
 pub record Among {X : Type 0} (p : X → Bool) (xs : List X) : Type 0 where
   pub at : ℕ
@@ -82,7 +79,7 @@ among p (x ∷ xs) any = by (p x) refl (λ rest. among p xs rest)
         let rest = more (sym (ap (λ (b : Bool). b || list_any p xs) is) ∙ any) in
         record { at = suc rest.at; one = rest.one; there = rest.there; passes = rest.passes }
 
--- a LID that hangs somewhere is one of those that are counted
+-- a LID that is attached somewhere is one of those that are counted
 counted : (homes : List PortRef) (lid n : ℕ) (test : PortRef → Bool) → length homes ≡ n → option_map_or test (home_of homes lid) false ≡ true
     → slice_get (range_with_len 1 n) (lid - 1) ≡ Some lid
 counted homes lid n test long is = by (lid == 0) refl

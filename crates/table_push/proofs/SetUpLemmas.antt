@@ -6,7 +6,7 @@ use Rattle.std.proofs.Math.Nat.{zero-add}
 use Rattle.std.proofs.lemmas.Bool.{ne_eqb}
 use Rattle.std.proofs.lemmas.Option.{same_Some, slice_get-map}
 use Rattle.std.proofs.lemmas.Simd.{map-map}
-use Rattle.result_words.proofs.ListLemmas.{range_at}
+use Rattle.step_results.proofs.ListLemmas.{range_at}
 use Rattle.agent_rules.specs.declared.power_up.TheConstants.{LINEAR_TABLE}
 use Rattle.attr_tables.specs.declared.port_info.PortInfo.{PortInfo}
 use Rattle.attr_tables.specs.declared.switch_info.SwitchInfo.{SwitchInfo}
@@ -23,13 +23,13 @@ use Rattle.table_push.specs.Linear.{linear_entry, linear_table, with_linear}
 use Rattle.table_push.specs.Nodes.{infos_by, keys_by, switch_by}
 use Rattle.table_push.specs.Ports.{change_wanted, changed, set_top, stays, with_top}
 use Rattle.table_push.specs.declared.ports.PortChange.{PortChange}
-use Rattle.table_push.proofs.CableLemmas.{own_guids, seat}
+use Rattle.table_push.proofs.CableLemmas.{own_guids, attachment}
 use Rattle.table_push.proofs.GuidLemmas.{no_place, place_is}
 use Rattle.table_push.proofs.InfoPortLemmas.{info_after_node}
 use Rattle.table_push.proofs.PartLemmas.{info_part, keys_part, other_part, part_after}
 use Rattle.table_push.proofs.SightLemmas.{infos_unseen, keys_unseen, switches_unseen}
 use Rattle.table_push.proofs.WantedChangeLemmas.{wanted_adapter, wanted_before, wanted_link, wanted_own}
-use Rattle.table_push.proofs.WantedLemmas.{guid_there, hanging_is, port_is, wanted_adapter as keys_at_adapter, wanted_own as keys_at_own, wanted_there as keys_before}
+use Rattle.table_push.proofs.WantedLemmas.{guid_there, attached_is, port_is, wanted_adapter as keys_at_adapter, wanted_own as keys_at_own, wanted_there as keys_before}
 use Rattle.updn_routes.specs.Subnet.{RoutesState, place_of}
 
 module _ (routes : RoutesState) (keys : List (List ℕ)) where
@@ -50,11 +50,11 @@ module _ (routes : RoutesState) (keys : List (List ℕ)) where
   with_all node = switch_by (with_linear routes) (keys_by with_table (with_ports node))
 
   guid_of_ports : (node : Node) → node_guid (with_ports node) ≡ node_guid node
-  guid_of_ports node = (switches_unseen (λ guid. set_top top) (λ guid held. (_, _, refl))).guid (infos_by with_info node) ∙ (infos_unseen with_info).guid node
+  guid_of_ports node = (switches_unseen (λ guid. set_top top) (λ guid held. (_, _, _, refl))).guid (infos_by with_info node) ∙ (infos_unseen with_info).guid node
 
   guid_after : (node : Node) → node_guid (with_all node) ≡ node_guid node
   guid_after node =
-      (switches_unseen (with_linear routes) (λ guid held. (_, _, refl))).guid (keys_by with_table (with_ports node))
+      (switches_unseen (with_linear routes) (λ guid held. (_, _, _, refl))).guid (keys_by with_table (with_ports node))
       ∙ (keys_unseen with_table).guid (with_ports node) ∙ guid_of_ports node
 
   info_linear : (node : Node) (number : ℕ) → port_info_at (switch_by (with_linear routes) node) number ≡ port_info_at node number
@@ -176,18 +176,18 @@ given routes keys guid lid own is stands = rw (is, stands) refl
 
 pub ports_are_served : EachPortIsServed
 ports_are_served routes keys fabric k one lid own is of at lid_is stands =
-    let sits = seat routes.graph k one is at in
+    let sits = attachment routes.graph k one is at in
     let none = no_place routes.graph.switches one.node_guid sits.no_switch in
     let guid : guid_of routes.graph.switches one.at.node ≡ sits.switch.guid = guid_there routes.graph.switches one.at.node sits.switch sits.there in
     let place : place_of routes.graph.switches (guid_of routes.graph.switches one.at.node) ≡ Some one.at.node =
     ap (place_of routes.graph.switches) guid ∙ place_is routes.graph.switches one.at.node sits.switch (own_guids routes.graph is) sits.there in
     let some : (one.at.port == 0) ≡ false = ne_eqb one.at.port 0 (λ zero. omega (arith, zero, sits.from)) in
-    let hangs = hanging_is fabric routes.graph k one of at in
+    let attached = attached_is fabric routes.graph k one of at in
     let here = port_is routes.graph k one is at in
     let has = given routes keys one.port_guid lid own lid_is stands in
     let adapter : change_wanted routes one.node_guid one.number ≡ record stays { lid = Some lid; active = true } =
     wanted_adapter routes one.node_guid one.number one none here ∙ ap (λ (o : Option ℕ). record stays { lid = o; active = true }) lid_is in
-    let before = wanted_before routes (guid_of routes.graph.switches one.at.node) one.at.node one.at.port one place some hangs in
+    let before = wanted_before routes (guid_of routes.graph.switches one.at.node) one.at.node one.at.port one place some attached in
     record {
       end_port = info_is routes keys fabric one.node_guid one.number _ (IsEndPort lid) adapter (λ info. record { gid_prefix = refl; lid_is = refl; master_sm_lid = refl });
       active = info_is routes keys fabric one.node_guid one.number _ IsActive adapter (λ info. refl);
@@ -196,7 +196,7 @@ ports_are_served routes keys fabric k one lid own is of at lid_is stands =
       before_active = info_is routes keys fabric (guid_of routes.graph.switches one.at.node) one.at.port _ IsActive before (λ info. refl);
       before_enforces = info_is routes keys fabric (guid_of routes.graph.switches one.at.node) one.at.port _ Enforces before (λ info. (refl, refl));
       before_keys = keys_are routes keys fabric (guid_of routes.graph.switches one.at.node) one.at.port (key_table true own)
-          (keys_before routes keys (guid_of routes.graph.switches one.at.node) one.at.node one.at.port (Some one) place some hangs ∙ ap (option_map (key_table true)) has);
+          (keys_before routes keys (guid_of routes.graph.switches one.at.node) one.at.node one.at.port (Some one) place some attached ∙ ap (option_map (key_table true)) has);
     }
 
 entry_at : (routes : RoutesState) (place to : ℕ) → to < LINEAR_TABLE → slice_get (linear_table routes place) to ≡ Some (linear_entry routes place to)
@@ -207,10 +207,10 @@ entry_at routes place to within =
 pub switches_are_set_up : EachSwitchIsSetUp
 switches_are_set_up routes keys fabric place switch lid own is of at lid_is stands =
     let here = place_is routes.graph.switches place switch (own_guids routes.graph is) at in
-    let told : change_wanted routes switch.guid 0 ≡ record stays { lid = Some lid } =
+    let reported : change_wanted routes switch.guid 0 ≡ record stays { lid = Some lid } =
     wanted_own routes switch.guid place here ∙ ap (λ (o : Option ℕ). record stays { lid = o }) lid_is in
     record {
-      end_port = info_is routes keys fabric switch.guid 0 _ (IsEndPort lid) told (λ info. record { gid_prefix = refl; lid_is = refl; master_sm_lid = refl });
+      end_port = info_is routes keys fabric switch.guid 0 _ (IsEndPort lid) reported (λ info. record { gid_prefix = refl; lid_is = refl; master_sm_lid = refl });
       keys = keys_are routes keys fabric switch.guid 0 (key_table false own)
           (keys_at_own routes keys switch.guid place here ∙ ap (option_map (key_table false)) (given routes keys switch.guid lid own lid_is stands));
       entries = λ node held there guid to within.

@@ -33,9 +33,10 @@ both_unseen f g outer inner = record {
   seen = λ number node. outer.seen number (g node) ∙ inner.seen number node;
 }
 
--- ---- linear tables, and SwitchInfo
+-- ---- LFTs, MFTs and SwitchInfo
 pub switches_unseen : (change : ℕ → SwitchState → SwitchState)
-    → ((guid : ℕ) (held : SwitchState) → (info : SwitchInfo) × (linear : List ℕ) × (change guid held ≡ record held { info = info; linear = linear }))
+    → ((guid : ℕ) (held : SwitchState) → (info : SwitchInfo) × (linear : List ℕ) × (masks : List (List ℕ))
+    × (change guid held ≡ record held { info = info; linear = linear; masks = masks }))
     → IsUnseen (switch_by change)
 switches_unseen change only = record { kind = kind; guid = guid; count = count; name = name; seen = seen }
   where
@@ -44,19 +45,19 @@ switches_unseen change only = record { kind = kind; guid = guid; count = count; 
     kind (Adapter ports) = refl
 
     guid : (node : Node) → node_guid (switch_by change node) ≡ node_guid node
-    guid (Switch held) = ap (λ (s : SwitchState). node_guid (Switch s)) (only held.node_guid held).2
+    guid (Switch held) = ap (λ (s : SwitchState). node_guid (Switch s)) (only held.node_guid held).3
     guid (Adapter ports) = refl
 
     count : (node : Node) → port_count (switch_by change node) ≡ port_count node
-    count (Switch held) = ap (λ (s : SwitchState). port_count (Switch s)) (only held.node_guid held).2
+    count (Switch held) = ap (λ (s : SwitchState). port_count (Switch s)) (only held.node_guid held).3
     count (Adapter ports) = refl
 
     name : (number : ℕ) (node : Node) → name_in (switch_by change node) number ≡ name_in node number
-    name number (Switch held) = ap (λ (s : SwitchState). name_in (Switch s) number) (only held.node_guid held).2
+    name number (Switch held) = ap (λ (s : SwitchState). name_in (Switch s) number) (only held.node_guid held).3
     name number (Adapter ports) = refl
 
     seen : (number : ℕ) (node : Node) → seen_in (switch_by change node) number ≡ seen_in node number
-    seen number (Switch held) = ap (λ (s : SwitchState). seen_in (Switch s) number) (only held.node_guid held).2
+    seen number (Switch held) = ap (λ (s : SwitchState). seen_in (Switch s) number) (only held.node_guid held).3
     seen number (Adapter ports) = refl
 
 -- ---- key tables, and PortInfo

@@ -1,4 +1,4 @@
--- The ports of a graph's fabric, each with the path that leads there and what it can be told.
+-- The ports of a graph's fabric, each with the path that leads there and what it can be set to.
 use Rattle.std.proofs.Common.{ℕ, zero, suc, ◌≡◌, ◌+◌, ◌<◌, ◌≤◌, ◌==◌, ◌&&◌, nat_le, nat_lt, ◌∙◌, ap, refl, sym, subst, Bool, true, false, if◌then◌else◌, List, [], ◌∷◌, ◌++◌, map, length, position, slice_get, Option, Some, None, option_map, arith}
 use Rattle.std.specs.List.{Contains}
 use Rattle.std.specs.Option.{is_some, option_map_or}
@@ -9,13 +9,13 @@ use Rattle.fabric_parts.specs.Cable.{far_end, is_cabled, port}
 use Rattle.fabric_parts.specs.declared.cable.PortRef.{PortRef}
 use Rattle.fabric_parts.specs.declared.lid.TheConstants.{LAST_UNICAST_LID}
 use Rattle.lid_assign.specs.Lids.{lid_in}
-use Rattle.result_words.proofs.ListLemmas.{all_have}
+use Rattle.step_results.proofs.ListLemmas.{all_have}
 use Rattle.smp_wire.specs.FabricState.{FabricState, is_port, is_switch, is_switch_at}
 use Rattle.smp_wire.specs.Good.{IsGood, ShowsLinks, info_at, is_up}
 use Rattle.smp_wire.specs.Shape.{IsSameShape}
 use Rattle.smp_wire.specs.Walk.{end_of}
 use Rattle.smp_wire.proofs.CableLemmas.{cabled_is_port, far_is_port}
-use Rattle.result_words.proofs.ElementLemmas.{or_same}
+use Rattle.step_results.proofs.ElementLemmas.{or_same}
 use Rattle.smp_wire.proofs.PortLemmas.{cabled_ports_are_up}
 use Rattle.sweep.specs.Graph.{GraphState}
 use Rattle.sweep.specs.OfFabric.{Found, IsGraphOf, Leads, guid_at, link_to, node_at, nodes_of, placed, ports_at, row_of}
@@ -33,7 +33,7 @@ use Rattle.table_push.specs.Nodes.{with_infos}
 use Rattle.table_push.specs.Ports.{TakesChange, changed, changed_where, stays}
 use Rattle.table_push.specs.Pushes.{IsAskedFor, LeadsToPort}
 use Rattle.table_push.specs.declared.ports.PortChange.{PortChange}
-use Rattle.table_push.proofs.HangLemmas.{adapter_leads, is_hung, switch_leads}
+use Rattle.table_push.proofs.AttachedLemmas.{adapter_leads, is_hung, switch_leads}
 use Rattle.table_push.proofs.InfoPortLemmas.{info_after}
 use Rattle.table_push.proofs.LeadLemmas.{found_at_place}
 use Rattle.table_push.proofs.PortLemmas.{port_on}
@@ -41,16 +41,16 @@ use Rattle.updn_routes.specs.Subnet.{RoutesState}
 use Rattle.smp_wire.proofs.PresentLemmas.{present_right}
 
 -- ---- a switch of the graph
-pub record Seated (fabric : FabricState) (found : List Found) (place : ℕ) (switch : GraphSwitch) : Type 0 where
+pub record Attached (fabric : FabricState) (found : List Found) (place : ℕ) (switch : GraphSwitch) : Type 0 where
   pub at : PortRef
   pub ends : end_of fabric switch.path ≡ Some at
   pub node : at.node ≡ node_at found place
   pub is : is_switch_at fabric.nodes at.node ≡ true
   pub count : switch.num_ports ≡ ports_at fabric (node_at found place)
 
-pub seated : (fabric : FabricState) (graph : GraphState) (place : ℕ) (switch : GraphSwitch) → (of : IsGraphOf graph fabric)
-    → slice_get graph.switches place ≡ Some switch → Seated fabric of.layout.found place switch
-seated fabric graph place switch of there =
+pub attached : (fabric : FabricState) (graph : GraphState) (place : ℕ) (switch : GraphSwitch) → (of : IsGraphOf graph fabric)
+    → slice_get graph.switches place ≡ Some switch → Attached fabric of.layout.found place switch
+attached fabric graph place switch of there =
     let f = found_at_place fabric of.layout.found place switch (ap (λ (switches : List GraphSwitch). slice_get switches place) (sym of.layout.switches) ∙ there) in
     let leads = all_have (Leads fabric) of.layout.found place f.0 of.lead f.1 in
     let among = among_at (nodes_of of.layout.found) place f.0.node (node_there of.layout.found place f.0 f.1) in
@@ -163,7 +163,7 @@ module _ (fabric : FabricState) (good : IsGood fabric) (shows : ShowsLinks fabri
       → slice_get graph.switches place ≡ Some switch → far_end fabric.cables (port (node_at of.layout.found place) number) ≡ Some there
       → TakesChange fabric switch.path number switch.guid number (record stays { enforcement = Some on; active = true })
   at_switch graph place number switch there on of home cable =
-      let sits = seated fabric graph place switch of home in
+      let sits = attached fabric graph place switch of home in
       let near : far_end fabric.cables (port sits.at.node number) ≡ Some there = ap (λ (n : ℕ). far_end fabric.cables (port n number)) sits.node ∙ cable in
       let is_there = cabled_is_port fabric.nodes fabric.cables (port sits.at.node number) there (present_right good) near in
       let range = in_range fabric sits.at.node number is_there in
@@ -193,7 +193,7 @@ module _ (fabric : FabricState) (good : IsGood fabric) (shows : ShowsLinks fabri
       → TakesChange fabric (switch.path ++ one.at.port ∷ []) 0 one.node_guid one.number (record stays { lid = lid_in guids one.port_guid; active = true })
   takes_adapter graph k one switch guids of there home few =
       let is = is_hung fabric graph k one of there in
-      let sits = seated fabric graph one.at.node switch of home in
+      let sits = attached fabric graph one.at.node switch of home in
       let near : far_end fabric.cables (port sits.at.node one.at.port) ≡ Some is.there =
       ap (λ (n : ℕ). far_end fabric.cables (port n one.at.port)) sits.node ∙ is.cable in
       let ends = end_more fabric switch.path sits.at is.there one.at.port sits.ends sits.is
@@ -210,7 +210,7 @@ module _ (fabric : FabricState) (good : IsGood fabric) (shows : ShowsLinks fabri
       (subst (λ (n : ℕ). is_port fabric.nodes (port is.there.node n) ≡ true) number (far_is_port fabric.nodes fabric.cables (port sits.at.node one.at.port) is.there (present_right good) near))
       (subst (λ (n : ℕ). is_cabled fabric.cables (port is.there.node n) ≡ true) number (cabled_of fabric.cables is.there (port sits.at.node one.at.port) back))
 
--- ---- a port takes a change as long as others were told
+-- ---- a port takes a change as long as others were set
 changed_up : (change : PortChange) (info : PortInfo) → is_up info ≡ true → is_up (changed change info) ≡ true
 changed_up change info up = by change.active change.lid change.enforcement
   where

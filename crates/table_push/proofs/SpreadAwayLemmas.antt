@@ -4,8 +4,8 @@ use Rattle.std.proofs.lemmas.Bool.{eqb-true, false≢true}
 use Rattle.std.proofs.lemmas.Option.{same_Some}
 use Rattle.fabric_parts.specs.Cable.{far_end, port}
 use Rattle.fabric_parts.specs.declared.cable.PortRef.{PortRef}
-use Rattle.packet_ways.specs.Forwards.{IsCabledPort}
-use Rattle.packet_ways.specs.Groups.{Copies, GoesByMasks, is_in_masks_at}
+use Rattle.delivery_laws.specs.Forwards.{IsCabledPort}
+use Rattle.delivery_laws.specs.Groups.{Copies, GoesByMasks, is_in_masks_at}
 use Rattle.port_model.specs.AdapterState.{AdapterState}
 use Rattle.smp_wire.specs.FabricState.{FabricState, is_switch_at}
 use Rattle.sweep.specs.OfFabric.{Found}
@@ -13,7 +13,7 @@ use Rattle.sweep.proofs.MetLemmas.{good_once}
 use Rattle.table_push.specs.BroughtUp.{IsBroughtUp, RoutesLeadHome}
 use Rattle.table_push.specs.Laws.{HasMasksOf}
 use Rattle.table_push.proofs.MaskHopLemmas.{IsReached, bit_reaches}
-use Rattle.table_push.proofs.SeatLemmas.{IsSeated, is_no_switch, seated}
+use Rattle.table_push.proofs.AttachmentLemmas.{IsAttached, is_no_switch, attached}
 use Rattle.table_push.proofs.SpreadStepLemmas.{by_side, faces_no_switch, home_within, no_bits, out_range, stands_switch}
 use Rattle.table_push.proofs.TreeCableLemmas.{one_node, side_cable, within_rows}
 use Rattle.table_push.proofs.TreeHopLemmas.{hop_home, neighbour_of, parted, side_port}
@@ -58,15 +58,15 @@ module _ (routes : RoutesState) (roots : List ℕ) (keys : List (List ℕ)) (fab
       λ same. onward (same_Some out number (sym q_port ∙ ap (side_port routes s) (sym same) ∙ one.2)) in
       inr (back s q, (sides.back_is q far side is).0, back_port, sides.onward one.0 q far first first_less one.1 side apart is one.3)
 
-  never_back : (mlid : ℕ) (from begin : PortRef) (sender : AdapterState) → (seat : IsSeated fabric routes.graph up.graph from begin sender)
+  never_back : (mlid : ℕ) (from begin : PortRef) (sender : AdapterState) → (attachment : IsAttached fabric routes.graph up.graph from begin sender)
       → far_end fabric.cables from ≡ Some begin → is_switch_at fabric.nodes from.node ≡ false
-      → (way : List PortRef) (here : PortRef) (s : ℕ) (found : Found) → Stands s found → found.node ≡ here.node → Enters seat.place begin.port s here.port
+      → (way : List PortRef) (here : PortRef) (s : ℕ) (found : Found) → Stands s found → found.node ≡ here.node → Enters attachment.place begin.port s here.port
       → GoesByMasks fabric.nodes fabric.cables mlid here way from → ⊥
-  never_back mlid from begin sender seat first adapter [] here s found stands node enters goes =
+  never_back mlid from begin sender attachment first adapter [] here s found stands node enters goes =
       false≢true (sym adapter ∙ ap (λ (p : PortRef). is_switch_at fabric.nodes p.node) (sym goes)
       ∙ ap (is_switch_at fabric.nodes) (sym node) ∙ stands_switch routes roots keys fabric home right up s found stands)
-  never_back mlid from begin sender seat first adapter (next ∷ later) here s found stands node enters goes =
-      by (λ far there standing same enters_far. never_back mlid from begin sender seat first adapter later next far there standing same enters_far goes.1)
+  never_back mlid from begin sender attachment first adapter (next ∷ later) here s found stands node enters goes =
+      by (λ far there standing same enters_far. never_back mlid from begin sender attachment first adapter later next far there standing same enters_far goes.1)
       (reach.home.node == s) refl
     where
       copy : Copies fabric.nodes fabric.cables mlid here next
@@ -89,14 +89,14 @@ module _ (routes : RoutesState) (roots : List ℕ) (keys : List (List ℕ)) (fab
       out_there off [] goes =
           let back = good_once fabric (port found.node copy.out) from up.good (cable ∙ ap (λ (p : PortRef). Some p) goes) in
           let same : begin ≡ port found.node copy.out = same_Some begin (port found.node copy.out) (sym first ∙ back) in
-          let place : s ≡ seat.place =
-          one_node routes roots fabric home right up.good up.graph s seat.place found seat.found stands seat.there
-          (sym (ap (λ (p : PortRef). p.node) same) ∙ sym seat.node) in
-          not_by_own seat.place begin.port s here.port copy.out less enters copy.onward place (sym (ap (λ (p : PortRef). p.port) same))
+          let place : s ≡ attachment.place =
+          one_node routes roots fabric home right up.good up.graph s attachment.place found attachment.found stands attachment.there
+          (sym (ap (λ (p : PortRef). p.node) same) ∙ sym attachment.node) in
+          not_by_own attachment.place begin.port s here.port copy.out less enters copy.onward place (sym (ap (λ (p : PortRef). p.port) same))
       out_there off (more ∷ rest) goes =
           false≢true (sym (no_bits fabric.nodes mlid (port next.node goes.0.out) off) ∙ goes.0.group)
 
-      by : ((far : ℕ) (there : Found) → Stands far there → there.node ≡ next.node → Enters seat.place begin.port far next.port → ⊥)
+      by : ((far : ℕ) (there : Found) → Stands far there → there.node ≡ next.node → Enters attachment.place begin.port far next.port → ⊥)
           → (b : Bool) → (reach.home.node == s) ≡ b → ⊥
       by on true is =
           let at = eqb-true reach.home.node s is in
@@ -113,13 +113,13 @@ module _ (routes : RoutesState) (roots : List ℕ) (keys : List (List ℕ)) (fab
           let same : port leads.there.node leads.into ≡ next =
           same_Some (port leads.there.node leads.into) next (sym leads.cable ∙ ap (λ (n : ℕ). far_end fabric.cables (port found.node n)) out ∙ cable) in
           on beside.far leads.there leads.stands (ap (λ (p : PortRef). p.node) same)
-          (enters_next seat.place begin.port s here.port copy.out beside.far next.port less
-          (within_rows routes roots fabric home right up.good up.graph seat.place seat.found seat.there) enters copy.onward one.q one.side beside.is one.port_is
+          (enters_next attachment.place begin.port s here.port copy.out beside.far next.port less
+          (within_rows routes roots fabric home right up.good up.graph attachment.place attachment.found attachment.there) enters copy.onward one.q one.side beside.is one.port_is
           (leads.into_is ∙ ap (λ (p : PortRef). Some p.port) same))
 
   pub away_there : (mlid : ℕ) (from : PortRef) (sender : AdapterState) (begin : IsCabledPort fabric from sender) (way : List PortRef)
       → GoesByMasks fabric.nodes fabric.cables mlid begin.far way from → ⊥
   away_there mlid from sender begin way goes =
-      let seat = seated fabric routes.graph from sender up.good up.graph begin in
-      never_back mlid from begin.far sender seat begin.cable (is_no_switch fabric.nodes from sender begin.there) way begin.far seat.place seat.found
-      seat.there seat.node (inl (refl, refl)) goes
+      let attachment = attached fabric routes.graph from sender up.good up.graph begin in
+      never_back mlid from begin.far sender attachment begin.cable (is_no_switch fabric.nodes from sender begin.there) way begin.far attachment.place attachment.found
+      attachment.there attachment.node (inl (refl, refl)) goes

@@ -5,7 +5,7 @@ use Rattle.std.proofs.lemmas.Bool.{eq-eqb, eqb-true, false≢true, not-true, not
 use Rattle.std.proofs.lemmas.Option.{same_Some}
 use Rattle.fabric_parts.specs.Cable.{far_end, port}
 use Rattle.fabric_parts.specs.declared.cable.PortRef.{PortRef}
-use Rattle.packet_ways.specs.Groups.{Copies, GoesByMasks, is_in_masks_at}
+use Rattle.delivery_laws.specs.Groups.{Copies, GoesByMasks, is_in_masks_at}
 use Rattle.smp_wire.specs.FabricState.{FabricState, is_switch_at}
 use Rattle.sweep.specs.OfFabric.{Found}
 use Rattle.sweep.proofs.MetLemmas.{good_once}
@@ -32,14 +32,14 @@ module _ (routes : RoutesState) (roots : List ℕ) (keys : List (List ℕ)) (fab
   abbrev Stands : ℕ → Found → Type 0
   Stands place found = slice_get up.graph.layout.found place ≡ Some found
 
-  -- a LID that receives hangs there, and the cable leads out of the tree
+  -- a LID that receives is attached there, and the cable leads out of the tree
   pub record IsEnd (mlid : ℕ) (t at : PortRef) : Type 0 where
     pub bits : HasBits mlid
     pub lid : ℕ
     pub low : 1 ≤ lid
     pub high : lid ≤ length routes.lids
     pub member : receives mlid lid ≡ true
-    pub hangs : home_of routes.between.homes lid ≡ Some t
+    pub attached : home_of routes.between.homes lid ≡ Some t
     pub some : (t.port == 0) ≡ false
     pub last : Found
     pub stands : Stands t.node last
@@ -55,7 +55,7 @@ module _ (routes : RoutesState) (roots : List ℕ) (keys : List (List ℕ)) (fab
   copies mlid t at end s found here next number stands node hop away cable =
       let few = out_range routes roots keys fabric home right up found.node number next cable in
       let set = bit_is_set routes fabric home.graph up.graph receives has s found stands mlid number few.1 end.bits
-      (in_mask routes receives s mlid number end.lid t end.low end.high end.member end.hangs end.some hop) in
+      (in_mask routes receives s mlid number end.lid t end.low end.high end.member end.attached end.some hop) in
       record {
         out = number;
         onward = λ same. away (hop ∙ ap (λ (n : ℕ). Some n) same);
@@ -63,7 +63,7 @@ module _ (routes : RoutesState) (roots : List ℕ) (keys : List (List ℕ)) (fab
         cable = ap (λ (n : ℕ). far_end fabric.cables (port n number)) (sym node) ∙ cable;
       }
 
-  -- at the switch where it hangs
+  -- at the switch where it is attached
   arrive : (mlid : ℕ) (t at : PortRef) → IsEnd mlid t at → (s : ℕ) (found : Found) (here : PortRef) → Stands s found → found.node ≡ here.node
       → (tree_hop routes s t ≡ Some here.port → ⊥) → t.node ≡ s → Way mlid here at
   arrive mlid t at end s found here stands node away is =
@@ -91,7 +91,7 @@ module _ (routes : RoutesState) (roots : List ℕ) (keys : List (List ℕ)) (fab
       less = within_rows routes roots fabric home right up.good up.graph s found stands
 
       there_less : t.node < length rows
-      there_less = home_within routes roots keys fabric home right up end.lid t end.hangs
+      there_less = home_within routes roots keys fabric home right up end.lid t end.attached
 
       one : IsSideCable routes roots fabric home right up.good up.graph s q far found
       one = side_cable routes roots fabric home right up.good up.graph s q far found stands side is
@@ -153,7 +153,7 @@ module _ (routes : RoutesState) (roots : List ℕ) (keys : List (List ℕ)) (fab
       by : (b : Bool) → (t.node == s) ≡ b → Way mlid here at
       by true is = arrive mlid t at end s found here stands node away (eqb-true t.node s is)
       by false apart =
-          let there_less = home_within routes roots keys fabric home right up end.lid t end.hangs in
+          let there_less = home_within routes roots keys fabric home right up end.lid t end.attached in
           let one = (parted routes roots home right s less).some t.node there_less (λ same. false≢true (sym apart ∙ eq-eqb t.node s same)) in
           by_side_of one.0 one.1 one.2
 

@@ -8,10 +8,10 @@ use Rattle.fabric_parts.specs.Cable.{far_end, port}
 use Rattle.fabric_parts.specs.declared.cable.PortRef.{PortRef}
 use Rattle.lid_assign.specs.Lids.{guid_in, lid_in}
 use Rattle.lid_assign.proofs.LawLemmas.{lids_and_guids_name_each_other}
-use Rattle.packet_ways.specs.Forwards.{IsCabledPort}
-use Rattle.packet_ways.specs.Groups.{is_in_masks_at, is_in_node_masks}
+use Rattle.delivery_laws.specs.Forwards.{IsCabledPort}
+use Rattle.delivery_laws.specs.Groups.{is_in_masks_at, is_in_node_masks}
 use Rattle.port_model.specs.AdapterState.{AdapterState}
-use Rattle.result_words.proofs.ListLemmas.{all_there}
+use Rattle.step_results.proofs.ListLemmas.{all_there}
 use Rattle.smp_wire.proofs.CableLemmas.{cabled_is_port}
 use Rattle.smp_wire.proofs.PresentLemmas.{present_right}
 use Rattle.smp_wire.specs.FabricState.{FabricState, is_switch, is_switch_at}
@@ -24,10 +24,10 @@ use Rattle.sweep.proofs.LeastLemmas.{in_range}
 use Rattle.sweep.proofs.ProgressLemmas.{node_of}
 use Rattle.table_push.specs.BroughtUp.{IsBroughtUp, RoutesLeadHome}
 use Rattle.table_push.specs.Masks.{tree_hop}
-use Rattle.table_push.proofs.HangLemmas.{is_hung, one_hangs}
-use Rattle.table_push.proofs.HomeLemmas.{at_home, home_at, home_of_port, port_home}
+use Rattle.table_push.proofs.AttachedLemmas.{is_hung, one_is_attached}
+use Rattle.table_push.proofs.HomeLemmas.{at_home, home_at, home_of_port, home_there, port_home}
 use Rattle.table_push.proofs.OwnLemmas.{few_ports}
-use Rattle.table_push.proofs.SeatLemmas.{IsSeated}
+use Rattle.table_push.proofs.AttachmentLemmas.{IsAttached}
 use Rattle.table_push.proofs.TreeCableLemmas.{side_cable, within_rows}
 use Rattle.table_push.proofs.TreeHopLemmas.{hop_by_side, neighbour_of, parted, side_port}
 use Rattle.updn_routes.specs.Routes.{home_of}
@@ -35,13 +35,6 @@ use Rattle.updn_routes.specs.Sides.{IsSide, Side, is_behind}
 use Rattle.updn_routes.specs.Subnet.{RoutesState, home_in}
 use Rattle.updn_routes.specs.Tree.{AreDepths}
 use Rattle.updn_routes.specs.declared.link.Link.{Link}
-
-home_there : (homes : List PortRef) (lid : ℕ) (home : PortRef) → home_of homes lid ≡ Some home → slice_get homes (lid - 1) ≡ Some home
-home_there homes lid home is = by (lid == 0) is
-  where
-    by : (b : Bool) → (if b then None else slice_get homes (lid - 1)) ≡ Some home → slice_get homes (lid - 1) ≡ Some home
-    by true is = absurd (none-some home is)
-    by false is = is
 
 pub lid_range : (lids : List ℕ) (lid guid : ℕ) → guid_in lids lid ≡ Some guid → (1 ≤ lid) × (lid ≤ length lids)
 lid_range lids lid guid named = by (lid == 0) refl named
@@ -119,30 +112,30 @@ module _ (routes : RoutesState) (roots : List ℕ) (keys : List (List ℕ)) (fab
   pub named : (at : PortRef) (one : AdapterState) → IsCabledPort fabric at one → guid_in routes.lids one.info.lid ≡ Some one.port_guid
   named at one cabled = (lids_and_guids_name_each_other routes.lids one.port_guid one.info.lid home.own_lids).0 (up.lids at one cabled)
 
-  -- the LID of a port of a channel adapter hangs where its cable leads
-  pub port_hangs : (at back : PortRef) (one : AdapterState) → IsCabledPort fabric at one → (seat : IsSeated fabric routes.graph up.graph at back one)
-      → home_of routes.between.homes one.info.lid ≡ Some (port seat.place back.port)
-  port_hangs at back one cabled seat =
+  -- the LID of a port of a channel adapter is attached where its cable leads
+  pub port_attached : (at back : PortRef) (one : AdapterState) → IsCabledPort fabric at one → (attachment : IsAttached fabric routes.graph up.graph at back one)
+      → home_of routes.between.homes one.info.lid ≡ Some (port attachment.place back.port)
+  port_attached at back one cabled attachment =
       ap (λ (homes : List PortRef). home_of homes one.info.lid) home.of.homes_are
       ∙ home_at routes.graph routes.lids one.info.lid one.port_guid (named at one cabled)
-      ∙ ap (λ (guid : ℕ). Some (home_in routes.graph guid)) (sym seat.guid_is)
-      ∙ ap (λ (p : PortRef). Some p) (port_home routes.graph seat.index seat.hung home.graph seat.has ∙ seat.at_is)
+      ∙ ap (λ (guid : ℕ). Some (home_in routes.graph guid)) (sym attachment.guid_is)
+      ∙ ap (λ (p : PortRef). Some p) (port_home routes.graph attachment.index attachment.hung home.graph attachment.has ∙ attachment.at_is)
 
-  -- and no other LID hangs there
-  pub one_hanging : (at back : PortRef) (one : AdapterState) → IsCabledPort fabric at one → (seat : IsSeated fabric routes.graph up.graph at back one)
-      → (lid : ℕ) (h : PortRef) → home_of routes.between.homes lid ≡ Some h → h ≡ port seat.place back.port → (h.port == 0) ≡ false
+  -- and no other LID is attached there
+  pub one_attached : (at back : PortRef) (one : AdapterState) → IsCabledPort fabric at one → (attachment : IsAttached fabric routes.graph up.graph at back one)
+      → (lid : ℕ) (h : PortRef) → home_of routes.between.homes lid ≡ Some h → h ≡ port attachment.place back.port → (h.port == 0) ≡ false
       → one.info.lid ≡ lid
-  one_hanging at back one cabled seat lid h is same some =
+  one_attached at back one cabled attachment lid h is same some =
       let whose = at_home routes.graph routes.lids lid h (ap (λ (homes : List PortRef). home_of homes lid) (sym home.of.homes_are) ∙ is) in
       let hung = home_of_port routes.graph whose.guid h whose.is some in
-      let who : hung.one ≡ seat.hung =
-      one_hangs fabric routes.graph hung.index seat.index hung.one seat.hung up.graph hung.there seat.has (hung.at_is ∙ same ∙ sym seat.at_is) in
-      let guid : whose.guid ≡ one.port_guid = sym hung.guid_is ∙ ap (λ (p : GraphPort). p.port_guid) who ∙ seat.guid_is in
+      let who : hung.one ≡ attachment.hung =
+      one_is_attached fabric routes.graph hung.index attachment.index hung.one attachment.hung up.graph hung.there attachment.has (hung.at_is ∙ same ∙ sym attachment.at_is) in
+      let guid : whose.guid ≡ one.port_guid = sym hung.guid_is ∙ ap (λ (p : GraphPort). p.port_guid) who ∙ attachment.guid_is in
       let mine : lid_in routes.lids one.port_guid ≡ Some lid =
       ap (lid_in routes.lids) (sym guid) ∙ (lids_and_guids_name_each_other routes.lids whose.guid lid home.own_lids).1 whose.named in
       same_Some one.info.lid lid (sym (up.lids at one cabled) ∙ mine)
 
-  -- a port at which a LID hangs faces no switch
+  -- a port at which a LID is attached faces no switch
   pub faces_no_switch : (s : ℕ) (found : Found) → Stands s found → (lid : ℕ) (h at : PortRef) → home_of routes.between.homes lid ≡ Some h
       → (h.port == 0) ≡ false → h.node ≡ s → far_end fabric.cables (port found.node h.port) ≡ Some at → is_switch_at fabric.nodes at.node ≡ false
   faces_no_switch s found stands lid h at is some here cable =

@@ -6,7 +6,7 @@ use Rattle.std.proofs.lemmas.Bool.{eq-eqb, lt-ltb}
 use Rattle.std.proofs.lemmas.List.{length-map, take_all}
 use Rattle.std.proofs.lemmas.List.Folds.{list_any_more}
 use Rattle.std.proofs.lemmas.Option.{get_or_from_slice_get, slice_get-get_or}
-use Rattle.agent_rules.proofs.CarriedLemmas.{spelled_is_read}
+use Rattle.agent_rules.proofs.CarriedLemmas.{encoded_is_read}
 use Rattle.attr_tables.specs.SwitchInfo.{switch_info, switch_info_bytes}
 use Rattle.attr_tables.specs.declared.smp_attribute.SmpAttribute.TheVariants.{SwitchInfo as SwitchInfoAsked}
 use Rattle.attr_tables.specs.declared.switch_info.SwitchInfo.{SwitchInfo}
@@ -17,7 +17,7 @@ use Rattle.mad_layout.proofs.LayoutLemmas.{holds_put_all}
 use Rattle.smp_wire.specs.FabricState.{FabricState, is_switch, is_switch_at}
 use Rattle.smp_wire.specs.Get.{gives_along}
 use Rattle.smp_wire.specs.Good.{IsGood, node_guid}
-use Rattle.smp_wire.specs.Replies.{told_for}
+use Rattle.smp_wire.specs.Replies.{reported_for}
 use Rattle.smp_wire.specs.declared.node.Node.{Node}
 use Rattle.smp_wire.specs.declared.node.Node.TheVariants.{Switch, Adapter}
 use Rattle.smp_wire.specs.declared.reply.ReplyFault.{ReplyFault}
@@ -88,34 +88,34 @@ takes_top : (held : SwitchState) (lid : ℕ) (bytes : List ℕ) → lid < 512 �
     → bytes ≡ switch_info_bytes (with_top lid held.info) → switch_set held SwitchInfoAsked 0 bytes ≡ Ok (set_top lid held)
 unfolding switch_set
 takes_top held lid bytes small long fits same =
-    rw (same, spelled_is_read.linear_fdb_top (with_top lid held.info) (top_fits lid held.info small fits), long, lt-ltb lid 512 small) refl
+    rw (same, encoded_is_read.linear_fdb_top (with_top lid held.info) (top_fits lid held.info small fits), long, lt-ltb lid 512 small) refl
 
 compares : (bytes : List ℕ) → compared SwitchInfoAsked bytes bytes ≡ bytes
 unfolding compared
 compares bytes = refl
 
 same_bytes : (fabric : FabricState) (path bytes some : List ℕ) → gives_along fabric path SwitchInfoAsked 0 ≡ Some (Ok some)
-    → Ok bytes ≡ told_for (gives_along fabric path SwitchInfoAsked 0) → bytes ≡ some
-same_bytes fabric path bytes some gives tells = same (tells ∙ ap told_for gives)
+    → Ok bytes ≡ reported_for (gives_along fabric path SwitchInfoAsked 0) → bytes ≡ some
+same_bytes fabric path bytes some gives reports = same (reports ∙ ap reported_for gives)
   where
     same : ◌≡◌ {A = Result (List ℕ) ReplyFault} (Ok bytes) (Ok some) → bytes ≡ some
     same h = cc
 
--- it is told, and no fault
+-- it is reported, and no fault
 pub no_refusal : (fabric : FabricState) (path : List ℕ) (guid : ℕ) (fault : ReplyFault) → LeadsToSwitch fabric path guid
-    → Err fault ≡ told_for (gives_along fabric path SwitchInfoAsked 0) → ⊥
-no_refusal fabric path guid fault leads tells =
-    let same = tells ∙ ap told_for (given fabric path guid (switch_there fabric path guid leads)) in
+    → Err fault ≡ reported_for (gives_along fabric path SwitchInfoAsked 0) → ⊥
+no_refusal fabric path guid fault leads reports =
+    let same = reports ∙ ap reported_for (given fabric path guid (switch_there fabric path guid leads)) in
     absurd (cc)
 
 pub top_set : (fabric : FabricState) (stood left : Option FabricState) (result : Result (Unit {0}) PushFault) (path : List ℕ) (guid lid : ℕ) (read : SwitchInfo)
     (bytes wanted : List ℕ) → IsGood fabric → stood ≡ Some fabric → LeadsToSwitch fabric path guid → lid < 512
-    → Ok bytes ≡ told_for (gives_along fabric path SwitchInfoAsked 0) → Holds bytes (switch_info read) → wanted ≡ switch_info_bytes (with_top lid read)
+    → Ok bytes ≡ reported_for (gives_along fabric path SwitchInfoAsked 0) → Holds bytes (switch_info read) → wanted ≡ switch_info_bytes (with_top lid read)
     → SetsAt stood left result path SwitchInfoAsked 0 wanted → Leaves result left fabric (with_switches (on_switch guid (set_top lid)) fabric)
-top_set fabric stood left result path guid lid read bytes wanted good stands leads small tells holds is sets =
+top_set fabric stood left result path guid lid read bytes wanted good stands leads small reports holds is sets =
     let here = switch_there fabric path guid leads in
     let fine = good_switch fabric path guid good here in
-    let are = same_bytes fabric path bytes (switch_info_bytes here.held.info) (given fabric path guid here) tells in
+    let are = same_bytes fabric path bytes (switch_info_bytes here.held.info) (given fabric path guid here) reports in
     let same : read ≡ here.held.info =
     info_is (switch_info_bytes here.held.info) read here.held.info (subst (λ (some : List ℕ). Holds some (switch_info read)) are holds) (info_holds here.held.info fine.info) in
     let wanted_is : wanted ≡ switch_info_bytes (with_top lid here.held.info) = is ∙ ap (λ (info : SwitchInfo). switch_info_bytes (with_top lid info)) same in
@@ -218,9 +218,9 @@ whole routes fabric lid is =
     ap (λ (n : ℕ). with_switches (λ guid. set_top n) (with_infos (λ guid number. changed (change_wanted routes guid number)) fabric)) is
 
 -- the greatest LID is the number of LIDs, which is that of end ports
-pub greatest : (graph told : GraphState) (switches : List GraphSwitch) (ports : List GraphPort) (lids : List ℕ) → AreLids (end_ports graph) lids → told ≡ graph
-    → switches ≡ told.switches → ports ≡ told.ports → length switches + length ports ≡ length lids
-greatest graph told switches ports lids are same switches_are ports_are =
+pub greatest : (graph reported : GraphState) (switches : List GraphSwitch) (ports : List GraphPort) (lids : List ℕ) → AreLids (end_ports graph) lids → reported ≡ graph
+    → switches ≡ reported.switches → ports ≡ reported.ports → length switches + length ports ≡ length lids
+greatest graph reported switches ports lids are same switches_are ports_are =
     let count = length-append (map switch_end graph.switches) (map (adapter_end graph.manager) graph.ports) in
     let left = length-map graph.switches switch_end in
     let right = length-map graph.ports (adapter_end graph.manager) in

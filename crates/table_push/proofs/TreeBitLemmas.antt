@@ -12,14 +12,14 @@ use Rattle.std.proofs.lemmas.Nat.{and_le_r}
 use Rattle.std.proofs.lemmas.Nat.Bits.{bit_at-lt, bit_at-trailing_zeros, bit_at_and}
 use Rattle.fabric_parts.specs.declared.lid.TheConstants.{FIRST_MULTICAST_LID}
 use Rattle.std.proofs.lemmas.Option.{none-some, same_Some}
-use Rattle.result_words.proofs.ListLemmas.{found_passes, range_at}
-use Rattle.result_words.proofs.TestLemmas.{same_and}
+use Rattle.step_results.proofs.ListLemmas.{found_passes, range_at}
+use Rattle.step_results.proofs.TestLemmas.{same_and}
 use Rattle.subnet_model.specs.declared.group_receiver.GroupReceiver.{GroupReceiver}
 use Rattle.attr_tables.specs.Blocks.{block_of}
 use Rattle.table_push.proofs.MaskLemmas.{bit_where}
 use Rattle.table_push.proofs.MaskWordLemmas.{block_is}
-use Rattle.table_push.specs.Masks.{LiesInTable, bits_where, child_towards, is_in_mask, mask_of_position, receives_of, tree_end, tree_hop, wanted_slice}
-use Rattle.table_push.specs.MaskSteps.{AreHanging, AreReceiversBits, AreSliceBits, hangs_at, hangs_on, is_that_port, leads_away, some_receives, words_at}
+use Rattle.table_push.specs.Masks.{LiesInTable, bits_where, child_towards, is_in_mask, mask_of_position, receives_of, tree_end, tree_hop, wanted_range}
+use Rattle.table_push.specs.MaskSteps.{AreAttached, AreReceiversBits, AreRangeBits, is_attached_at, is_attached_to, is_that_port, leads_away, some_receives, words_at}
 use Rattle.table_push.specs.PlaceSteps.{IsUnturned}
 use Rattle.table_push.specs.TreeSteps.{AreSpread, IsTree, blocks_of, leads_down, leads_up, meets, some_lead_down}
 use Rattle.table_push.specs.declared.trees.Tree.{Tree}
@@ -311,40 +311,48 @@ or_joined : (a b c : Bool) → ((a || b) || c) ≡ (a || (b || c))
 or_joined true b c = refl
 or_joined false b c = refl
 
--- what hangs on its ports, and what they lead to along the tree, make its mask
-pub mask_is : (routes : RoutesState) (tree : Tree) (place partition : ℕ) (receivers : List GroupReceiver) (switches : ℕ → ℕ) → AreOfGraph routes → AreRoutes routes.between
-    → place < 64 → IsTree routes tree 64 → AreReceiversBits 64 partition receivers (hangs_on routes.between.homes) switches → (i number : ℕ) → i < 32 → number < 48
-    → ((some_receives receivers (FIRST_MULTICAST_LID + (32 * partition + i)) (λ lid. hangs_at routes.between.homes place lid number) || leads_up tree (switches i) place number)
-    || some_lead_down tree 64 (switches i) place number)
-    ≡ is_in_mask routes (receives_of receivers) place (FIRST_MULTICAST_LID + (32 * partition + i)) number
-mask_is routes tree place partition receivers switches of are low is_tree on i number within below =
-    let mlid = FIRST_MULTICAST_LID + (32 * partition + i) in
+-- what is attached to its ports, and what they lead to along the tree, make its mask
+pub one_mask_is : (routes : RoutesState) (tree : Tree) (place mlid : ℕ) (receivers : List GroupReceiver) (marks : ℕ) → AreOfGraph routes → AreRoutes routes.between
+    → place < 64 → IsTree routes tree 64
+    → ((t : ℕ) → t < 64 → (bit_at marks t == 1) ≡ some_receives receivers mlid (λ lid. is_attached_to routes.between.homes lid t)) → (number : ℕ) → number < 48
+    → ((some_receives receivers mlid (λ lid. is_attached_at routes.between.homes place lid number) || leads_up tree marks place number)
+    || some_lead_down tree 64 marks place number)
+    ≡ is_in_mask routes (receives_of receivers) place mlid number
+one_mask_is routes tree place mlid receivers marks of are low is_tree on number below =
     let long : length routes.between.homes ≡ length routes.lids = ap length of.homes_are ∙ length-map routes.lids (home_in routes.graph) in
-    let own = some_receives receivers mlid (λ lid. hangs_at routes.between.homes place lid number) in
-    let marks = switches i in
+    let own = some_receives receivers mlid (λ lid. is_attached_at routes.between.homes place lid number) in
     or_joined own (leads_up tree marks place number) (some_lead_down tree 64 marks place number)
     ∙ ap (λ (b : Bool). own || b)
     (sides_are routes tree marks place number is_tree are.few low below
     ∙ range_same (marked_away routes marks place number) (away routes place mlid number receivers) 0 64
-    (λ t few. same_and (bit_at marks t == 1) (some_receives receivers mlid (λ lid. hangs_on routes.between.homes lid t))
-    (leads_away routes place t number) (leads_away routes place t number) (on i t within few) refl))
+    (λ t few. same_and (bit_at marks t == 1) (some_receives receivers mlid (λ lid. is_attached_to routes.between.homes lid t))
+    (leads_away routes place t number) (leads_away routes place t number) (on t few) refl))
     ∙ turned routes place mlid number receivers are
     ∙ reached_is routes place mlid number receivers long
 
+-- and so for each multicast LID of the MLID range of a partition
+pub mask_is : (routes : RoutesState) (tree : Tree) (place partition : ℕ) (receivers : List GroupReceiver) (switches : ℕ → ℕ) → AreOfGraph routes → AreRoutes routes.between
+    → place < 64 → IsTree routes tree 64 → AreReceiversBits 64 partition receivers (is_attached_to routes.between.homes) switches → (i number : ℕ) → i < 32 → number < 48
+    → ((some_receives receivers (FIRST_MULTICAST_LID + (32 * partition + i)) (λ lid. is_attached_at routes.between.homes place lid number) || leads_up tree (switches i) place number)
+    || some_lead_down tree 64 (switches i) place number)
+    ≡ is_in_mask routes (receives_of receivers) place (FIRST_MULTICAST_LID + (32 * partition + i)) number
+mask_is routes tree place partition receivers switches of are low is_tree on i number within below =
+    one_mask_is routes tree place (FIRST_MULTICAST_LID + (32 * partition + i)) receivers (switches i) of are low is_tree (λ t few. on i t within few) number below
+
 pub spread_masks_are : (routes : RoutesState) (tree : Tree) (place partition : ℕ) (receivers : List GroupReceiver) (ports masks : List (List ℕ)) (switches : List ℕ)
-    → AreOfGraph routes → AreRoutes routes.between → place < 64 → IsTree routes tree 64 → AreHanging routes partition receivers ports switches
+    → AreOfGraph routes → AreRoutes routes.between → place < 64 → IsTree routes tree 64 → AreAttached routes partition receivers ports switches
     → length masks ≡ 32 → AreSpread tree ports switches 32 masks
-    → AreSliceBits routes partition (receives_of receivers) place (map (λ row. get_or row place 0) masks)
-spread_masks_are routes tree place partition receivers ports masks switches of are low is_tree hanging count spread i within number below =
+    → AreRangeBits routes partition (receives_of receivers) place (map (λ row. get_or row place 0) masks)
+spread_masks_are routes tree place partition receivers ports masks switches of are low is_tree attached count spread i within number below =
     let marks = get_or switches i 0 in
     ap (λ (n : ℕ). bit_at n number == 1) (get_or-map (λ (row : List ℕ). get_or row place 0) masks i [] 0 (omega (arith, within, count)))
     ∙ spread i within place number low
-    ∙ ap (λ (b : Bool). (b || leads_up tree marks place number) || some_lead_down tree 64 marks place number) (hanging.of_ports place low i number within below)
-    ∙ mask_is routes tree place partition receivers (λ i. get_or switches i 0) of are low is_tree hanging.of_switches i number within below
+    ∙ ap (λ (b : Bool). (b || leads_up tree marks place number) || some_lead_down tree 64 marks place number) (attached.of_ports place low i number within below)
+    ∙ mask_is routes tree place partition receivers (λ i. get_or switches i 0) of are low is_tree attached.of_switches i number within below
 
 blocks_are : (routes : RoutesState) (place partition : ℕ) (receives : ℕ → ℕ → Bool) (bits : List ℕ) → LiesInTable partition → length bits ≡ 32
-    → AreSliceBits routes partition receives place bits
-    → words_at 0 bits ∷ words_at 1 bits ∷ words_at 2 bits ∷ [] ≡ wanted_slice routes partition receives place
+    → AreRangeBits routes partition receives place bits
+    → words_at 0 bits ∷ words_at 1 bits ∷ words_at 2 bits ∷ [] ≡ wanted_range routes partition receives place
 blocks_are routes place partition receives bits below long right =
     let block : (position : ℕ) → position < 3 → words_at position bits ≡ block_of 32 partition (mask_of_position routes receives place position) =
     λ position few. block_is routes partition place position receives bits below few long right in
@@ -354,22 +362,22 @@ blocks_are routes place partition receives bits below long right =
     λ i. first i ∷ second i ∷ third i ∷ []
 
 pub wanted_is : (routes : RoutesState) (tree : Tree) (place partition : ℕ) (receivers : List GroupReceiver) (ports masks blocks : List (List ℕ)) (switches : List ℕ)
-    → LiesInTable partition → AreOfGraph routes → AreRoutes routes.between → place < 64 → IsTree routes tree 64 → AreHanging routes partition receivers ports switches
-    → length masks ≡ 32 → AreSpread tree ports switches 32 masks → blocks ≡ blocks_of masks place → blocks ≡ wanted_slice routes partition (receives_of receivers) place
-wanted_is routes tree place partition receivers ports masks blocks switches below of are low is_tree hanging count spread is =
+    → LiesInTable partition → AreOfGraph routes → AreRoutes routes.between → place < 64 → IsTree routes tree 64 → AreAttached routes partition receivers ports switches
+    → length masks ≡ 32 → AreSpread tree ports switches 32 masks → blocks ≡ blocks_of masks place → blocks ≡ wanted_range routes partition (receives_of receivers) place
+wanted_is routes tree place partition receivers ports masks blocks switches below of are low is_tree attached count spread is =
     is ∙ blocks_are routes place partition (receives_of receivers) (map (λ (row : List ℕ). get_or row place 0) masks) below
     (length-map masks (λ (row : List ℕ). get_or row place 0) ∙ count)
-    (spread_masks_are routes tree place partition receivers ports masks switches of are low is_tree hanging count spread)
+    (spread_masks_are routes tree place partition receivers ports masks switches of are low is_tree attached count spread)
 
 -- the blocks of one switch
 pub place_wanted : (routes : RoutesState) (tree : Tree) (place partition : ℕ) (receivers : List GroupReceiver) (ports bits switches : List ℕ)
     → LiesInTable partition → AreOfGraph routes → AreRoutes routes.between → place < 64 → IsTree routes tree 64
-    → AreReceiversBits 48 partition receivers (hangs_at routes.between.homes place) (λ i. get_or ports i 0)
-    → AreReceiversBits 64 partition receivers (hangs_on routes.between.homes) (λ i. get_or switches i 0)
+    → AreReceiversBits 48 partition receivers (is_attached_at routes.between.homes place) (λ i. get_or ports i 0)
+    → AreReceiversBits 64 partition receivers (is_attached_to routes.between.homes) (λ i. get_or switches i 0)
     → length bits ≡ 32
     → ((i number : ℕ) → i < 32 → (bit_at (get_or bits i 0) number == 1)
     ≡ (((bit_at (get_or ports i 0) number == 1) || leads_up tree (get_or switches i 0) place number) || some_lead_down tree 64 (get_or switches i 0) place number))
-    → words_at 0 bits ∷ words_at 1 bits ∷ words_at 2 bits ∷ [] ≡ wanted_slice routes partition (receives_of receivers) place
+    → words_at 0 bits ∷ words_at 1 bits ∷ words_at 2 bits ∷ [] ≡ wanted_range routes partition (receives_of receivers) place
 place_wanted routes tree place partition receivers ports bits switches below of are low is_tree at on long spread =
     blocks_are routes place partition (receives_of receivers) bits below long
     (λ i within number few.
@@ -381,12 +389,12 @@ place_wanted routes tree place partition receivers ports bits switches below of 
 -- a switch whose masks are the same after as before
 pub wanted_stays : (routes : RoutesState) (tree : Tree) (place partition : ℕ) (before after : List GroupReceiver) (switches_before switches_after : List ℕ)
     → LiesInTable partition → AreOfGraph routes → AreRoutes routes.between → place < 64 → IsTree routes tree 64
-    → AreReceiversBits 64 partition before (hangs_on routes.between.homes) (λ i. get_or switches_before i 0)
-    → AreReceiversBits 64 partition after (hangs_on routes.between.homes) (λ i. get_or switches_after i 0)
-    → ((mlid number : ℕ) → some_receives before mlid (λ lid. hangs_at routes.between.homes place lid number)
-    ≡ some_receives after mlid (λ lid. hangs_at routes.between.homes place lid number))
+    → AreReceiversBits 64 partition before (is_attached_to routes.between.homes) (λ i. get_or switches_before i 0)
+    → AreReceiversBits 64 partition after (is_attached_to routes.between.homes) (λ i. get_or switches_after i 0)
+    → ((mlid number : ℕ) → some_receives before mlid (λ lid. is_attached_at routes.between.homes place lid number)
+    ≡ some_receives after mlid (λ lid. is_attached_at routes.between.homes place lid number))
     → ((i : ℕ) → i < 32 → IsUnturned tree (get_or switches_before i 0) (get_or switches_after i 0) place)
-    → wanted_slice routes partition (receives_of before) place ≡ wanted_slice routes partition (receives_of after) place
+    → wanted_range routes partition (receives_of before) place ≡ wanted_range routes partition (receives_of after) place
 wanted_stays routes tree place partition before after switches_before switches_after below of are low is_tree on_before on_after own ways =
     sym (blocks_are routes place partition (receives_of before) bits below long bits_are)
     ∙ blocks_are routes place partition (receives_of after) bits below long
@@ -401,7 +409,7 @@ wanted_stays routes tree place partition before after switches_before switches_a
     long : length bits ≡ 32
     long = length-map-range_with_len word 0 32
 
-    bits_are : AreSliceBits routes partition (receives_of before) place bits
+    bits_are : AreRangeBits routes partition (receives_of before) place bits
     bits_are i within number few =
         ap (λ (n : ℕ). bit_at n number == 1) (get_or-map-range_with_len word 0 32 i i 0 within (zero-add i))
         ∙ bit_where 48 (is_in_mask routes (receives_of before) place (FIRST_MULTICAST_LID + (32 * partition + i))) number few
@@ -413,5 +421,5 @@ wanted_stays routes tree place partition before after switches_before switches_a
         let turn = ways i within number in
         sym (mask_is routes tree place partition before (λ i. get_or switches_before i 0) of are low is_tree on_before i number within few)
         ∙ ap (λ (b : Bool). (b || leads_up tree (get_or switches_before i 0) place number) || some_lead_down tree 64 (get_or switches_before i 0) place number) (own mlid number)
-        ∙ (λ k. (some_receives after mlid (λ lid. hangs_at routes.between.homes place lid number) || turn.0 k) || turn.1 k)
+        ∙ (λ k. (some_receives after mlid (λ lid. is_attached_at routes.between.homes place lid number) || turn.0 k) || turn.1 k)
         ∙ mask_is routes tree place partition after (λ i. get_or switches_after i 0) of are low is_tree on_after i number within few

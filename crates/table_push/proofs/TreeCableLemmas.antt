@@ -22,11 +22,11 @@ use Rattle.updn_routes.specs.Tree.{AreDepths, tree_link, tree_port}
 use Rattle.updn_routes.specs.declared.link.Link.{Link}
 use Rattle.table_push.specs.BroughtUp.{RoutesLeadHome}
 use Rattle.table_push.specs.Masks.{link_at, tree_end}
-use Rattle.table_push.proofs.HangLemmas.{found_is}
+use Rattle.table_push.proofs.AttachedLemmas.{found_is}
 use Rattle.table_push.proofs.TreeHopLemmas.{neighbour_of, parted, side_port}
 
 -- ---- links of a row
--- the cable at the link's port leads to a switch, and the link tells to which
+-- the cable at the link's port leads to a switch, and the link reports to which
 record IsLinkOf (fabric : FabricState) (nodes : List ℕ) (node : ℕ) (link : GraphLink) : Type 0 where
   there : PortRef
   cable : far_end fabric.cables (port node link.port) ≡ Some there

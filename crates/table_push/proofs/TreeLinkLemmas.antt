@@ -79,7 +79,7 @@ own_link test (link ∷ links) one up found = by (test link) refl (own_link test
         let other : (link.port == one.port) ≡ false = ne_eqb link.port one.port (λ same. omega (arith, more, same)) in
         rw other (rest there)
 
--- ---- what the link tells
+-- ---- what the link reports
 module _ (routes : RoutesState) (are : AreRoutes routes.between) (of : AreOfGraph routes) (s : ℕ) where
   abbrev rows : List (List Link)
   rows = routes.between.rows

@@ -1,25 +1,21 @@
 -- What is kept of the tree, and the masks that are made of it.
-use Rattle.std.proofs.Common.{ℕ, zero, suc, ◌≡◌, ◌+◌, ◌-◌, ◌^◌, ◌<◌, ◌==◌, ◌&&◌, ◌||◌, not, ◌∙◌, ap, refl, sym, subst, Bool, true, false, if◌then◌else◌, List, [], ◌∷◌, length, get_or, bit_or, slice_set, w64, Option, Some, None, arith}
+use Rattle.std.proofs.Common.{ℕ, ◌≡◌, ◌+◌, ◌-◌, ◌^◌, ◌<◌, ◌==◌, ◌&&◌, ◌||◌, not, ◌∙◌, ap, refl, sym, subst, Bool, true, false, if◌then◌else◌, List, [], ◌∷◌, length, get_or, bit_or, slice_set, w64, Option, Some, None, arith}
 use Rattle.std.specs.Int.{bit_at}
 use Rattle.std.specs.List.{list_any, range_with_len}
 use Rattle.std.proofs.lemmas.Bool.{eq-eqb, eqb-true, false≢true}
 use Rattle.std.proofs.lemmas.List.{get_or-set_other, get_or-set_same}
 use Rattle.std.proofs.lemmas.Nat.Bits.{bit_at-lt, bit_at_not}
-use Rattle.result_words.proofs.TestLemmas.{same_either_way}
+use Rattle.step_results.proofs.BoolLemmas.{bit_turned}
+use Rattle.step_results.proofs.TestLemmas.{same_either_way}
 use Rattle.table_push.specs.MaskSteps.{is_that_port}
 use Rattle.table_push.specs.TreeSteps.{IsBelowSet, IsNode, IsOutsideSet, IsSpread, IsTree, leads_down, leads_up, meets, some_lead_down, where_meets}
 use Rattle.table_push.specs.declared.trees.Tree.{Tree}
 use Rattle.table_push.proofs.AwayLemmas.{range_any}
 use Rattle.table_push.proofs.ReachLemmas.{either_bit, no_bits}
-use Rattle.table_push.proofs.SeatBitLemmas.{set_at}
+use Rattle.table_push.proofs.AttachmentBitLemmas.{set_at}
 use Rattle.updn_routes.specs.Subnet.{RoutesState}
 
 -- ---- what is kept of a switch
-bit_turned : (b : ℕ) → b < 2 → (1 - b == 1) ≡ not (b == 1)
-bit_turned zero low = refl
-bit_turned (suc zero) low = refl
-bit_turned (suc (suc b)) low = absurd (omega (arith, low))
-
 pub outside_is : (routes : RoutesState) (s below : ℕ) → below < 2 ^ 64 → IsBelowSet routes s below → IsOutsideSet routes s (2 ^ 64 - 1 - below)
 outside_is routes s below fits is t low =
     ap (λ (bit : ℕ). bit == 1) (bit_at_not w64 below t fits low) ∙ bit_turned (bit_at below t) (bit_at-lt below t) ∙ ap not (is t low)
@@ -169,7 +165,7 @@ pub down_first : (tree : Tree) (switches s number : ℕ) → some_lead_down tree
 unfolding some_lead_down
 down_first tree switches s number = refl
 
--- ---- where nothing hangs
+-- ---- where nothing is attached
 meets_none : (set : ℕ) → meets 0 set ≡ false
 meets_none set = refl
 

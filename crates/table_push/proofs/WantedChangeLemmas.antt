@@ -6,7 +6,7 @@ use Rattle.std.proofs.lemmas.Bool.{and_from, and_parts, eq-eqb, eqb-true, false�
 use Rattle.std.proofs.Math.Bool.{or-true}
 use Rattle.std.proofs.Math.Nat.{zero-add}
 use Rattle.std.proofs.lemmas.Option.{get_or_from_slice_get, same_Some, slice_get_within}
-use Rattle.result_words.proofs.ListLemmas.{range_at}
+use Rattle.step_results.proofs.ListLemmas.{range_at}
 use Rattle.attr_tables.specs.declared.port_info.PortInfo.{PortInfo}
 use Rattle.fabric_parts.specs.Cable.{far_end, is_same_port, port}
 use Rattle.fabric_parts.specs.declared.cable.PortRef.{PortRef}
@@ -20,13 +20,13 @@ use Rattle.sweep.specs.declared.graph.GraphPort.{GraphPort}
 use Rattle.sweep.specs.declared.graph.GraphLink.{GraphLink}
 use Rattle.sweep.proofs.FoundLemmas.{any_by}
 use Rattle.sweep.proofs.PlaceLemmas.{position_at}
-use Rattle.table_push.specs.Keys.{at_cable, at_cables, guid_of, hanging_at, port_of}
+use Rattle.table_push.specs.Keys.{at_cable, at_cables, guid_of, attached_at, port_of}
 use Rattle.table_push.specs.Nodes.{on_port, with_infos}
 use Rattle.table_push.specs.Ports.{TakesChange, adapter_change, at_switch, at_switches_before, change_wanted, changed, changed_where, has_link, stays, switch_change}
 use Rattle.table_push.specs.Pushes.{Leaves, Stands}
 use Rattle.table_push.specs.declared.fault.PushFault.{PushFault}
 use Rattle.table_push.specs.declared.ports.PortChange.{PortChange}
-use Rattle.table_push.proofs.HangLemmas.{found_is, is_hung}
+use Rattle.table_push.proofs.AttachedLemmas.{found_is, is_hung}
 use Rattle.table_push.proofs.PartLemmas.{info_part, parts_stay, parts_twice}
 use Rattle.table_push.proofs.LeadLemmas.{goes_on}
 use Rattle.table_push.proofs.NodeLemmas.{none_there}
@@ -47,15 +47,15 @@ wanted_own routes guid place is = wanted_by routes guid 0 (Some place) is
 
 -- at a port of a switch, before a port of an adapter
 pub wanted_before : (routes : RoutesState) (guid place number : ℕ) (one : GraphPort) → place_of routes.graph.switches guid ≡ Some place
-    → (number == 0) ≡ false → hanging_at routes.graph.ports place number ≡ Some one
+    → (number == 0) ≡ false → attached_at routes.graph.ports place number ≡ Some one
     → change_wanted routes guid number ≡ record stays { enforcement = Some true; active = true }
-wanted_before routes guid place number one is some hangs = wanted_by routes guid number (Some place) is ∙ rw (some, hangs) refl
+wanted_before routes guid place number one is some attached = wanted_by routes guid number (Some place) is ∙ rw (some, attached) refl
 
 -- at one with a cable to another switch, or with none
 wanted_else : (routes : RoutesState) (guid place number : ℕ) (b : Bool) → place_of routes.graph.switches guid ≡ Some place
-    → (number == 0) ≡ false → hanging_at routes.graph.ports place number ≡ None → has_link routes.graph place number ≡ b
+    → (number == 0) ≡ false → attached_at routes.graph.ports place number ≡ None → has_link routes.graph place number ≡ b
     → change_wanted routes guid number ≡ (if b then record stays { enforcement = Some false; active = true } else stays)
-wanted_else routes guid place number b is some hangs link = wanted_by routes guid number (Some place) is ∙ rw (some, hangs, link) refl
+wanted_else routes guid place number b is some attached link = wanted_by routes guid number (Some place) is ∙ rw (some, attached, link) refl
 
 -- at a port of an adapter
 pub wanted_adapter : (routes : RoutesState) (guid number : ℕ) (one : GraphPort) → place_of routes.graph.switches guid ≡ None
@@ -73,14 +73,14 @@ link_there graph place k row link there at =
     ap (λ (links : List GraphLink). list_any (λ one. one.port == link.port) links) (get_or_from_slice_get graph.rows place row [] there)
     ∙ any_by (λ one. one.port == link.port) row k link at (eq-eqb link.port link.port refl)
 
--- where a cable leads to a switch, no adapter hangs
-none_hangs : (fabric : FabricState) (graph : GraphState) (place k : ℕ) (row : List GraphLink) (link : GraphLink) → IsGraphOf graph fabric
-    → slice_get graph.rows place ≡ Some row → slice_get row k ≡ Some link → (found : Option GraphPort) → hanging_at graph.ports place link.port ≡ found
+-- where a cable leads to a switch, no adapter is attached
+none_attached : (fabric : FabricState) (graph : GraphState) (place k : ℕ) (row : List GraphLink) (link : GraphLink) → IsGraphOf graph fabric
+    → slice_get graph.rows place ≡ Some row → slice_get row k ≡ Some link → (found : Option GraphPort) → attached_at graph.ports place link.port ≡ found
     → found ≡ None
-none_hangs fabric graph place k row link of there at None hangs = refl
-none_hangs fabric graph place k row link of there at (Some one) hangs =
+none_attached fabric graph place k row link of there at None attached = refl
+none_attached fabric graph place k row link of there at (Some one) attached =
     let is = linked fabric graph place k row link of there at in
-    let here = found_is (λ other. is_same_port other.at (port place link.port)) graph.ports one hangs in
+    let here = found_is (λ other. is_same_port other.at (port place link.port)) graph.ports one attached in
     let hung = is_hung fabric graph here.0 one of here.1 in
     let same = same_port one.at (port place link.port) here.2 in
     let far : is.there ≡ hung.there =
@@ -92,7 +92,7 @@ pub wanted_link : (fabric : FabricState) (routes : RoutesState) (guid place k : 
     → change_wanted routes guid link.port ≡ record stays { enforcement = Some false; active = true }
 wanted_link fabric routes guid place k row link of is some there at =
     wanted_else routes guid place link.port true is some
-    (none_hangs fabric routes.graph place k row link of there at (hanging_at routes.graph.ports place link.port) refl)
+    (none_attached fabric routes.graph place k row link of there at (attached_at routes.graph.ports place link.port) refl)
     (link_there routes.graph place k row link there at)
 
 -- ---- some are made
@@ -146,13 +146,13 @@ change_more stood left result fabric routes there path asked guid number change 
         ap (λ (g : ℕ). change_wanted routes g of_number) (sym (eqb-true guid of_guid parts.0))
         ∙ ap (λ (n : ℕ). change_wanted routes guid n) (sym (eqb-true number of_number parts.1)) ∙ wanted
 
--- the same ports told in other words
-pub told_same : (routes : RoutesState) (fabric : FabricState) (one other : ℕ → ℕ → Bool) → ((guid number : ℕ) → one guid number ≡ other guid number)
+-- the same ports reported in other words
+pub reported_same : (routes : RoutesState) (fabric : FabricState) (one other : ℕ → ℕ → Bool) → ((guid number : ℕ) → one guid number ≡ other guid number)
     → with_infos (changed_where one routes) fabric ≡ with_infos (changed_where other routes) fabric
-told_same routes fabric one other each = λ i. with_infos (changed_where (λ guid number. each guid number i) routes) fabric
+reported_same routes fabric one other each = λ i. with_infos (changed_where (λ guid number. each guid number i) routes) fabric
 
-pub told_none : (routes : RoutesState) (fabric : FabricState) → with_infos (changed_where (λ guid number. false) routes) fabric ≡ fabric
-told_none routes fabric = parts_stay info_part (changed_where (λ guid number. false) routes) fabric (λ guid number info. refl)
+pub reported_none : (routes : RoutesState) (fabric : FabricState) → with_infos (changed_where (λ guid number. false) routes) fabric ≡ fabric
+reported_none routes fabric = parts_stay info_part (changed_where (λ guid number. false) routes) fabric (λ guid number info. refl)
 
 -- ---- all are made
 abbrev pub at_all : RoutesState → ℕ → ℕ → Bool
@@ -173,18 +173,18 @@ none_wanted routes guid number no_switch no_cable = by_place (place_of routes.gr
         let at = position_at (λ switch. switch.guid == guid) routes.graph.switches place is in
         (slice_get_within routes.graph.switches place at.0 at.1, ap (λ (g : ℕ). g == guid) (guid_there routes.graph.switches place at.0 at.1) ∙ at.2)
 
-    by_link : (place : ℕ) → place_of routes.graph.switches guid ≡ Some place → (number == 0) ≡ false → hanging_at routes.graph.ports place number ≡ None
+    by_link : (place : ℕ) → place_of routes.graph.switches guid ≡ Some place → (number == 0) ≡ false → attached_at routes.graph.ports place number ≡ None
         → (b : Bool) → has_link routes.graph place number ≡ b → change_wanted routes guid number ≡ stays
-    by_link place is some hangs true link =
+    by_link place is some attached true link =
         let own = is_own place is in
         absurd (false≢true (sym (fails_at place own.0) ∙ and_from _ _ own.1 (ap (λ (b : Bool). (0 == number) || b) link ∙ or-true (0 == number))))
-    by_link place is some hangs false link = wanted_else routes guid place number false is some hangs link
+    by_link place is some attached false link = wanted_else routes guid place number false is some attached link
 
-    by_hanging : (place : ℕ) → place_of routes.graph.switches guid ≡ Some place → (number == 0) ≡ false → (one : Option GraphPort)
-        → hanging_at routes.graph.ports place number ≡ one → change_wanted routes guid number ≡ stays
-    by_hanging place is some None hangs = by_link place is some hangs (has_link routes.graph place number) refl
-    by_hanging place is some (Some one) hangs =
-        let here = found_is (λ other. is_same_port other.at (port place number)) routes.graph.ports one hangs in
+    by_attached : (place : ℕ) → place_of routes.graph.switches guid ≡ Some place → (number == 0) ≡ false → (one : Option GraphPort)
+        → attached_at routes.graph.ports place number ≡ one → change_wanted routes guid number ≡ stays
+    by_attached place is some None attached = by_link place is some attached (has_link routes.graph place number) refl
+    by_attached place is some (Some one) attached =
+        let here = found_is (λ other. is_same_port other.at (port place number)) routes.graph.ports one attached in
         let same = same_port one.at (port place number) here.2 in
         let fails = none_there (at_cable routes.graph.switches guid number) routes.graph.ports here.0 one no_cable here.1 in
         let own : (guid_of routes.graph.switches one.at.node == guid) ≡ true =
@@ -197,7 +197,7 @@ none_wanted routes guid number no_switch no_cable = by_place (place_of routes.gr
         let own = is_own place is in
         absurd (false≢true (sym (fails_at place own.0)
         ∙ and_from _ _ own.1 (ap (λ (b : Bool). b || has_link routes.graph place number) (eq-eqb 0 number (sym (eqb-true number 0 first))))))
-    by_number place is false some = by_hanging place is some (hanging_at routes.graph.ports place number) refl
+    by_number place is false some = by_attached place is some (attached_at routes.graph.ports place number) refl
 
     by_port : place_of routes.graph.switches guid ≡ None → (one : Option GraphPort) → port_of routes.graph.ports guid number ≡ one
         → change_wanted routes guid number ≡ stays
@@ -211,9 +211,9 @@ none_wanted routes guid number no_switch no_cable = by_place (place_of routes.gr
     by_place None is = by_port is (port_of routes.graph.ports guid number) refl
     by_place (Some place) is = by_number place is (number == 0) refl
 
-pub told_all : (routes : RoutesState) (fabric : FabricState)
+pub reported_all : (routes : RoutesState) (fabric : FabricState)
     → with_infos (changed_where (at_all routes) routes) fabric ≡ with_infos (λ guid number. changed (change_wanted routes guid number)) fabric
-told_all routes fabric = λ i. with_infos (λ guid number info. each guid number info i) fabric
+reported_all routes fabric = λ i. with_infos (λ guid number info. each guid number info i) fabric
   where
     by : (guid number : ℕ) (info : PortInfo) (a b : Bool) → at_switches_before routes.graph (length routes.graph.switches) guid number ≡ a
         → at_cables routes.graph.switches routes.graph.ports guid number ≡ b

@@ -11,11 +11,11 @@ use Rattle.sweep.specs.OfFabric.{IsGraphOf}
 use Rattle.sweep.specs.declared.graph.GraphPort.{GraphPort}
 use Rattle.sweep.specs.declared.graph.GraphSwitch.{GraphSwitch}
 use Rattle.sweep.proofs.PlaceLemmas.{position_at}
-use Rattle.table_push.specs.Keys.{adapter_keys, at_cable, at_cables, at_switches, guid_of, hanging_at, key_table, keys_of, keys_pushed, keys_wanted, keys_where, port_of, switch_keys}
+use Rattle.table_push.specs.Keys.{adapter_keys, at_cable, at_cables, at_switches, guid_of, attached_at, key_table, keys_of, keys_pushed, keys_wanted, keys_where, port_of, switch_keys}
 use Rattle.table_push.specs.Nodes.{on_port, with_keys}
 use Rattle.table_push.specs.Pushes.{LeadsToPort, Leaves, Stands}
 use Rattle.table_push.specs.declared.fault.PushFault.{PushFault}
-use Rattle.table_push.proofs.HangLemmas.{found_is, found_own, one_hangs, one_number}
+use Rattle.table_push.proofs.AttachedLemmas.{found_is, found_own, one_is_attached, one_number}
 use Rattle.table_push.proofs.PartLemmas.{keys_part, parts_stay, parts_twice}
 use Rattle.table_push.proofs.LeadLemmas.{begins_as, ends_as, goes_on}
 use Rattle.table_push.proofs.NodeLemmas.{none_there}
@@ -34,12 +34,12 @@ pub wanted_own : (routes : RoutesState) (keys : List (List ℕ)) (guid place : �
     → keys_wanted routes keys guid 0 ≡ option_map (key_table false) (keys_of routes keys guid)
 wanted_own routes keys guid place is = wanted_by routes keys guid 0 (Some place) is
 
--- at a port of a switch, which another hangs on
+-- at a port of a switch, which another is attached to
 pub wanted_there : (routes : RoutesState) (keys : List (List ℕ)) (guid place number : ℕ) (one : Option GraphPort) → place_of routes.graph.switches guid ≡ Some place
-    → (number == 0) ≡ false → hanging_at routes.graph.ports place number ≡ one
+    → (number == 0) ≡ false → attached_at routes.graph.ports place number ≡ one
     → keys_wanted routes keys guid number ≡ option_and_then (λ one. option_map (key_table true) (keys_of routes keys one.port_guid)) one
-wanted_there routes keys guid place number one is some hangs =
-    wanted_by routes keys guid number (Some place) is ∙ rw (some, hangs) refl
+wanted_there routes keys guid place number one is some attached =
+    wanted_by routes keys guid number (Some place) is ∙ rw (some, attached) refl
 
 -- at a port of an adapter
 pub wanted_adapter : (routes : RoutesState) (keys : List (List ℕ)) (guid number : ℕ) (one : Option GraphPort) → place_of routes.graph.switches guid ≡ None
@@ -58,11 +58,11 @@ same_ref a b same =
 itself : (a : PortRef) → is_same_port a a ≡ true
 itself a = and_from _ _ (eq-eqb a.node a.node refl) (eq-eqb a.port a.port refl)
 
-pub hanging_is : (fabric : FabricState) (graph : GraphState) (k : ℕ) (one : GraphPort) → IsGraphOf graph fabric → slice_get graph.ports k ≡ Some one
-    → hanging_at graph.ports one.at.node one.at.port ≡ Some one
-hanging_is fabric graph k one of there =
+pub attached_is : (fabric : FabricState) (graph : GraphState) (k : ℕ) (one : GraphPort) → IsGraphOf graph fabric → slice_get graph.ports k ≡ Some one
+    → attached_at graph.ports one.at.node one.at.port ≡ Some one
+attached_is fabric graph k one of there =
     found_own (λ other. is_same_port other.at (port one.at.node one.at.port)) graph.ports k one there (itself one.at)
-    (λ j other at same. one_hangs fabric graph j k other one of at there (same_ref other.at one.at same))
+    (λ j other at same. one_is_attached fabric graph j k other one of at there (same_ref other.at one.at same))
 
 pub port_is : (graph : GraphState) (k : ℕ) (one : GraphPort) → IsGraph graph → slice_get graph.ports k ≡ Some one
     → port_of graph.ports one.node_guid one.number ≡ Some one
@@ -115,7 +115,7 @@ put_more stood left result fabric routes keys there path asked guid number table
         ap (λ (g : ℕ). keys_wanted routes keys g of_number) (sym (eqb-true guid of_guid parts.0))
         ∙ ap (λ (n : ℕ). keys_wanted routes keys guid n) (sym (eqb-true number of_number parts.1)) ∙ wanted
 
--- the same ports told in other words
+-- the same ports reported in other words
 pub put_same : (routes : RoutesState) (keys : List (List ℕ)) (fabric : FabricState) (one other : ℕ → ℕ → Bool)
     → ((guid number : ℕ) → one guid number ≡ other guid number)
     → with_keys (keys_where one routes keys) fabric ≡ with_keys (keys_where other routes keys) fabric
@@ -160,11 +160,11 @@ none_wanted routes keys guid number no_switch no_cable = by_place (place_of rout
     ports = routes.graph.ports
 
     at_none : (place : ℕ) → place_of routes.graph.switches guid ≡ Some place → (number == 0) ≡ false → (one : Option GraphPort)
-        → hanging_at routes.graph.ports place number ≡ one → keys_wanted routes keys guid number ≡ None
-    at_none place is some None hangs = wanted_there routes keys guid place number None is some hangs
-    at_none place is some (Some one) hangs =
+        → attached_at routes.graph.ports place number ≡ one → keys_wanted routes keys guid number ≡ None
+    at_none place is some None attached = wanted_there routes keys guid place number None is some attached
+    at_none place is some (Some one) attached =
         let at = position_at (λ switch. switch.guid == guid) routes.graph.switches place is in
-        let here = found_is (λ other. is_same_port other.at (port place number)) routes.graph.ports one hangs in
+        let here = found_is (λ other. is_same_port other.at (port place number)) routes.graph.ports one attached in
         let same = same_ref one.at (port place number) here.2 in
         let fails = none_there (at_cable routes.graph.switches guid number) routes.graph.ports here.0 one no_cable here.1 in
         let own : (guid_of routes.graph.switches one.at.node == guid) ≡ true =
@@ -178,7 +178,7 @@ none_wanted routes keys guid number no_switch no_cable = by_place (place_of rout
         let at = position_at (λ switch. switch.guid == guid) routes.graph.switches place is in
         let fails = none_there (λ switch. (switch.guid == guid) && (0 == number)) routes.graph.switches place at.0 no_switch at.1 in
         absurd (false≢true (sym fails ∙ and_from _ _ at.2 (eq-eqb 0 number (sym (eqb-true number 0 first)))))
-    by_number place is false some = at_none place is some (hanging_at routes.graph.ports place number) refl
+    by_number place is false some = at_none place is some (attached_at routes.graph.ports place number) refl
 
     by_port : place_of routes.graph.switches guid ≡ None → (one : Option GraphPort) → port_of routes.graph.ports guid number ≡ one
         → keys_wanted routes keys guid number ≡ None

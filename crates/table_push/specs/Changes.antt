@@ -7,19 +7,19 @@ use Rattle.std.specs.Option.{ForSome}
 use Rattle.smp_wire.specs.FabricState.{FabricState}
 use Rattle.smp_wire.specs.Good.{IsGood}
 use Rattle.sweep.specs.OfFabric.{IsGraphOf}
-use Rattle.table_push.specs.Masks.{masks_pushed, set_slice, wanted_slice}
+use Rattle.table_push.specs.Masks.{masks_pushed, set_range, wanted_range}
 use Rattle.table_push.specs.Nodes.{on_switch, with_switches}
 use Rattle.table_push.specs.Pushes.{Leaves}
 use Rattle.table_push.specs.declared.fault.PushFault.{PushFault}
 use Rattle.updn_routes.specs.Subnet.{RoutesState}
 
--- the masks of the slice are those of this test already: to push them changes nothing
-abbrev pub HasSlice : RoutesState → (partition : ℕ) → (receives : ℕ → ℕ → Bool) → FabricState → Type 0
-HasSlice routes partition receives fabric = masks_pushed routes partition receives fabric ≡ fabric
+-- the masks of the MLID range are those of this test already: to push them changes nothing
+abbrev pub HasRange : RoutesState → (partition : ℕ) → (receives : ℕ → ℕ → Bool) → FabricState → Type 0
+HasRange routes partition receives fabric = masks_pushed routes partition receives fabric ≡ fabric
 
--- the switch of that GUID has these blocks of the slice already
+-- the switch of that GUID has these blocks of the MLID range already
 abbrev pub HasBlocks : (guid partition : ℕ) → (blocks : List (List ℕ)) → FabricState → Type 0
-HasBlocks guid partition blocks fabric = with_switches (on_switch guid (set_slice partition blocks)) fabric ≡ fabric
+HasBlocks guid partition blocks fabric = with_switches (on_switch guid (set_range partition blocks)) fabric ≡ fabric
 
 -- the blocks at a position are not the same
 abbrev pub is_changed : (before after : List (List ℕ)) → (position : ℕ) → Bool
@@ -32,18 +32,18 @@ blocks_changed before after = length (filter (is_changed before after) (range_wi
 -- of all switches'
 abbrev pub changed_at : RoutesState → (partition : ℕ) → (before after : ℕ → ℕ → Bool) → (place : ℕ) → ℕ
 changed_at routes partition before after place =
-    blocks_changed (wanted_slice routes partition before place) (wanted_slice routes partition after place)
+    blocks_changed (wanted_range routes partition before place) (wanted_range routes partition after place)
 
 abbrev pub all_changed : RoutesState → (partition : ℕ) → (before after : ℕ → ℕ → Bool) → ℕ
 all_changed routes partition before after =
     sum_by (changed_at routes partition before after) (range_with_len 0 (length routes.graph.switches))
 
 -- ---- the push
--- over a fabric of the routes' graph that has the slice of the test before, it leaves that of the test after, and all else
-abbrev pub ChangesSlice : RoutesState → (partition : ℕ) → (before after : ℕ → ℕ → Bool) → (stood left : Option FabricState)
+-- over a fabric of the routes' graph that has the MLID range of the test before, it leaves that of the test after, and all else
+abbrev pub ChangesRange : RoutesState → (partition : ℕ) → (before after : ℕ → ℕ → Bool) → (stood left : Option FabricState)
     → Result ℕ PushFault → Type 0
-ChangesSlice routes partition before after stood left result =
-    ForSome stood (λ fabric. IsGraphOf routes.graph fabric → IsGood fabric → HasSlice routes partition before fabric
+ChangesRange routes partition before after stood left result =
+    ForSome stood (λ fabric. IsGraphOf routes.graph fabric → IsGood fabric → HasRange routes partition before fabric
     → Leaves result left fabric (masks_pushed routes partition after fabric))
 
 -- and answers how many blocks are others after
@@ -54,4 +54,4 @@ CountsChanged routes partition before after result = IfOk result (λ count. coun
 abbrev pub AllChangesMarked : RoutesState → (partition : ℕ) → (before after : ℕ → ℕ → Bool) → (places : ℕ) → Type 0
 AllChangesMarked routes partition before after places =
     (place : ℕ) → place < 64 → (bit_at places place == 1) ≡ false
-    → wanted_slice routes partition before place ≡ wanted_slice routes partition after place
+    → wanted_range routes partition before place ≡ wanted_range routes partition after place

@@ -16,13 +16,13 @@ code_of NoReply = codes "TP1"
 code_of Refused = codes "TP2"
 code_of NotAsSet = codes "TP3"
 
--- a reply of another request tells of nothing that was set
+-- a reply of another request reports of nothing that was set
 abbrev pub fault_of : ReplyFault → PushFault
 fault_of reply.NoReply = NoReply
 fault_of reply.Refused = Refused
 fault_of reply.WrongReply = NotAsSet
 
--- what was told, with what a push stops with in place of the fault
+-- what was reported, with what a push stops with in place of the fault
 abbrev pub heard : {X : Type 0} → Result X ReplyFault → Result X PushFault
 heard (Ok x) = Ok x
 heard (Err fault) = Err (fault_of fault)
@@ -36,19 +36,19 @@ without_state bytes = put_field bytes 260 4 (port_state_code NoChange)
 
 -- what of the bytes that a reply carries is compared: a state that was not asked for counts for nothing
 unfoldable pub compared : SmpAttribute → List ℕ → List ℕ → List ℕ
-compared attribute.PortInfo wanted told = if state_of wanted == port_state_code NoChange then without_state told else told
-compared attribute.NodeDescription wanted told = told
-compared attribute.NodeInfo wanted told = told
-compared attribute.SwitchInfo wanted told = told
-compared attribute.PKeyTable wanted told = told
-compared attribute.LinearForwardingTable wanted told = told
-compared attribute.MulticastForwardingTable wanted told = told
+compared attribute.PortInfo wanted reported = if state_of wanted == port_state_code NoChange then without_state reported else reported
+compared attribute.NodeDescription wanted reported = reported
+compared attribute.NodeInfo wanted reported = reported
+compared attribute.SwitchInfo wanted reported = reported
+compared attribute.PKeyTable wanted reported = reported
+compared attribute.LinearForwardingTable wanted reported = reported
+compared attribute.MulticastForwardingTable wanted reported = reported
 
 -- what the reply to a Set to these bytes means: nothing came; a status other than 0; of another request, or not what
 -- was set; or it is set
 abbrev pub as_set : SmpAttribute → List ℕ → List ℕ → Result (Unit {0}) PushFault
-as_set attribute wanted told = if bytes_eq (compared attribute wanted told) wanted then Ok tt else Err NotAsSet
+as_set attribute wanted reported = if bytes_eq (compared attribute wanted reported) wanted then Ok tt else Err NotAsSet
 
 abbrev pub meaning : SmpAttribute → List ℕ → Result (List ℕ) ReplyFault → Result (Unit {0}) PushFault
 meaning attribute wanted (Err fault) = Err (fault_of fault)
-meaning attribute wanted (Ok told) = as_set attribute wanted told
+meaning attribute wanted (Ok reported) = as_set attribute wanted reported

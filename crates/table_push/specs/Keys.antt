@@ -1,5 +1,5 @@
 -- What is pushed into key tables (IBA volume 1, 14.2.5.7): the keys of each end port at that port, and their full
--- form at the port of a switch that it hangs on, which lets in and out what the end port may send and take.
+-- form at the port of a switch that it is attached to, which lets in and out what the end port may send and take.
 use Rattle.std.specs.Prelude.{ℕ, ◌-◌, ◌==◌, ◌&&◌, ◌||◌, Bool, true, false, if◌then◌else◌, List, ◌++◌, find, length, map, replicate, slice_get, unwrap_or, Option, option_map}
 use Rattle.std.specs.List.{list_any}
 use Rattle.std.specs.Option.{option_and_then, option_map_or}
@@ -27,9 +27,9 @@ key_table full keys = map (held_as full) keys ++ replicate (PARTITIONS - length 
 abbrev pub keys_of : RoutesState → List (List ℕ) → ℕ → Option (List ℕ)
 keys_of routes keys guid = option_and_then (λ lid. slice_get keys (lid - 1)) (lid_in routes.lids guid)
 
--- the port of an adapter that hangs on that port of a switch
-abbrev pub hanging_at : List GraphPort → ℕ → ℕ → Option GraphPort
-hanging_at ports place number = find (λ one. is_same_port one.at (port place number)) ports
+-- the port of an adapter that is attached to that port of a switch
+abbrev pub attached_at : List GraphPort → ℕ → ℕ → Option GraphPort
+attached_at ports place number = find (λ one. is_same_port one.at (port place number)) ports
 
 -- that port of the adapter with that GUID
 abbrev pub port_of : List GraphPort → ℕ → ℕ → Option GraphPort
@@ -39,7 +39,7 @@ abbrev pub switch_keys : RoutesState → List (List ℕ) → (guid place number 
 switch_keys routes keys guid place number =
     if number == 0 then option_map (key_table false) (keys_of routes keys guid)
     else option_and_then (λ one. option_map (key_table true) (keys_of routes keys one.port_guid))
-    (hanging_at routes.graph.ports place number)
+    (attached_at routes.graph.ports place number)
 
 abbrev pub adapter_keys : RoutesState → List (List ℕ) → (guid number : ℕ) → Option (List ℕ)
 adapter_keys routes keys guid number =
@@ -56,7 +56,7 @@ abbrev pub keys_pushed : RoutesState → List (List ℕ) → FabricState → Fab
 keys_pushed routes keys fabric = with_keys (λ guid number held. unwrap_or (keys_wanted routes keys guid number) held) fabric
 
 -- ---- while they are written
--- where it is told
+-- where it is reported
 abbrev pub keys_where : (ℕ → ℕ → Bool) → RoutesState → List (List ℕ) → (guid number : ℕ) → List ℕ → List ℕ
 keys_where there routes keys guid number held = if there guid number then unwrap_or (keys_wanted routes keys guid number) held else held
 

@@ -14,7 +14,7 @@ use Rattle.sweep.specs.Graph.{IsGraph}
 use Rattle.sweep.specs.OfFabric.{IsGraphOf}
 use Rattle.table_push.specs.Keys.{keys_pushed}
 use Rattle.table_push.specs.Linear.{linear_pushed, linear_table}
-use Rattle.table_push.specs.Masks.{all_masks_pushed, is_in_mask, is_in_slice, masks_of, masks_pushed, wanted_slice}
+use Rattle.table_push.specs.Masks.{all_masks_pushed, is_in_mask, is_in_mlid_range, masks_of, masks_pushed, wanted_range}
 use Rattle.table_push.specs.Ports.{ports_pushed}
 use Rattle.updn_routes.specs.Subnet.{RoutesState, place_of}
 
@@ -46,30 +46,30 @@ MasksAreRead =
     → is_multicast mlid ≡ true → mlid < FIRST_MULTICAST_LID + MULTICAST_TABLE → number < 48
     → is_in_masks (masks_of routes receives place) mlid number ≡ is_in_mask routes receives place mlid number
 
--- tests that agree on the multicast LIDs of a partition want one slice
-abbrev pub SlicesAreTheirOwn : Type 0
-SlicesAreTheirOwn =
+-- tests that agree on the multicast LIDs of a partition want one MLID range
+abbrev pub MlidRangesAreTheirOwn : Type 0
+MlidRangesAreTheirOwn =
     (routes : RoutesState) (partition place : ℕ) (one other : ℕ → ℕ → Bool)
-    → ((mlid lid : ℕ) → is_in_slice partition mlid ≡ true → one mlid lid ≡ other mlid lid)
-    → wanted_slice routes partition one place ≡ wanted_slice routes partition other place
+    → ((mlid lid : ℕ) → is_in_mlid_range partition mlid ≡ true → one mlid lid ≡ other mlid lid)
+    → wanted_range routes partition one place ≡ wanted_range routes partition other place
 
--- each switch of the fabric that the graph has has the masks of that test, whole
+-- each switch that the fabric and the graph have holds all masks of that test
 abbrev pub HasMasksOf : RoutesState → (receives : ℕ → ℕ → Bool) → FabricState → Type 0
 HasMasksOf routes receives fabric =
     (node place : ℕ) (held : SwitchState) → slice_get fabric.nodes node ≡ Some (Switch held)
     → place_of routes.graph.switches held.node_guid ≡ Some place → held.masks ≡ masks_of routes receives place
 
--- where the masks are those of one test, and the other differs from it for the partition alone, a push of that slice makes
+-- where the masks are those of one test, and the other differs from it for the partition alone, a push of that MLID range makes
 -- all of them those of the other
-abbrev pub SlicesMakeTheWhole : Type 0
-SlicesMakeTheWhole =
+abbrev pub MlidRangesMakeTheWhole : Type 0
+MlidRangesMakeTheWhole =
     (routes : RoutesState) (partition : ℕ) (fabric : FabricState) (one other : ℕ → ℕ → Bool)
-    → ((mlid lid : ℕ) → is_in_slice partition mlid ≡ false → one mlid lid ≡ other mlid lid)
+    → ((mlid lid : ℕ) → is_in_mlid_range partition mlid ≡ false → one mlid lid ≡ other mlid lid)
     → HasMasksOf routes one fabric → HasMasksOf routes other (masks_pushed routes partition other fabric)
 
 -- and so from all masks of the one it makes all masks of the other
-abbrev pub SlicesMakeAll : Type 0
-SlicesMakeAll =
+abbrev pub MlidRangesMakeAll : Type 0
+MlidRangesMakeAll =
     (routes : RoutesState) (partition : ℕ) (fabric : FabricState) (one other : ℕ → ℕ → Bool)
-    → ((mlid lid : ℕ) → is_in_slice partition mlid ≡ false → one mlid lid ≡ other mlid lid)
+    → ((mlid lid : ℕ) → is_in_mlid_range partition mlid ≡ false → one mlid lid ≡ other mlid lid)
     → masks_pushed routes partition other (all_masks_pushed routes one fabric) ≡ all_masks_pushed routes other fabric

@@ -6,6 +6,7 @@ pub mod Changes
 pub mod MaskSteps
 pub mod TreeSteps
 pub mod PlaceSteps
+pub mod RangeBlocks
 pub mod Keys
 pub mod Pushes
 pub mod Ports

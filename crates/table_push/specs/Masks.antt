@@ -34,7 +34,7 @@ abbrev pub child_towards : RoutesState → (s t : ℕ) → Option ℕ
 child_towards routes s t =
     above routes.between.rows routes.between.depths (get_or routes.between.depths t 0 - get_or routes.between.depths s 0 - 1) t
 
--- the port by which switch s sends what goes along the tree to what hangs at that port of a switch
+-- the port by which switch s sends what goes along the tree to what is attached at that port of a switch
 unfoldable pub tree_hop : RoutesState → (s : ℕ) → PortRef → Option ℕ
 tree_hop routes s home =
     if home.node == s then Some home.port
@@ -43,11 +43,15 @@ tree_hop routes s home =
     else tree_port routes.between.rows routes.between.depths s
 
 -- ---- who receives
--- of a test that tells whether what is for that multicast LID is to reach that LID
+-- of a test that reports whether what is for that multicast LID is to reach that LID
 abbrev pub receives_of : List GroupReceiver → (mlid lid : ℕ) → Bool
 receives_of receivers mlid lid = list_any (λ one. (one.mlid == mlid) && (one.lid == lid)) receivers
 
--- a port of an adapter that hangs there gets it from the switch at that place by the port of that number
+-- of what is for a group to which these LIDs belong, whatever its multicast LID is
+abbrev pub goes_to : List ℕ → (mlid lid : ℕ) → Bool
+goes_to lids mlid lid = list_any (λ one. one == lid) lids
+
+-- a port of an adapter that is attached there gets it from the switch at that place by the port of that number
 abbrev pub is_hop : RoutesState → (place number : ℕ) → PortRef → Bool
 is_hop routes place number home =
     not (home.port == 0) && option_map_or (λ port. port == number) (tree_hop routes place home) false
@@ -79,33 +83,33 @@ mask_of_position routes receives place position =
 abbrev pub masks_of : RoutesState → (receives : ℕ → ℕ → Bool) → (place : ℕ) → List (List ℕ)
 masks_of routes receives place = map (mask_of_position routes receives place) (range_with_len 0 3)
 
--- ---- the slice of a partition: 32 multicast LIDs, which are the block of that number in each position
-abbrev pub is_in_slice : (partition mlid : ℕ) → Bool
-is_in_slice partition mlid =
+-- ---- the MLID range of a partition: 32 multicast LIDs, which are the block of that number in each position
+abbrev pub is_in_mlid_range : (partition mlid : ℕ) → Bool
+is_in_mlid_range partition mlid =
     nat_le (FIRST_MULTICAST_LID + 32 * partition) mlid && nat_lt mlid (FIRST_MULTICAST_LID + 32 * partition + 32)
 
 -- they lie in the table
 abbrev pub LiesInTable : (partition : ℕ) → Type 0
 LiesInTable partition = 32 * partition + 32 ≤ MULTICAST_TABLE
 
-abbrev pub slice_of : (partition : ℕ) → List (List ℕ) → List (List ℕ)
-slice_of partition masks = map (block_of 32 partition) masks
+abbrev pub range_of : (partition : ℕ) → List (List ℕ) → List (List ℕ)
+range_of partition masks = map (block_of 32 partition) masks
 
 -- masks with these blocks in place of their own
-abbrev pub with_slice : (partition : ℕ) → (blocks masks : List (List ℕ)) → List (List ℕ)
-with_slice partition [] masks = masks
-with_slice partition (block ∷ blocks) [] = []
-with_slice partition (block ∷ blocks) (words ∷ masks) =
-    with_block 32 partition block words ∷ with_slice partition blocks masks
+abbrev pub with_range : (partition : ℕ) → (blocks masks : List (List ℕ)) → List (List ℕ)
+with_range partition [] masks = masks
+with_range partition (block ∷ blocks) [] = []
+with_range partition (block ∷ blocks) (words ∷ masks) =
+    with_block 32 partition block words ∷ with_range partition blocks masks
 
-abbrev pub wanted_slice : RoutesState → (partition : ℕ) → (receives : ℕ → ℕ → Bool) → (place : ℕ) → List (List ℕ)
-wanted_slice routes partition receives place = slice_of partition (masks_of routes receives place)
+abbrev pub wanted_range : RoutesState → (partition : ℕ) → (receives : ℕ → ℕ → Bool) → (place : ℕ) → List (List ℕ)
+wanted_range routes partition receives place = range_of partition (masks_of routes receives place)
 
 -- the switch of that GUID, which the graph has at some place
 abbrev pub with_masks : RoutesState → (partition : ℕ) → (receives : ℕ → ℕ → Bool) → (guid : ℕ) → SwitchState → SwitchState
 with_masks routes partition receives guid held =
     record held {
-      masks = option_map_or (λ place. with_slice partition (wanted_slice routes partition receives place) held.masks)
+      masks = option_map_or (λ place. with_range partition (wanted_range routes partition receives place) held.masks)
           (place_of routes.graph.switches guid) held.masks;
     }
 
@@ -113,7 +117,7 @@ with_masks routes partition receives guid held =
 abbrev pub masks_pushed : RoutesState → (partition : ℕ) → (receives : ℕ → ℕ → Bool) → FabricState → FabricState
 masks_pushed routes partition receives fabric = with_switches (with_masks routes partition receives) fabric
 
--- all slices: the switch of that GUID, if the graph has it, has all masks of that test
+-- all MLID ranges: the switch of that GUID, if the graph has it, has all masks of that test
 abbrev pub with_all_masks : RoutesState → (receives : ℕ → ℕ → Bool) → (guid : ℕ) → SwitchState → SwitchState
 with_all_masks routes receives guid held =
     record held { masks = option_map_or (masks_of routes receives) (place_of routes.graph.switches guid) held.masks }
@@ -122,12 +126,12 @@ abbrev pub all_masks_pushed : RoutesState → (receives : ℕ → ℕ → Bool) 
 all_masks_pushed routes receives fabric = with_switches (with_all_masks routes receives) fabric
 
 -- ---- while they are written
-abbrev pub set_slice : (partition : ℕ) → List (List ℕ) → SwitchState → SwitchState
-set_slice partition blocks held = record held { masks = with_slice partition blocks held.masks }
+abbrev pub set_range : (partition : ℕ) → List (List ℕ) → SwitchState → SwitchState
+set_range partition blocks held = record held { masks = with_range partition blocks held.masks }
 
 -- the blocks of the first positions are written
 abbrev pub slice_to : (count partition : ℕ) → List (List ℕ) → SwitchState → SwitchState
-slice_to count partition blocks held = set_slice partition (take count blocks) held
+slice_to count partition blocks held = set_range partition (take count blocks) held
 
 -- the switches at the first places of the graph are written
 abbrev pub masks_before : RoutesState → (partition : ℕ) → (receives : ℕ → ℕ → Bool) → (count guid : ℕ) → SwitchState → SwitchState

@@ -1,5 +1,5 @@
--- What is pushed into PortInfo (IBA volume 1, 14.2.5.6) and SwitchInfo (chapter 14): what each end port is told of
--- itself, that each port with a cable carries packets, where partitions are enforced, and how far linear tables reach.
+-- What is pushed into PortInfo (IBA volume 1, 14.2.5.6) and SwitchInfo (chapter 14): the prefix and the LIDs of each end
+-- port, that each port with a cable carries packets, where partitions are enforced, and how far linear tables reach.
 use Rattle.std.specs.Prelude.{ℕ, ◌*◌, ◌^◌, ◌≡◌, ◌==◌, ◌&&◌, ◌||◌, nat_le, nat_lt, Bool, true, false, if◌then◌else◌, List, [], get_or, length, Option, Some, None}
 use Rattle.std.specs.List.{list_any, range_with_len}
 use Rattle.std.specs.Option.{is_some, option_map_or}
@@ -14,20 +14,20 @@ use Rattle.smp_wire.specs.FabricState.{FabricState, is_switch_at}
 use Rattle.smp_wire.specs.Good.{info_at, is_up}
 use Rattle.fabric_parts.specs.Cable.{port}
 use Rattle.sweep.specs.Graph.{GraphState}
-use Rattle.table_push.specs.Keys.{guid_of, hanging_at, port_of}
+use Rattle.table_push.specs.Keys.{guid_of, attached_at, port_of}
 use Rattle.table_push.specs.Nodes.{with_infos, with_switches}
 use Rattle.table_push.specs.Pushes.{LeadsToPort}
 use Rattle.table_push.specs.declared.ports.PortChange.{PortChange}
 use Rattle.switch_model.specs.SwitchState.{SwitchState}
 use Rattle.updn_routes.specs.Subnet.{RoutesState, place_of}
 
--- ---- what a port is told
+-- ---- what a port is set to
 -- an end port has the link-local prefix and its LID, and knows the subnet manager's LID, which is always 1
-abbrev pub end_told : Option ℕ → PortInfo → PortInfo
-end_told None info = info
-end_told (Some lid) info = record info { gid_prefix = 0xfe80 * 2 ^ 48; lid = lid; master_sm_lid = 1 }
+abbrev pub with_end_set : Option ℕ → PortInfo → PortInfo
+with_end_set None info = info
+with_end_set (Some lid) info = record info { gid_prefix = 0xfe80 * 2 ^ 48; lid = lid; master_sm_lid = 1 }
 
--- a port of a switch lets in and out what its key table tells, or all
+-- a port of a switch lets in and out what its key table reports, or all
 abbrev pub enforces : Option Bool → PortInfo → PortInfo
 enforces None info = info
 enforces (Some on) info = record info { partition_enforcement_inbound = on; partition_enforcement_outbound = on }
@@ -36,12 +36,12 @@ abbrev pub with_state : PortState → PortInfo → PortInfo
 with_state state info = record info { port_state = port_state_code state }
 
 -- all but the state
-abbrev pub told : PortChange → PortInfo → PortInfo
-told change info = enforces change.enforcement (end_told change.lid info)
+abbrev pub with_lid_and_enforcement : PortChange → PortInfo → PortInfo
+with_lid_and_enforcement change info = enforces change.enforcement (with_end_set change.lid info)
 
 -- a port that becomes Active carries packets
 abbrev pub changed : PortChange → PortInfo → PortInfo
-changed change info = if change.active then with_state Active (told change info) else told change info
+changed change info = if change.active then with_state Active (with_lid_and_enforcement change info) else with_lid_and_enforcement change info
 
 -- ---- which port
 abbrev pub stays : PortChange
@@ -51,11 +51,11 @@ stays = record { lid = None; enforcement = None; active = false }
 abbrev pub has_link : GraphState → ℕ → ℕ → Bool
 has_link graph place number = list_any (λ link. link.port == number) (get_or graph.rows place [])
 
--- port 0 is the end port; an adapter's port hangs on the port, or it has a link to a switch, or no cable
+-- port 0 is the end port; an adapter's port is attached to the port, or it has a link to a switch, or no cable
 abbrev pub switch_change : RoutesState → (guid place number : ℕ) → PortChange
 switch_change routes guid place number =
     if number == 0 then record stays { lid = lid_in routes.lids guid }
-    else option_map_or (λ one. record stays { enforcement = Some true; active = true }) (hanging_at routes.graph.ports place number)
+    else option_map_or (λ one. record stays { enforcement = Some true; active = true }) (attached_at routes.graph.ports place number)
     (if has_link routes.graph place number then record stays { enforcement = Some false; active = true } else stays)
 
 -- a port of an adapter is an end port if it has a cable
@@ -101,7 +101,7 @@ pub record TakesChange (fabric : FabricState) (path : List ℕ) (asked guid numb
   -- only a port whose link is up becomes Active
   pub up : change.active ≡ true → (info : PortInfo) → info_at fabric (port leads.at.node number) ≡ Some info → is_up info ≡ true
 
--- where it is told
+-- where it is reported
 abbrev pub changed_where : (ℕ → ℕ → Bool) → RoutesState → (guid number : ℕ) → PortInfo → PortInfo
 changed_where there routes guid number info = if there guid number then changed (change_wanted routes guid number) info else info
 

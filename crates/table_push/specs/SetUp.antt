@@ -50,11 +50,11 @@ pub record IsEndPort (lid : ℕ) (info : PortInfo) : Type 0 where
 abbrev pub IsActive : PortInfo → Type 0
 IsActive info = info.port_state ≡ port_state_code Active
 
--- it lets in and out what its key table tells
+-- it lets in and out what its key table reports
 abbrev pub Enforces : PortInfo → Type 0
 Enforces info = (info.partition_enforcement_inbound ≡ true) × (info.partition_enforcement_outbound ≡ true)
 
--- ---- a port of an adapter, and the port of a switch that it hangs on
+-- ---- a port of an adapter, and the port of a switch that it is attached to
 pub record IsServed (routes : RoutesState) (fabric : FabricState) (port : GraphPort) (lid : ℕ) (own : List ℕ) : Type 0 where
   pub end_port : InfoIs fabric port.node_guid port.number (IsEndPort lid)
   pub active : InfoIs fabric port.node_guid port.number IsActive

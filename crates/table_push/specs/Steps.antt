@@ -65,10 +65,10 @@ PutsBlock stood left path asked block words result =
     ForSome stood (λ fabric. (guid number : ℕ) → IsGood fabric → LeadsToPort fabric path asked guid number
     → Leaves result left fabric (with_keys (on_port guid number (with_block 32 block words)) fabric))
 
--- where it is told that the bytes wanted are there, they are
-abbrev pub TellsWhetherThere : Result Bool PushFault → (given wanted : List ℕ) → Type 0
-TellsWhetherThere (Ok there) given wanted = there ≡ true → given ≡ wanted
-TellsWhetherThere (Err fault) given wanted = ⊥
+-- where it is reported that the bytes wanted are there, they are
+abbrev pub SaysWhetherThere : Result Bool PushFault → (given wanted : List ℕ) → Type 0
+SaysWhetherThere (Ok there) given wanted = there ≡ true → given ≡ wanted
+SaysWhetherThere (Err fault) given wanted = ⊥
 
 -- where the ports that pass a test have their tables, those at both ends of the cable of the port of a channel adapter at
 -- that place get theirs too

@@ -4,7 +4,7 @@ use Rattle.std.specs.Prelude.{List, [], find, get_or, length, map, Option, Some,
 use Rattle.std.specs.Int.{bit_at}
 use Rattle.std.specs.List.{list_any, range_with_len}
 use Rattle.sweep.specs.declared.graph.GraphLink.{GraphLink}
-use Rattle.table_push.specs.Masks.{tree_end, wanted_slice}
+use Rattle.table_push.specs.Masks.{tree_end, wanted_range}
 use Rattle.table_push.specs.MaskSteps.{AreBits, is_that_port, words_at}
 use Rattle.table_push.specs.declared.trees.Tree.{Tree}
 use Rattle.updn_routes.specs.Sides.{above, is_below, parent}
@@ -87,7 +87,7 @@ some_lead_down tree count switches s number = list_any (leads_down tree switches
 abbrev pub leads_up : Tree → (switches s number : ℕ) → Bool
 leads_up tree switches s number = meets switches (get_or tree.outside s 0) && (bit_at (get_or tree.ups s 0) number == 1)
 
--- a switch's own ports, its tree port where receivers hang outside of what is below it, and so for each switch next below it
+-- a switch's own ports, its tree port where receivers are attached outside of what is below it, and so for each switch next below it
 abbrev pub IsSpread : Tree → (row : List ℕ) → (switches : ℕ) → List ℕ → Type 0
 IsSpread tree row switches masks =
     (s number : ℕ) → s < 64 → (bit_at (get_or masks s 0) number == 1)
@@ -101,7 +101,7 @@ AreSpread tree ports switches count masks =
 abbrev pub blocks_of : (masks : List (List ℕ)) → (place : ℕ) → List (List ℕ)
 blocks_of masks place = map (λ position. words_at position (map (λ row. get_or row place 0) masks)) (range_with_len 0 3)
 
--- such masks give each switch of the graph the slice that it is to have
+-- such masks give each switch of the graph the MLID range that it is to have
 abbrev pub AreMasksOf : RoutesState → (partition : ℕ) → (receives : ℕ → ℕ → Bool) → (masks : List (List ℕ)) → Type 0
 AreMasksOf routes partition receives masks =
-    (place : ℕ) → place < length routes.graph.switches → blocks_of masks place ≡ wanted_slice routes partition receives place
+    (place : ℕ) → place < length routes.graph.switches → blocks_of masks place ≡ wanted_range routes partition receives place

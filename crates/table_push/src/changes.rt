@@ -4,19 +4,18 @@ ghost use Rattle.std.specs.Prelude.{ℕ, ◌≡◌, ◌≤◌, length, nat_eq, I
 ghost use Rattle.std.specs.Cmp.Lexicographic.{pointwise};
 ghost use Rattle.std.specs.Option.{ForSome};
 ghost use Rattle.smp_wire.specs.Good.{IsGood};
-ghost use Rattle.table_push.specs.Changes.{AllChangesMarked, ChangesSlice, CountsChanged, HasBlocks, blocks_changed};
-ghost use Rattle.table_push.specs.Masks.{LiesInTable, receives_of, set_slice};
+ghost use Rattle.table_push.specs.RangeBlocks.{AreRangeBlocks, IsChangeOf};
+ghost use Rattle.table_push.specs.Changes.{ChangesRange, CountsChanged, HasBlocks, blocks_changed};
+ghost use Rattle.table_push.specs.Masks.{LiesInTable, receives_of, set_range};
 ghost use Rattle.table_push.specs.Nodes.{on_switch, with_switches};
 ghost use Rattle.table_push.specs.Pushes.{LeadsToSwitch, Leaves};
-ghost use Rattle.table_push.specs.TreeSteps.{IsTree};
 
 use crate::fault::PushFault;
-use crate::multicast::{put_slice, set_block};
-use crate::places::{blocks_at, is_marked, places_that_change};
-use crate::seats::switches_of;
-use crate::trees::{Tree, blocks_of, tree_of};
+use crate::multicast::set_block;
+use crate::places::{is_marked, places_that_change};
+use crate::range_blocks::{Change, RangeBlocks};
+use crate::trees::tree_of;
 use attr_tables::WORDS_PER_BLOCK;
-use fabric_parts::SWITCHES;
 use smp_wire::SmpWire;
 use subnet_model::GroupReceiver;
 use switch_model::POSITIONS;
@@ -25,7 +24,7 @@ use updn_routes::Routes;
 /// Writes what [`push_multicast`](crate::push_multicast) would for the receivers `after`, over a wire whose switches have the
 /// masks of the receivers `before`: only the blocks that differ are set. Answers how many they are.
 ///
-/// Over a wire that stands for the graph's fabric the masks of the slice are those of the receivers `after` then, and all else
+/// Over a wire that stands for the graph's fabric the masks of the MLID range are those of the receivers `after` then, and all else
 /// is as it was.
 pub fn push_changed<W: SmpWire>(
     wire: &mut W,
@@ -35,102 +34,60 @@ pub fn push_changed<W: SmpWire>(
     after: &[GroupReceiver],
 ) -> Result<u32, PushFault>
     requires { LiesInTable partition }
-    ensures pushed { ChangesSlice routes.now partition (receives_of before.now) (receives_of after.now)
+    ensures pushed { ChangesRange routes.now partition (receives_of before.now) (receives_of after.now)
         (W.fabric wire.old) (W.fabric wire.new) result }
     ensures count { CountsChanged routes.now partition (receives_of before.now) (receives_of after.now) result }
 {
     let tree = tree_of(routes);
     let places = places_that_change(routes, &tree, partition, before, after);
+    let change = Change {
+        partition,
+        before,
+        after,
+        tree: &tree,
+        places,
+    };
     let looks = places.count_ones() as usize;
-    if (before.len() + after.len()).saturating_mul(looks) <= FEW_LOOKS {
-        push_places(wire, routes, partition, before, after, &tree, places)
-    } else {
-        push_compared(wire, routes, partition, before, after, &tree, places)
-    }
+    let is_walked = (before.len() + after.len()).saturating_mul(looks) <= FEW_LOOKS;
+    let blocks_before = RangeBlocks::of(routes, change, before, is_walked);
+    let blocks_after = RangeBlocks::of(routes, change, after, is_walked);
+    push_blocks(wire, routes, change, &blocks_before, &blocks_after)
 }
 
-// How many receivers are looked at, place by place, before the masks of all switches at once are cheaper.
+// If receivers times switches are more than this, the port masks of all switches are computed at once.
 const FEW_LOOKS: usize = 16_384;
 
 /// Sets the blocks that differ at the marked switches, which are all that may have some, switch by switch.
-fn push_places<W: SmpWire>(
+fn push_blocks<W: SmpWire>(
     wire: &mut W,
     routes: &Routes,
-    partition: u16,
-    before: &[GroupReceiver],
-    after: &[GroupReceiver],
-    tree: &Tree,
-    places: u64,
+    change: Change<'_>,
+    before: &RangeBlocks,
+    after: &RangeBlocks,
 ) -> Result<u32, PushFault>
-    requires partition { LiesInTable partition }
-    requires tree { IsTree routes.now tree.now 64 }
-    requires same { AllChangesMarked routes.now partition (receives_of before.now) (receives_of after.now) places }
-    ensures pushed { ChangesSlice routes.now partition (receives_of before.now) (receives_of after.now)
+    requires of { IsChangeOf routes.now change }
+    requires before { AreRangeBlocks routes.now change.partition change.before.now before.now }
+    requires after { AreRangeBlocks routes.now change.partition change.after.now after.now }
+    ensures pushed { ChangesRange routes.now change.entry.partition (receives_of change.entry.before.now) (receives_of change.entry.after.now)
         (W.fabric wire.old) (W.fabric wire.new) result }
-    ensures count { CountsChanged routes.now partition (receives_of before.now) (receives_of after.now) result }
+    ensures count { CountsChanged routes.now change.entry.partition
+        (receives_of change.entry.before.now) (receives_of change.entry.after.now) result }
 {
     let graph = routes.graph();
     graph.known_graph();
     let switches = graph.switches();
-    let switches_before = switches_of(routes, partition, before);
-    let switches_after = switches_of(routes, partition, after);
     let mut transaction_id = 0;
     let mut count = 0;
     for place in 0..switches.len() {
-        if is_marked(places, place) {
-            let blocks_before = blocks_at(routes, tree, partition, before, &switches_before, place);
-            let blocks_after = blocks_at(routes, tree, partition, after, &switches_after, place);
+        if is_marked(change.places, place) {
+            let path = switches[place].path.as_slice();
+            let blocks_before = before.at(routes, change, change.before, place);
+            let blocks_after = after.at(routes, change, change.after, place);
             match set_changed(
                 wire,
                 &mut transaction_id,
-                switches[place].path.as_slice(),
-                partition,
-                &blocks_before,
-                &blocks_after,
-            ) {
-                Ok(more) => count += more,
-                Err(fault) => return Err(fault),
-            }
-        }
-    }
-    Ok(count)
-}
-
-/// The same, by the masks of all switches.
-fn push_compared<W: SmpWire>(
-    wire: &mut W,
-    routes: &Routes,
-    partition: u16,
-    before: &[GroupReceiver],
-    after: &[GroupReceiver],
-    tree: &Tree,
-    places: u64,
-) -> Result<u32, PushFault>
-    requires partition { LiesInTable partition }
-    requires tree { IsTree routes.now tree.now 64 }
-    requires same { AllChangesMarked routes.now partition (receives_of before.now) (receives_of after.now) places }
-    ensures pushed { ChangesSlice routes.now partition (receives_of before.now) (receives_of after.now)
-        (W.fabric wire.old) (W.fabric wire.new) result }
-    ensures count { CountsChanged routes.now partition (receives_of before.now) (receives_of after.now) result }
-{
-    let graph = routes.graph();
-    graph.known_graph();
-    let switches = graph.switches();
-    let mut masks_before = [[0; SWITCHES]; WORDS_PER_BLOCK];
-    put_slice(routes, tree, partition, before, &mut masks_before);
-    let mut masks_after = [[0; SWITCHES]; WORDS_PER_BLOCK];
-    put_slice(routes, tree, partition, after, &mut masks_after);
-    let mut transaction_id = 0;
-    let mut count = 0;
-    for place in 0..switches.len() {
-        if is_marked(places, place) {
-            let blocks_before = blocks_of(&masks_before, place);
-            let blocks_after = blocks_of(&masks_after, place);
-            match set_changed(
-                wire,
-                &mut transaction_id,
-                switches[place].path.as_slice(),
-                partition,
+                path,
+                change.partition,
                 &blocks_before,
                 &blocks_after,
             ) {
@@ -155,7 +112,7 @@ fn set_changed<W: SmpWire>(
     requires partition { LiesInTable partition }
     ensures pushed { ForSome (W.fabric wire.old) (λ fabric. (guid : ℕ) → IsGood fabric → LeadsToSwitch fabric path.now guid
         → HasBlocks guid partition before.now fabric
-        → Leaves result (W.fabric wire.new) fabric (with_switches (on_switch guid (set_slice partition after.now)) fabric)) }
+        → Leaves result (W.fabric wire.new) fabric (with_switches (on_switch guid (set_range partition after.now)) fabric)) }
     ensures count { IfOk result (λ count. count ≡ blocks_changed before.now after.now) }
     ensures few { IfOk result (λ count. count ≤ 3) }
 {

@@ -35,7 +35,7 @@ impl PushFault {
     }
 }
 
-/// What a push stops with where a request told nothing.
+/// What a push stops with where a request reported nothing.
 pub(crate) fn fault_of(fault: ReplyFault) -> PushFault
     ensures { result ≡ fault_of fault }
 {
@@ -50,21 +50,21 @@ pub(crate) fn fault_of(fault: ReplyFault) -> PushFault
 pub(crate) fn meaning(
     attribute: SmpAttribute,
     wanted: &[u8; 64],
-    told: Result<[u8; 64], ReplyFault>,
+    reported: Result<[u8; 64], ReplyFault>,
 ) -> Result<(), PushFault>
-    ensures { result ≡ meaning attribute wanted.now told }
+    ensures { result ≡ meaning attribute wanted.now reported }
 {
-    match told {
-        Ok(told) => as_set(attribute, wanted, &told),
+    match reported {
+        Ok(reported) => as_set(attribute, wanted, &reported),
         Err(fault) => Err(fault_of(fault)),
     }
 }
 
 /// Whether these bytes are what was set.
-fn as_set(attribute: SmpAttribute, wanted: &[u8; 64], told: &[u8; 64]) -> Result<(), PushFault>
-    ensures { result ≡ as_set attribute wanted.now told.now }
+fn as_set(attribute: SmpAttribute, wanted: &[u8; 64], reported: &[u8; 64]) -> Result<(), PushFault>
+    ensures { result ≡ as_set attribute wanted.now reported.now }
 {
-    if compared(attribute, wanted, told) == *wanted {
+    if compared(attribute, wanted, reported) == *wanted {
         Ok(())
     } else {
         Err(PushFault::NotAsSet)
@@ -73,10 +73,10 @@ fn as_set(attribute: SmpAttribute, wanted: &[u8; 64], told: &[u8; 64]) -> Result
 
 /// What of the bytes that a reply carries is compared: a PortState that was not asked for counts for nothing.
 #[tactic(auto, unfolding(crate::specs::Fault::compared))]
-fn compared(attribute: SmpAttribute, wanted: &[u8; 64], told: &[u8; 64]) -> [u8; 64]
-    ensures { result ≡ compared attribute wanted.now told.now }
+fn compared(attribute: SmpAttribute, wanted: &[u8; 64], reported: &[u8; 64]) -> [u8; 64]
+    ensures { result ≡ compared attribute wanted.now reported.now }
 {
-    let mut bytes = *told;
+    let mut bytes = *reported;
     if attribute == SmpAttribute::PortInfo && get_bits::<260, 4>(wanted) == 0 {
         put_bits::<260, 4>(&mut bytes, 0);
     }

@@ -10,7 +10,7 @@ ghost use Rattle.sweep.specs.OfFabric.{IsGraphOf};
 ghost use Rattle.table_push.specs.Keys.{at_switches, held_as, key_table, keys_of, keys_pushed, keys_where};
 ghost use Rattle.table_push.specs.Nodes.{on_port, with_keys};
 ghost use Rattle.table_push.specs.Pushes.{LeadsToPort, Leaves};
-ghost use Rattle.table_push.specs.Steps.{PutsBlock, PutsKeysAtCable, PutsKeysAtCables, TellsWhetherThere};
+ghost use Rattle.table_push.specs.Steps.{PutsBlock, PutsKeysAtCable, PutsKeysAtCables, SaysWhetherThere};
 
 use crate::fault::{PushFault, fault_of};
 use crate::setting::set;
@@ -20,7 +20,7 @@ use smp_wire::{SmpWire, get_attribute};
 use updn_routes::Routes;
 
 /// Writes the key tables: of each end port its own keys, which stand in `keys` in order of LID, and of each port of a
-/// switch that a port of a channel adapter hangs on the full form of each of that port's keys, so that the switch lets
+/// switch that a port of a channel adapter is attached to the full form of each of that port's keys, so that the switch lets
 /// in and out what that port may send and take. Behind them the table is empty; of the blocks that are to be empty only those
 /// are written that hold something.
 ///
@@ -86,7 +86,7 @@ fn to_cables<W: SmpWire>(
     Ok(())
 }
 
-/// Sets the key tables of a port of a channel adapter, and of the port of a switch that it hangs on.
+/// Sets the key tables of a port of a channel adapter, and of the port of a switch that it is attached to.
 fn to_cable<W: SmpWire>(
     wire: &mut W,
     transaction_id: &mut u64,
@@ -214,8 +214,8 @@ fn is_there<W: SmpWire>(
     wanted: &[u8; 64],
 ) -> Result<bool, PushFault>
     requires { length path.now ≤ 63 }
-    ensures told { ForSome (W.fabric wire.old) (λ fabric. (given : List ℕ) → IsGood fabric
-        → gives_along fabric path.now attribute.PKeyTable modifier ≡ Some (Ok given) → TellsWhetherThere result given wanted.now) }
+    ensures reported { ForSome (W.fabric wire.old) (λ fabric. (given : List ℕ) → IsGood fabric
+        → gives_along fabric path.now attribute.PKeyTable modifier ≡ Some (Ok given) → SaysWhetherThere result given wanted.now) }
     ensures left { ForSome (W.fabric wire.old) (λ fabric. IsGood fabric → W.fabric wire.new ≡ Some fabric) }
 {
     if *wanted != [0; 64] {

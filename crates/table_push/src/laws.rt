@@ -3,7 +3,7 @@
 ghost use Rattle.table_push.specs.BroughtUpLaws.{AllMasksAreThere, BroughtUpForwardsByLid, BroughtUpForwardsByMlid, MasksKeepWhatIsUp, PushesBringUp, PushesKeepTheEndPorts};
 ghost use Rattle.table_push.specs.Forget.{PushesForget, PushesReplace};
 ghost use Rattle.table_push.specs.SetUp.{EachPortIsServed, EachSwitchIsSetUp};
-ghost use Rattle.table_push.specs.Laws.{EverySwitchHasItsTable, MasksAreRead, PushesKeepTheGraph, SlicesAreTheirOwn, SlicesMakeAll, SlicesMakeTheWhole};
+ghost use Rattle.table_push.specs.Laws.{EverySwitchHasItsTable, MasksAreRead, PushesKeepTheGraph, MlidRangesAreTheirOwn, MlidRangesMakeAll, MlidRangesMakeTheWhole};
 
 /// After a push over the fabric of its graph every switch has the table of its own routes, and none is left out.
 pub fn every_switch_has_its_table()
@@ -16,7 +16,7 @@ pub fn pushes_keep_the_graph()
 {}
 
 /// Once ports, key tables and linear tables are pushed in turn, each port of a channel adapter has its LID and the keys
-/// that are given for it, the port that it hangs on lets in and out what these keys tell, and each switch forwards each
+/// that are given for it, the port that it is attached to lets in and out what these keys allow, and each switch forwards each
 /// LID along the chosen way.
 pub fn brought_up_is_as_routed()
     ensures ports { EachPortIsServed }
@@ -63,11 +63,11 @@ pub fn masks_are_read()
     ensures { MasksAreRead }
 {}
 
-/// The slice of a partition is that of the receivers of its own multicast LIDs. So where masks are those of some
-/// receivers, and receivers change for one partition alone, a push of that slice makes the whole table that of the new
+/// The MLID range of a partition is that of the receivers of its own multicast LIDs. So where masks are those of some
+/// receivers, and receivers change for one partition alone, a push of that MLID range makes the whole table that of the new
 /// ones: the fabric is the one to which all masks of the new ones were pushed.
-pub fn slices_are_of_the_whole()
-    ensures own { SlicesAreTheirOwn }
-    ensures whole { SlicesMakeTheWhole }
-    ensures all { SlicesMakeAll }
+pub fn mlid_ranges_are_of_the_whole()
+    ensures own { MlidRangesAreTheirOwn }
+    ensures whole { MlidRangesMakeTheWhole }
+    ensures all { MlidRangesMakeAll }
 {}

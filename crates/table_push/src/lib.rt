@@ -1,18 +1,21 @@
 //! Tables written by SMPs: what the subnet manager sets in the agents of a fabric, over any wire.
 //!
 //! [`push_ports`] sets up all ports and LinearFDBTop, [`push_keys`] writes the key tables of all end ports and of the
-//! ports of switches that they hang on, [`push_linear`] the linear forwarding tables of all switches. Nodes are reached by
+//! ports of switches that they are attached to, [`push_linear`] the linear forwarding tables of all switches. Nodes are reached by
 //! the paths that the sweep found, blocks are set whole, and each reply is compared with what was set: [`PushFault`] says
 //! why a push stops. [`push_multicast`] writes the multicast forwarding tables of a partition, by who receives what is sent
-//! to each multicast LID, and [`push_changed`] the blocks of them that differ from those that stand there. [`push_all`] does
-//! the first three: `specs/BroughtUp.antt` says what a fabric holds then, that it does is [`pushes_bring_up`], and that every
-//! packet goes by its LID then is [`brought_up_forwards_by_lid`], for routes that lead to each port
+//! to each multicast LID, and [`push_changed`] the blocks of them that differ from those that stand there. [`port_masks`]
+//! computes the port masks of one group at all switches, along the [`Tree`] of the routes ([`tree_of`]), and sets nothing. [`push_all`] does
+//! the first three pushes. `specs/BroughtUp.antt` says what a fabric holds then, and [`pushes_bring_up`] that it does.
+//! [`brought_up_forwards_by_lid`] says that every packet goes by its LID then, for routes that lead to each port
 //! ([`known_to_lead_home`]).
 //! The attributes are those of the IBA volume 1, chapter 14.
 #![tactic(auto)]
 
+mod attachments;
 mod changes;
 mod fault;
+mod groups;
 mod keys;
 mod laws;
 mod linear;
@@ -21,20 +24,22 @@ mod multicast;
 mod places;
 mod ports;
 mod pushing;
-mod seats;
+mod range_blocks;
 mod setting;
 mod tops;
 mod trees;
 
 pub use crate::changes::push_changed;
 pub use crate::fault::PushFault;
+pub use crate::groups::port_masks;
 pub use crate::keys::push_keys;
 pub use crate::laws::{
     brought_up_forwards_by_lid, brought_up_forwards_by_mlid, brought_up_is_as_routed,
-    every_switch_has_its_table, masks_are_read, masks_keep_what_is_up, pushes_bring_up,
-    pushes_forget, pushes_keep_the_graph, slices_are_of_the_whole,
+    every_switch_has_its_table, masks_are_read, masks_keep_what_is_up,
+    mlid_ranges_are_of_the_whole, pushes_bring_up, pushes_forget, pushes_keep_the_graph,
 };
 pub use crate::linear::push_linear;
 pub use crate::multicast::push_multicast;
 pub use crate::ports::push_ports;
 pub use crate::pushing::{known_to_lead_home, push_all};
+pub use crate::trees::{Tree, tree_of};

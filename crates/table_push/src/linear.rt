@@ -13,12 +13,10 @@ use crate::fault::PushFault;
 use crate::setting::set;
 use agent_rules::LINEAR_TABLE;
 use attr_tables::{PORTS_PER_BLOCK, SmpAttribute};
+use fabric_parts::NO_PORT;
 use mad_layout::known_bytes;
 use smp_wire::SmpWire;
 use updn_routes::Routes;
-
-/// What a linear forwarding table has for a LID that the switch sends nowhere.
-const NO_PORT: u8 = 0xff;
 
 /// Writes the linear forwarding tables of all switches, whole: for each LID the next hop of the routes, and 0xFF
 /// where there is none and where nobody has the LID.

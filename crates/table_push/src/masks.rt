@@ -8,7 +8,7 @@ use attr_tables::WORDS_PER_BLOCK;
 use sweep::{Graph, GraphLink};
 use updn_routes::{Routes, SwitchRoutes};
 
-/// Of the bits of a slice those of the 16 ports of a position.
+/// Of the bits of an MLID range those of the 16 ports of a position.
 pub(crate) fn words_at(bits: &[u64; WORDS_PER_BLOCK], position: usize) -> [u16; WORDS_PER_BLOCK]
     requires { position < 3 }
     ensures { result ≡ words_at position bits.now }

@@ -6,14 +6,14 @@ ghost use Rattle.agent_rules.specs.Good.{IsTable};
 ghost use Rattle.attr_tables.specs.Blocks.{word_bytes};
 ghost use Rattle.smp_wire.specs.Good.{IsGood};
 ghost use Rattle.sweep.specs.OfFabric.{IsGraphOf};
-ghost use Rattle.table_push.specs.Masks.{LiesInTable, masks_pushed, receives_of, set_slice};
+ghost use Rattle.table_push.specs.Masks.{LiesInTable, masks_pushed, receives_of, set_range};
 ghost use Rattle.table_push.specs.Nodes.{on_switch, with_switches};
 ghost use Rattle.table_push.specs.Pushes.{LeadsToSwitch, Leaves};
 ghost use Rattle.table_push.specs.Steps.{SetsBlock};
 ghost use Rattle.table_push.specs.TreeSteps.{AreMasksOf, IsTree};
 
+use crate::attachments::put_attachments;
 use crate::fault::PushFault;
-use crate::seats::put_seats;
 use crate::setting::set;
 use crate::trees::{Tree, blocks_of, put_masks, tree_of};
 use attr_tables::{SmpAttribute, WORDS_PER_BLOCK, WordBlock};
@@ -23,7 +23,7 @@ use subnet_model::GroupReceiver;
 use switch_model::POSITIONS;
 use updn_routes::Routes;
 
-/// Writes the slice of a partition, 32 multicast LIDs, of the multicast forwarding tables of all switches: for each of these
+/// Writes the MLID range of a partition, 32 multicast LIDs, of the multicast forwarding tables of all switches: for each of these
 /// LIDs the ports that lead, along the spanning tree, to its receivers. Receivers of other multicast LIDs are passed over.
 ///
 /// Over a wire that stands for the graph's fabric these masks stand there then, and all else is as it was.
@@ -42,11 +42,11 @@ pub fn push_multicast<W: SmpWire>(
     let switches = graph.switches();
     let tree = tree_of(routes);
     let mut masks = [[0; SWITCHES]; WORDS_PER_BLOCK];
-    put_slice(routes, &tree, partition, receivers, &mut masks);
+    put_range(routes, &tree, partition, receivers, &mut masks);
     let mut transaction_id = 0;
     for place in 0..switches.len() {
         let blocks = blocks_of(&masks, place);
-        match set_slice(
+        match set_range(
             wire,
             &mut transaction_id,
             switches[place].path.as_slice(),
@@ -60,8 +60,8 @@ pub fn push_multicast<W: SmpWire>(
     Ok(())
 }
 
-/// Puts the masks of the slice of a partition, for each switch.
-pub(crate) fn put_slice(
+/// Puts the masks of the MLID range of a partition, for each switch.
+pub(crate) fn put_range(
     routes: &Routes,
     tree: &Tree,
     partition: u16,
@@ -77,12 +77,12 @@ pub(crate) fn put_slice(
     routes.between().known_routes();
     let mut ports = [[0; SWITCHES]; WORDS_PER_BLOCK];
     let mut switches = [0; WORDS_PER_BLOCK];
-    put_seats(routes, partition, receivers, &mut ports, &mut switches);
+    put_attachments(routes, partition, receivers, &mut ports, &mut switches);
     put_masks(tree, &ports, &switches, masks);
 }
 
-/// Sets the slice of a partition at the switch at the end of a path, position by position.
-fn set_slice<W: SmpWire>(
+/// Sets the MLID range of a partition at the switch at the end of a path, position by position.
+fn set_range<W: SmpWire>(
     wire: &mut W,
     transaction_id: &mut u64,
     path: &[u8],
@@ -92,7 +92,7 @@ fn set_slice<W: SmpWire>(
     requires path { length path.now ≤ 63 }
     requires partition { LiesInTable partition }
     ensures { ForSome (W.fabric wire.old) (λ fabric. (guid : ℕ) → IsGood fabric → LeadsToSwitch fabric path.now guid
-        → Leaves result (W.fabric wire.new) fabric (with_switches (on_switch guid (set_slice partition blocks.now)) fabric)) }
+        → Leaves result (W.fabric wire.new) fabric (with_switches (on_switch guid (set_range partition blocks.now)) fabric)) }
 {
     for position in 0..POSITIONS {
         match set_block(

@@ -3,13 +3,13 @@
 ghost use Rattle.std.specs.Prelude.{ℕ, ◌≡◌, ◌<◌, ◌==◌, ◌||◌, true, false, bit_or, get_or, length, slice_get};
 ghost use Rattle.std.specs.Int.{bit_at};
 ghost use Rattle.table_push.specs.Changes.{AllChangesMarked};
-ghost use Rattle.table_push.specs.Masks.{LiesInTable, receives_of, wanted_slice};
-ghost use Rattle.table_push.specs.MaskSteps.{AreReceiversBits, hangs_at, hangs_on, is_that_port, some_receives};
+ghost use Rattle.table_push.specs.Masks.{LiesInTable, receives_of, wanted_range};
+ghost use Rattle.table_push.specs.MaskSteps.{AreReceiversBits, is_attached_at, is_attached_to, is_that_port, some_receives};
 ghost use Rattle.table_push.specs.PlaceSteps.{IsNext, IsUnturned};
 ghost use Rattle.table_push.specs.TreeSteps.{IsTree, leads_up, meets, some_lead_down, where_meets};
 
+use crate::attachments::{home_bit, place_bit, ports_at, switches_of};
 use crate::masks::words_at;
-use crate::seats::{home_bit, place_bit, ports_at, switches_of};
 use crate::trees::{Tree, where_meets};
 use attr_tables::WORDS_PER_BLOCK;
 use fabric_parts::SWITCHES;
@@ -17,7 +17,7 @@ use subnet_model::GroupReceiver;
 use switch_model::POSITIONS;
 use updn_routes::Routes;
 
-/// The blocks of the slice of a partition at one switch, by positions.
+/// The blocks of the MLID range of a partition at one switch, by positions.
 pub(crate) fn blocks_at(
     routes: &Routes,
     tree: &Tree,
@@ -28,9 +28,9 @@ pub(crate) fn blocks_at(
 ) -> [[u16; WORDS_PER_BLOCK]; POSITIONS]
     requires tree { IsTree routes.now tree.now 64 }
     requires partition { LiesInTable partition }
-    requires switches { AreReceiversBits 64 partition receivers.now (hangs_on routes.now.between.homes) (λ i. get_or switches.now i 0) }
+    requires switches { AreReceiversBits 64 partition receivers.now (is_attached_to routes.now.between.homes) (λ i. get_or switches.now i 0) }
     requires place { place < 64 }
-    ensures { result ≡ wanted_slice routes.now partition (receives_of receivers.now) place }
+    ensures { result ≡ wanted_range routes.now partition (receives_of receivers.now) place }
 {
     routes.known_of_graph();
     routes.between().known_routes();
@@ -39,7 +39,7 @@ pub(crate) fn blocks_at(
     [words_at(&bits, 0), words_at(&bits, 1), words_at(&bits, 2)]
 }
 
-/// Puts the bits of the ports that lead from a switch along the tree to the switches on which receivers hang.
+/// Puts the bits of the ports that lead from a switch along the tree to the switches to which receivers are attached.
 fn put_ways(
     tree: &Tree,
     switches: &[u64; WORDS_PER_BLOCK],
@@ -82,8 +82,8 @@ fn put_way(
     }
 }
 
-/// The bits of the switches whose masks in the slice of a partition may be others after than before: those on which receivers
-/// hang that came or went, and those with a port that leads to receivers of a multicast LID after and not before, or before alone.
+/// The bits of the switches whose port masks in the MLID range of a partition may change. Either an attached receiver came or went,
+/// or a port of the tree got its first receiver of some MLID or lost its last one.
 pub(crate) fn places_that_change(
     routes: &Routes,
     tree: &Tree,
@@ -106,12 +106,12 @@ pub(crate) fn places_that_change(
     places
 }
 
-/// The bits of the switches on which receivers hang that are in one list alone. What both lists have in the same order is passed
+/// The bits of the switches to which receivers are attached that are in one list alone. What both lists have in the same order is passed
 /// over, so in lists that are sorted alike these are no others.
 fn homes_that_change(routes: &Routes, before: &[GroupReceiver], after: &[GroupReceiver]) -> u64
     ensures { (s mlid number : ℕ) → s < 64 → (bit_at result s == 1) ≡ false
-        → some_receives before.now mlid (λ lid. hangs_at routes.now.between.homes s lid number)
-        ≡ some_receives after.now mlid (λ lid. hangs_at routes.now.between.homes s lid number) }
+        → some_receives before.now mlid (λ lid. is_attached_at routes.now.between.homes s lid number)
+        ≡ some_receives after.now mlid (λ lid. is_attached_at routes.now.between.homes s lid number) }
 {
     let mut places = 0;
     let mut gone = 0;

@@ -10,7 +10,7 @@ ghost use Rattle.smp_wire.specs.Get.{gives_along};
 ghost use Rattle.smp_wire.specs.Good.{IsGood, ShowsLinks};
 ghost use Rattle.sweep.specs.OfFabric.{IsGraphOf};
 ghost use Rattle.table_push.specs.Nodes.{on_port, with_infos};
-ghost use Rattle.table_push.specs.Ports.{TakesChange, at_switch, at_switches_before, changed, changed_where, end_told, enforces, ports_pushed, state_asked, told, with_state};
+ghost use Rattle.table_push.specs.Ports.{TakesChange, at_switch, at_switches_before, changed, changed_where, with_end_set, enforces, ports_pushed, state_asked, with_lid_and_enforcement, with_state};
 ghost use Rattle.table_push.specs.Pushes.{Leaves};
 ghost use Rattle.table_push.specs.Steps.{SetsUpCable, SetsUpMore, SetsUpRest, TakesAndGives, at_links};
 
@@ -18,12 +18,9 @@ use crate::fault::{PushFault, fault_of};
 use crate::setting::set;
 use crate::tops::set_tops;
 use attr_tables::{PortInfo, PortState, SmpAttribute};
-use fabric_parts::MANAGER_LID;
+use fabric_parts::{GID_PREFIX, MANAGER_LID};
 use smp_wire::{SmpWire, get_attribute};
 use updn_routes::Routes;
-
-/// The first half of the GIDs of all ports: the link-local prefix.
-const GID_PREFIX: u64 = 0xfe80_0000_0000_0000;
 
 /// What is changed of a port; what is none stays.
 #[derive(Clone, Copy)]
@@ -37,7 +34,7 @@ pub struct PortChange {
 }
 
 /// Sets up all ports: each end port has its prefix, its LID and the subnet manager's, each port with a cable becomes
-/// Active, the ports of switches that channel adapters hang on enforce partitions and those between switches do not, and
+/// Active, the ports of switches that channel adapters are attached to enforce partitions and those between switches do not, and
 /// LinearFDBTop of each switch is the greatest LID.
 ///
 /// Over a wire that stands for the graph's fabric, whose links show, that stands there then, and all else is as it was.
@@ -153,7 +150,7 @@ fn to_cables<W: SmpWire>(
     Ok(())
 }
 
-/// Sets up a port of a channel adapter, and the port of a switch that it hangs on.
+/// Sets up a port of a channel adapter, and the port of a switch that it is attached to.
 fn to_cable<W: SmpWire>(
     wire: &mut W,
     transaction_id: &mut u64,
@@ -211,7 +208,7 @@ fn set_port<W: SmpWire>(
         Ok(held) => held,
         Err(fault) => return Err(fault),
     };
-    let info = change.told(&held);
+    let info = change.with_lid_and_enforcement(&held);
     let state = state_asked(change.active, held.port_state);
     match set_info(wire, transaction_id, path, asked, &info, state) {
         Ok(()) => {}
@@ -231,7 +228,7 @@ fn held_info<W: SmpWire>(
     asked: u8,
 ) -> Result<PortInfo, PushFault>
     requires { length path.now ≤ 63 }
-    ensures told { ForSome (W.fabric wire.old) (λ fabric. (info : PortInfo) → IsGood fabric → Fits (port_info info)
+    ensures reported { ForSome (W.fabric wire.old) (λ fabric. (info : PortInfo) → IsGood fabric → Fits (port_info info)
         → gives_along fabric path.now attribute.PortInfo asked ≡ Some (Ok (port_info_bytes info)) → result ≡ Ok info) }
     ensures left { ForSome (W.fabric wire.old) (λ fabric. IsGood fabric → W.fabric wire.new ≡ Some fabric) }
     ensures fits { IfOk result (λ info. Fits (port_info info)) }
@@ -281,20 +278,20 @@ fn set_info<W: SmpWire>(
 }
 
 impl PortChange {
-    /// What a port is told, in all but its state.
-    fn told(&self, info: &PortInfo) -> PortInfo
+    /// What a port is set to, in all but its state.
+    fn with_lid_and_enforcement(&self, info: &PortInfo) -> PortInfo
         requires { Fits (port_info info.now) }
-        ensures told { result ≡ told self.now info.now }
+        ensures reported { result ≡ with_lid_and_enforcement self.now info.now }
         ensures fits { Fits (port_info result) }
     {
-        enforces(self.enforcement, &end_told(self.lid, info))
+        enforces(self.enforcement, &with_end_set(self.lid, info))
     }
 }
 
-/// What an end port of that LID is told of itself.
-fn end_told(lid: Option<u16>, info: &PortInfo) -> PortInfo
+/// PortInfo of an end port of that LID.
+fn with_end_set(lid: Option<u16>, info: &PortInfo) -> PortInfo
     requires { Fits (port_info info.now) }
-    ensures told { result ≡ end_told lid info.now }
+    ensures reported { result ≡ with_end_set lid info.now }
     ensures fits { Fits (port_info result) }
 {
     match lid {
@@ -311,7 +308,7 @@ fn end_told(lid: Option<u16>, info: &PortInfo) -> PortInfo
 /// Whether a port of a switch enforces partitions, both ways.
 fn enforces(enforcement: Option<bool>, info: &PortInfo) -> PortInfo
     requires { Fits (port_info info.now) }
-    ensures told { result ≡ enforces enforcement info.now }
+    ensures reported { result ≡ enforces enforcement info.now }
     ensures fits { Fits (port_info result) }
 {
     match enforcement {

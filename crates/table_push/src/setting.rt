@@ -9,7 +9,7 @@ use attr_tables::SmpAttribute;
 use smp_wire::{SmpWire, set_attribute};
 
 /// Sets that part of an attribute of the node at the end of a path to these bytes, under the next TransactionID, so
-/// that a late reply is told from its own.
+/// that a late reply is distinguished from its own.
 ///
 /// Where the agent there takes them, and then has what is compared, it is done and the fabric is the one that it leaves.
 pub(crate) fn set<W: SmpWire>(
@@ -26,6 +26,6 @@ pub(crate) fn set<W: SmpWire>(
     ensures counted { transaction_id.new ≡ (transaction_id.old + 1) % 2 ^ 64 }
 {
     *transaction_id = transaction_id.wrapping_add(1);
-    let told = set_attribute(wire, *transaction_id, attribute, modifier, path, wanted);
-    meaning(attribute, wanted, told)
+    let reported = set_attribute(wire, *transaction_id, attribute, modifier, path, wanted);
+    meaning(attribute, wanted, reported)
 }

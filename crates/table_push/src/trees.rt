@@ -1,4 +1,4 @@
-//! What the spanning tree tells of each switch, and the masks that follow.
+//! What the spanning tree reports of each switch, and the masks that follow.
 
 ghost use Rattle.std.specs.Prelude.{ℕ, ◌≡◌, ◌<◌, None, bit_or, get_or, length, map, option_map};
 ghost use Rattle.std.specs.Option.{option_and_then};
@@ -13,9 +13,9 @@ use sweep::GraphLink;
 use switch_model::POSITIONS;
 use updn_routes::Routes;
 
-/// What the tree tells of each switch, by its place.
+/// The spanning tree of a fabric's routes: what it reports of each switch, by its place in the graph.
 #[derive(Drop)]
-pub(crate) struct Tree {
+pub struct Tree {
     /// The bits of the switches that are below it, and of itself.
     pub(crate) below: [u64; SWITCHES],
     /// The bits of all other places.
@@ -28,8 +28,8 @@ pub(crate) struct Tree {
     pub(crate) ends: [u64; SWITCHES],
 }
 
-/// What the tree of these routes tells.
-pub(crate) fn tree_of(routes: &Routes) -> Tree
+/// The spanning tree of these routes.
+pub fn tree_of(routes: &Routes) -> Tree
     ensures { IsTree routes.now result 64 }
 {
     routes.known_of_graph();
@@ -156,7 +156,7 @@ fn put_bit(sets: &mut [u64; SWITCHES], at: Option<usize>, bit: usize)
     }
 }
 
-/// Puts the masks of each multicast LID of a slice, for each switch, by the ports and switches on which receivers hang.
+/// Puts the masks of each multicast LID of an MLID range, for each switch, by the ports and switches to which receivers are attached.
 pub(crate) fn put_masks(
     tree: &Tree,
     ports: &[[u64; SWITCHES]; WORDS_PER_BLOCK],
@@ -173,7 +173,7 @@ pub(crate) fn put_masks(
 }
 
 /// The masks of a multicast LID, for each switch.
-fn masks_of(tree: &Tree, row: &[u64; SWITCHES], switches: u64) -> [u64; SWITCHES]
+pub(crate) fn masks_of(tree: &Tree, row: &[u64; SWITCHES], switches: u64) -> [u64; SWITCHES]
     requires { (c : ℕ) → c < 64 → IsLow (get_or tree.now.parents c None) }
     ensures long { length result ≡ 64 }
     ensures spread { IsSpread tree.now row.now switches result }
@@ -193,7 +193,7 @@ fn masks_of(tree: &Tree, row: &[u64; SWITCHES], switches: u64) -> [u64; SWITCHES
     masks
 }
 
-/// The bits of the tree ports, where receivers hang outside of what is below, beside those of a row.
+/// Adds the port up the tree to the mask of each switch that has a receiver attached outside of what is below it.
 fn with_ups(tree: &Tree, row: &[u64; SWITCHES], switches: u64) -> [u64; SWITCHES]
     ensures long { length result ≡ 64 }
     ensures ups { (s : ℕ) → s < 64 → get_or result s 0

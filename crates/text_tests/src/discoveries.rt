@@ -1,4 +1,4 @@
-//! A worked text of `ibnetdiscover`, read or refused for want of memory.
+//! A worked text of `ibnetdiscover`, read or refused since an allocation failed.
 
 use fabric_parts::PortRef;
 use netdiscover_file::{Discovery, DiscoveryFault, FarEnd, NodeId, NodeKind, PortLine, read};

@@ -4,7 +4,7 @@ use dump_file::{DumpCause, DumpFault};
 use netdiscover_file::{DiscoveryCause, DiscoveryFault};
 use std::test::Fail;
 use topo_file::TopologyCause;
-use topology_import::{ImportCause, ImportError};
+use topology_import::{ImportCause, ImportFault};
 
 const OF_DISCOVERIES: [(DiscoveryCause, &str); 4] = [
     (DiscoveryCause::Malformed, "line 7: the line is malformed"),
@@ -50,7 +50,7 @@ const OF_DUMPS: [(DumpCause, &str); 7] = [
         "line 7: the line is malformed, or stands where it cannot",
     ),
     (
-        DumpCause::EndNotTold,
+        DumpCause::EndNotReported,
         "line 7: the row does not tell whose its LID is",
     ),
     (
@@ -82,26 +82,26 @@ fn faults_of_discoveries_say_what_is_wrong(rt: HostRuntime) -> Result<(), Fail> 
             line: 7,
             cause: *cause,
         };
-        let told = format!(in rt.alloc(); "{}", fault)?;
-        assert_eq!(rt; told.as_str(), *text);
+        let reported = format!(in rt.alloc(); "{}", fault)?;
+        assert_eq!(rt; reported.as_str(), *text);
     }
-    let told = format!(in rt.alloc(); "{}", DiscoveryFault::NoMemory)?;
-    assert_eq!(rt; told.as_str(), "out of memory");
+    let reported = format!(in rt.alloc(); "{}", DiscoveryFault::NoMemory)?;
+    assert_eq!(rt; reported.as_str(), "out of memory");
     Ok(())
 }
 
 #[test]
 fn faults_of_imports_say_what_is_wrong(rt: HostRuntime) -> Result<(), Fail> {
     for (cause, text) in OF_IMPORTS.iter() {
-        let fault = ImportError::At {
+        let fault = ImportFault::At {
             line: 7,
             cause: *cause,
         };
-        let told = format!(in rt.alloc(); "{}", fault)?;
-        assert_eq!(rt; told.as_str(), *text);
+        let reported = format!(in rt.alloc(); "{}", fault)?;
+        assert_eq!(rt; reported.as_str(), *text);
     }
-    let told = format!(in rt.alloc(); "{}", ImportError::NoMemory)?;
-    assert_eq!(rt; told.as_str(), "out of memory");
+    let reported = format!(in rt.alloc(); "{}", ImportFault::NoMemory)?;
+    assert_eq!(rt; reported.as_str(), "out of memory");
     Ok(())
 }
 
@@ -112,10 +112,10 @@ fn faults_of_dumps_say_what_is_wrong(rt: HostRuntime) -> Result<(), Fail> {
             line: 7,
             cause: *cause,
         };
-        let told = format!(in rt.alloc(); "{}", fault)?;
-        assert_eq!(rt; told.as_str(), *text);
+        let reported = format!(in rt.alloc(); "{}", fault)?;
+        assert_eq!(rt; reported.as_str(), *text);
     }
-    let told = format!(in rt.alloc(); "{}", DumpFault::NoMemory)?;
-    assert_eq!(rt; told.as_str(), "out of memory");
+    let reported = format!(in rt.alloc(); "{}", DumpFault::NoMemory)?;
+    assert_eq!(rt; reported.as_str(), "out of memory");
     Ok(())
 }

@@ -3,7 +3,7 @@
 use netdiscover_file::{DiscoveryFault, read};
 use std::alloc::Global;
 use topo_file::TopologyCause;
-use topology_import::{ImportCause, ImportError, topology_text};
+use topology_import::{ImportCause, ImportFault, topology_text};
 
 /// A switch whose port 0 has another GUID than the node, three nodes of one name, two of them with ports of GUIDs that
 /// follow one another, and a router.
@@ -59,15 +59,15 @@ fn imported(
     alloc: Global,
     text: &str,
     manager: Option<u64>,
-) -> Option<Result<Vec<u8>, ImportError>> {
+) -> Option<Result<Vec<u8>, ImportFault>> {
     match read(alloc, text.as_bytes()) {
         Ok(discovery) => Some(topology_text(alloc, &discovery, manager)),
-        Err(DiscoveryFault::NoMemory) => Some(Err(ImportError::NoMemory)),
+        Err(DiscoveryFault::NoMemory) => Some(Err(ImportFault::NoMemory)),
         Err(DiscoveryFault::At { .. }) => None,
     }
 }
 
-/// Whether this is the fault, or memory was refused.
+/// Whether this is the fault, or an allocation failed.
 fn fails_at(
     alloc: Global,
     text: &str,
@@ -77,7 +77,7 @@ fn fails_at(
 ) -> bool {
     match imported(alloc, text, manager) {
         Some(Err(error)) => {
-            error == ImportError::At { line, cause } || error == ImportError::NoMemory
+            error == ImportFault::At { line, cause } || error == ImportFault::NoMemory
         }
         _ => false,
     }
@@ -87,7 +87,7 @@ fn fails_at(
 fn a_topology_is_made_of_a_discovery_or_memory_is_refused(rt: HostRuntime) {
     match imported(rt.alloc(), THREE_HOSTS, None) {
         Some(Ok(text)) => assert!(rt; text.as_slice() == THREE_HOSTS_TOPOLOGY.as_bytes()),
-        Some(Err(error)) => assert_eq!(rt; error, ImportError::NoMemory),
+        Some(Err(error)) => assert_eq!(rt; error, ImportFault::NoMemory),
         None => assert!(rt; false),
     }
 }

@@ -1,4 +1,4 @@
-//! Worked topologies, read or refused for want of memory.
+//! Worked topologies, read or refused since an allocation failed.
 
 use example_texts::TWO_SWITCHES;
 use fabric_parts::{Cable, NodeType, PortRef};

@@ -21,9 +21,9 @@ line_end_behind (suc n) [] = refl
 line_end_behind (suc n) (byte ∷ rest) =
     either (is_line_end byte) (list_any is_line_end rest) (list_any is_line_end (drop n rest)) (not (is_plain byte)) (list_any (λ b. not (is_plain b)) (take n rest)) (not_plain byte) (line_end_behind n rest)
 
-pub found_behind : (n : ℕ) (body told content : List ℕ) → told ≡ content → told ≡ take n body
-    → (list_any is_line_end body || list_any (λ byte. not (is_plain byte)) content) ≡ (list_any is_line_end (drop n body) || list_any (λ byte. not (is_plain byte)) told)
-found_behind n body told content same front = rw (← same, front) (line_end_behind n body)
+pub found_behind : (n : ℕ) (body reported content : List ℕ) → reported ≡ content → reported ≡ take n body
+    → (list_any is_line_end body || list_any (λ byte. not (is_plain byte)) content) ≡ (list_any is_line_end (drop n body) || list_any (λ byte. not (is_plain byte)) reported)
+found_behind n body reported content same front = rw (← same, front) (line_end_behind n body)
 
 pub seen_behind : (n : ℕ) (text body : List ℕ) (found : Bool) → found ≡ list_any is_line_end (take (length text - n) (drop n text)) → text ≡ body
     → found ≡ list_any is_line_end (drop n body)

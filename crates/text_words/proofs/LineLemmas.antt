@@ -18,7 +18,7 @@ lines-first (byte ∷ rest) h = by (is_line_end byte) refl (lines-first rest)
         → lines (byte ∷ rest) ≡ take (position_or_len is_line_end (byte ∷ rest) + 1) (byte ∷ rest) ∷ lines (drop (position_or_len is_line_end (byte ∷ rest) + 1) (byte ∷ rest))
     by true e later = rw e refl
     by false e later =
-        let shorter : position_or_len is_line_end rest < length rest = (let told = rw e at h in omega (arith, told)) in
+        let shorter : position_or_len is_line_end rest < length rest = (let reported = rw e at h in omega (arith, reported)) in
         rw e (longer_first byte (position_or_len is_line_end rest) rest (later shorter))
 
 one_longer : (byte : ℕ) (rest : List ℕ) → lines rest ≡ rest ∷ [] → onto_first byte (lines rest) ≡ (byte ∷ rest) ∷ []
@@ -38,7 +38,7 @@ last_line (next ∷ rest) byte h = by (is_line_end byte) refl (last_line rest ne
         → lines (byte ∷ next ∷ rest) ≡ (byte ∷ next ∷ rest) ∷ []
     by true e later = absurd (let none = rw e at h in omega (arith, none))
     by false e later =
-        let shorter : length (next ∷ rest) ≤ position_or_len is_line_end (next ∷ rest) = (let told = rw e at h in omega (arith, told)) in
+        let shorter : length (next ∷ rest) ≤ position_or_len is_line_end (next ∷ rest) = (let reported = rw e at h in omega (arith, reported)) in
         rw e (one_longer byte (next ∷ rest) (later shorter))
 
 pub lines-last : (text : List ℕ) → 0 < length text → length text ≤ position_or_len is_line_end text → lines text ≡ text ∷ []

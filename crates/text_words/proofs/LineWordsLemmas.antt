@@ -6,7 +6,7 @@ use Rattle.std.proofs.lemmas.Bool.Decides.{nat_tests}
 use Rattle.std.proofs.lemmas.List.{drop_all}
 use Rattle.std.proofs.lemmas.List.Quantifiers.{position-Some}
 use Rattle.text_words.specs.Lines.{words_between}
-use Rattle.result_words.proofs.PlaceLemmas.{place-found, place-none}
+use Rattle.step_results.proofs.PlaceLemmas.{place-found, place-none}
 
 one_more : (n byte : ℕ) (rest : List ℕ) → drop (1 + n) (byte ∷ rest) ≡ drop n rest
 one_more n byte rest = let k : 1 + n ≡ suc n = omega arith in rw k refl

@@ -1,4 +1,4 @@
--- The number that digits spell, read from the left.
+-- The number that digits encode, read from the left.
 use Rattle.std.proofs.Common.{◌≡◌, ℕ, ◌+◌, ◌*◌, ◌^◌, ◌<◌, ◌≤◌, Bool, true, false, ◌&&◌, cond, nat_lt, List, [], ◌∷◌, length, drop, get_or, Option}
 use Rattle.std.proofs.Common.{Some, None, refl, sym, ap, ◌∙◌, arith, lit<, add-one, drop-cons}
 use Rattle.std.specs.List.{list_all}
@@ -10,7 +10,7 @@ use Rattle.std.proofs.lemmas.List.{drop_all}
 use Rattle.std.proofs.lemmas.Option.{cond_some}
 use Rattle.text_words.specs.Number.{digits_in, digit_step}
 
--- the number that the digits spell when they follow those of the value
+-- the number that the digits encode when they follow those of the value
 abbrev pub digits_left : ℕ → ℕ → List ℕ → Option ℕ
 digits_left radix value digits =
     cond (list_all (λ byte. is_digit byte radix) digits && nat_lt (digits_value_after radix value digits) (2 ^ 128)) (Some (digits_value_after radix value digits)) None
@@ -54,7 +54,7 @@ stops_here radix value byte rest base step = by (is_digit byte radix) refl
 first_left : (digits : List ℕ) (i : ℕ) → i < length digits → drop i digits ≡ get_or digits i 0 ∷ drop (i + 1) digits
 first_left digits i within = rw (add-one, drop-cons digits i 0) refl
 
--- what a loop over digits keeps: the value fits, and what is left spells after it what all of them spell
+-- what a loop over digits keeps: the value fits, and what is left encodes after it what all of them encode
 pub record IsLeft (radix value : ℕ) (left digits : List ℕ) : Type 0 where
   pub fits : value < 2 ^ 128
   pub same : digits_left radix value left ≡ digits_left radix 0 digits
@@ -69,14 +69,14 @@ step_fits radix value byte next step =
     let fits = ltb-true _ _ both.1 in
     omega (arith, fits, found.1)
 
-pub spells_more : (radix value i next : ℕ) (digits : List ℕ) → i < length digits → IsLeft radix value (drop i digits) digits
+pub encodes_more : (radix value i next : ℕ) (digits : List ℕ) → i < length digits → IsLeft radix value (drop i digits) digits
     → digit_step radix value (get_or digits i 0) ≡ Some next → IsLeft radix next (drop (i + 1) digits) digits
-spells_more radix value i next digits within so_far step = record {
+encodes_more radix value i next digits within so_far step = record {
   fits = step_fits radix value (get_or digits i 0) next step;
   same = sym (goes_on radix value (get_or digits i 0) next (drop (i + 1) digits) step) ∙ ap (digits_left radix value) (sym (first_left digits i within)) ∙ so_far.same;
 }
 
--- digits that spell a number, none of them left out
+-- digits that encode a number, none of them left out
 nonempty : (radix : ℕ) (digits : List ℕ) → 0 < length digits → digits_in radix digits ≡ digits_left radix 0 digits
 nonempty radix digits some = rw (lt-ltb 0 (length digits) some) refl
 
@@ -87,7 +87,7 @@ stops radix value i digits base within so_far step =
     nonempty radix digits some ∙ sym so_far.same ∙ ap (digits_left radix value) (first_left digits i within)
     ∙ stops_here radix value (get_or digits i 0) (drop (i + 1) digits) base step
 
-pub all_spelt : (radix value i : ℕ) (digits : List ℕ) → 0 < length digits → length digits ≤ i → IsLeft radix value (drop i digits) digits
+pub all_encoded : (radix value i : ℕ) (digits : List ℕ) → 0 < length digits → length digits ≤ i → IsLeft radix value (drop i digits) digits
     → digits_in radix digits ≡ Some value
-all_spelt radix value i digits some ended so_far =
+all_encoded radix value i digits some ended so_far =
     nonempty radix digits some ∙ sym so_far.same ∙ ap (digits_left radix value) (drop_all i digits ended) ∙ rw (lt-ltb value (2 ^ 128) so_far.fits) refl

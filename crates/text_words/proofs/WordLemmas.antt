@@ -5,7 +5,7 @@ use Rattle.std.proofs.lemmas.Bool.{lt-ltb}
 use Rattle.std.proofs.lemmas.List.{take_all, length-drop}
 use Rattle.text_words.specs.Number.{number_in}
 use Rattle.text_words.specs.Words.{is_name, is_slash, port_in}
-use Rattle.result_words.proofs.PlaceLemmas.{list_any_place}
+use Rattle.step_results.proofs.PlaceLemmas.{list_any_place}
 
 pub port_found : (word : List ℕ) (slash n : ℕ) → slash ≡ position_or_len is_slash word → slash < length word → is_name (take slash word) ≡ true
     → number_in (take (length word - (slash + 1)) (drop (slash + 1) word)) ≡ Some n → Some (record { name = take slash word; number = n }) ≡ port_in word

@@ -1,10 +1,10 @@
--- Numbers, as topology files, scripts and partition files spell them.
+-- Numbers, as topology files, scripts and partition files encode them.
 use Rattle.std.specs.Prelude.{ℕ, ◌+◌, ◌*◌, ◌^◌, ◌&&◌, nat_eq, nat_lt, if◌then◌else◌, List, length, drop, codes, Option, Some, None}
 use Rattle.std.specs.List.{list_all, starts_with}
 use Rattle.std.specs.Char.{is_digit, digit_value}
 use Rattle.std.specs.Str.Parse.{digits_value}
 
--- the number that a row of digits spells: at least one digit, all of this radix, and a value of 128 bits
+-- the number that a row of digits encodes: at least one digit, all of this radix, and a value of 128 bits
 abbrev pub digits_in : ℕ → List ℕ → Option ℕ
 digits_in radix digits =
     if nat_lt 0 (length digits)

@@ -20,21 +20,21 @@ const COMMENT: u8 = b'#';
 pub(crate) fn plain_content(line: &[u8]) -> Option<&[u8]>
     ensures { option_copied result ≡ plain_content line.now }
 {
-    let told = content(line);
-    if has_bad_character(line, told) {
+    let reported = content(line);
+    if has_bad_character(line, reported) {
         return None;
     }
-    Some(told)
+    Some(reported)
 }
 
 /// Whether a byte stands in a line that may not. An LF in what the line says is found as one that is not
 /// plain.
-fn has_bad_character(line: &[u8], told: &[u8]) -> bool
-    requires told { told.now ≡ content line.now }
-    requires begins { told.now ≡ take (length told.now) (body line.now) }
+fn has_bad_character(line: &[u8], reported: &[u8]) -> bool
+    requires reported { reported.now ≡ content line.now }
+    requires begins { reported.now ≡ take (length reported.now) (body line.now) }
     ensures { result ≡ has_bad_character line.now }
 {
-    has_line_end(&body(line)[told.len()..]) || has_other_than_plain(told)
+    has_line_end(&body(line)[reported.len()..]) || has_other_than_plain(reported)
 }
 
 /// The line without the LF that ends it.
@@ -53,10 +53,10 @@ fn content(line: &[u8]) -> &[u8]
     ensures begins { result.now ≡ take (length result.now) (body line.now) }
 {
     let body = body(line);
-    let told = &body[..place_or_end(COMMENT, body)];
-    match told {
-        [front @ .., CR] if told.len() < line.len() => front,
-        _ => told,
+    let reported = &body[..place_or_end(COMMENT, body)];
+    match reported {
+        [front @ .., CR] if reported.len() < line.len() => front,
+        _ => reported,
     }
 }
 

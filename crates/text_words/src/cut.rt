@@ -8,7 +8,7 @@ ghost use Rattle.text_words.specs.Cut.{both, cut_at};
 use memchr::memchr;
 
 /// What stands before and behind the first such byte, if there is one.
-#[tactic(auto, using(result_words::proofs::PlaceLemmas::list_any_place))]
+#[tactic(auto, using(step_results::proofs::PlaceLemmas::list_any_place))]
 pub fn cut_at(wanted: u8, text: &[u8]) -> Option<(&[u8], &[u8])>
     ensures { option_map both result ≡ cut_at (λ byte. byte == wanted) text.now }
 {

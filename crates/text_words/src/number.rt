@@ -1,10 +1,10 @@
-//! Numbers, as texts spell them.
+//! Numbers, as texts encode them.
 
 ghost use Rattle.std.specs.Prelude.{◌≡◌, ◌≤◌};
 ghost use Rattle.text_words.specs.Number.{digits_in, digit_step, number_in, u16_in};
 
-/// The number that a word spells, in decimal digits or as `0x` and hexadecimal digits of either
-/// case; none where it is spelt otherwise or past 128 bits.
+/// The number that a word encodes, in decimal digits or as `0x` and hexadecimal digits of either
+/// case; none where it is encoded otherwise or past 128 bits.
 pub fn number_in(word: &[u8]) -> Option<u128>
     ensures { result ≡ number_in word.now }
 {
@@ -14,7 +14,7 @@ pub fn number_in(word: &[u8]) -> Option<u128>
     }
 }
 
-/// The number of 16 bits that a word spells.
+/// The number of 16 bits that a word encodes.
 pub fn u16_in(word: &[u8]) -> Option<u16>
     ensures { result ≡ u16_in word.now }
 {
@@ -24,7 +24,9 @@ pub fn u16_in(word: &[u8]) -> Option<u16>
     }
 }
 
-fn digits_in(radix: u32, digits: &[u8]) -> Option<u128>
+/// The number that digits of this radix encode; none where there are none, or one is no such digit, or the number is past
+/// 128 bits.
+pub fn digits_in(radix: u32, digits: &[u8]) -> Option<u128>
     requires low { 2 ≤ radix }
     requires high { radix ≤ 36 }
     ensures { result ≡ digits_in radix digits.now }

@@ -39,7 +39,7 @@ fn is_name_byte(byte: u8) -> bool
 }
 
 /// The name and the number of a port that a word writes as `NAME/NUMBER`.
-#[tactic(auto, using(result_words::proofs::PlaceLemmas::list_any_place))]
+#[tactic(auto, using(step_results::proofs::PlaceLemmas::list_any_place))]
 pub fn port_in(word: &[u8]) -> Option<PortWord<'_>>
     ensures { option_map seen result ≡ port_in word.now }
 {

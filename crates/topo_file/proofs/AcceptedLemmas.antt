@@ -4,7 +4,7 @@ use Rattle.std.specs.List.{list_any}
 use Rattle.std.specs.Option.{ok_or}
 use Rattle.std.specs.Str.{bytes_eq}
 use Rattle.std.proofs.lemmas.Bool.{and_from, and_parts, or_parts}
-use Rattle.result_words.proofs.StepLemmas.{bind_ok, let_through, not_stopped, same_ok}
+use Rattle.step_results.proofs.StepLemmas.{bind_ok, let_through, not_stopped, same_ok}
 use Rattle.text_words.specs.Number.{number_in}
 use Rattle.text_words.specs.Words.{is_name}
 use Rattle.fabric_parts.specs.declared.cable.Cable.{Cable}
@@ -17,8 +17,8 @@ use Rattle.fabric_parts.specs.NodeType.{most_ports}
 use Rattle.topo_file.specs.Cable.{may_join, port_at}
 use Rattle.topo_file.specs.Node.{is_one_too_many, lacks_guids, place_of, shares_guid}
 use Rattle.topo_file.specs.Sound.{is_named, is_sized, joins_right}
-use Rattle.topo_file.specs.Topology.{cable_of, cable_spelt, name_of, new_cable, new_node, node_of, node_spelt, number_up_to, port_of, within}
-use Rattle.result_words.proofs.PlaceLemmas.{not_there}
+use Rattle.topo_file.specs.Topology.{cable_of, cable_encoded, name_of, new_cable, new_node, node_of, node_encoded, number_up_to, port_of, within}
+use Rattle.step_results.proofs.PlaceLemmas.{not_there}
 
 in_range : (top n : ℕ) (found : Option ℕ) → within top found ≡ Ok n → (nat_le 1 n && nat_le n top) ≡ true
 in_range top n None h = cc
@@ -44,9 +44,9 @@ new_is nodes node made h =
     let room = not_stopped (is_one_too_many nodes node.node_type node.ports) OverLimit _ made guids.1 in
     (not_there (λ other. bytes_eq node.name other.name) nodes (is_none (place_of node.name nodes) named.0), guids.0, sym (same_ok node made room.1))
 
-spelt_is : (node_type : NodeType) (nodes : List Node) (name guid ports : List ℕ) (made : Node) → node_spelt node_type nodes name guid ports ≡ Ok made → IsNewNode nodes made
-unfolding node_spelt
-spelt_is node_type nodes name guid ports made h =
+encoded_is : (node_type : NodeType) (nodes : List Node) (name guid ports : List ℕ) (made : Node) → node_encoded node_type nodes name guid ports ≡ Ok made → IsNewNode nodes made
+unfolding node_encoded
+encoded_is node_type nodes name guid ports made h =
     let named = bind_ok (name_of name) _ made h in
     let numbered = bind_ok (number_up_to (2 ^ 64 - 1) guid) _ made named.2 in
     let counted = bind_ok (number_up_to (most_ports node_type) ports) _ made numbered.2 in
@@ -62,7 +62,7 @@ unfolding node_of
 new_node_is node_type nodes [] made h = cc
 new_node_is node_type nodes (a ∷ []) made h = cc
 new_node_is node_type nodes (a ∷ b ∷ []) made h = cc
-new_node_is node_type nodes (a ∷ b ∷ c ∷ []) made h = spelt_is node_type nodes a b c made h
+new_node_is node_type nodes (a ∷ b ∷ c ∷ []) made h = encoded_is node_type nodes a b c made h
 new_node_is node_type nodes (a ∷ b ∷ c ∷ d ∷ rest) made h = cc
 
 pub record IsNewCable (nodes : List Node) (cables : List Cable) (cable : Cable) : Type 0 where
@@ -77,9 +77,9 @@ joined_is nodes cables first second made h =
     let right = let_through (may_join nodes first.node second.node) (Ok (record { first = first; second = second })) WrongCableEnds made free.1 in
     rw (sym (same_ok (record { first = first; second = second }) made right.1)) (record { first = ends.0; second = ends.1; joins = right.0 })
 
-cable_spelt_is : (nodes : List Node) (cables : List Cable) (one other : List ℕ) (made : Cable) → cable_spelt nodes cables one other ≡ Ok made → IsNewCable nodes cables made
-unfolding cable_spelt
-cable_spelt_is nodes cables one other made h =
+cable_encoded_is : (nodes : List Node) (cables : List Cable) (one other : List ℕ) (made : Cable) → cable_encoded nodes cables one other ≡ Ok made → IsNewCable nodes cables made
+unfolding cable_encoded
+cable_encoded_is nodes cables one other made h =
     let a = bind_ok (port_of one) _ made h in
     let b = bind_ok (port_of other) _ made a.2 in
     let i = bind_ok (ok_or (place_of a.0.name nodes) _) _ made b.2 in
@@ -92,5 +92,5 @@ pub new_cable_is : (nodes : List Node) (cables : List Cable) (words : List (List
 unfolding cable_of
 new_cable_is nodes cables [] made h = cc
 new_cable_is nodes cables (a ∷ []) made h = cc
-new_cable_is nodes cables (a ∷ b ∷ []) made h = cable_spelt_is nodes cables a b made h
+new_cable_is nodes cables (a ∷ b ∷ []) made h = cable_encoded_is nodes cables a b made h
 new_cable_is nodes cables (a ∷ b ∷ c ∷ rest) made h = cc

@@ -2,7 +2,7 @@
 use Rattle.std.proofs.Common.{ℕ, ◌≡◌, ◌-◌, ◌≤◌, nat_le, Bool, true, false, refl, arith}
 use Rattle.std.proofs.lemmas.Bool.{and_from, and_parts, le-leb, leb-false, leb-true}
 use Rattle.topo_file.specs.declared.node.Node.{Node}
-use Rattle.topo_file.specs.Laws.{SharedGuidsAreTold}
+use Rattle.topo_file.specs.Laws.{SharedGuidsAreReported}
 use Rattle.topo_file.specs.Node.{IsGuidOf, last_guid, shares_guid}
 
 -- the greater of the two first is one of both
@@ -16,8 +16,8 @@ shared a b first second true is =
 shared a b first second false is =
     (a.guid, is_guid a a.guid (omega arith) (omega arith), is_guid b a.guid (let high = leb-false a.guid b.guid is in omega (arith, high)) first)
 
-told : (a b : Node) (guid : ℕ) → IsGuidOf a guid → IsGuidOf b guid → shares_guid a b ≡ true
-told a b guid of_a of_b =
+reported : (a b : Node) (guid : ℕ) → IsGuidOf a guid → IsGuidOf b guid → shares_guid a b ≡ true
+reported a b guid of_a of_b =
     let first = of_a.1 in
     let first_is = of_a.2 in
     let second = of_b.1 in
@@ -26,10 +26,10 @@ told a b guid of_a of_b =
     (le-leb a.guid (last_guid b) (omega (arith, first, first_is, second, second_is)))
     (le-leb b.guid (last_guid a) (omega (arith, first, first_is, second, second_is)))
 
-pub shared_guids_are_told : SharedGuidsAreTold
-shared_guids_are_told a b = (
+pub shared_guids_are_reported : SharedGuidsAreReported
+shared_guids_are_reported a b = (
   (λ both.
       let parts = and_parts (nat_le a.guid (last_guid b)) _ both in
       shared a b (leb-true a.guid (last_guid b) parts.0) (leb-true b.guid (last_guid a) parts.1) (nat_le a.guid b.guid) refl),
-  (λ some. told a b some.0 some.1 some.2),
+  (λ some. reported a b some.0 some.1 some.2),
 )

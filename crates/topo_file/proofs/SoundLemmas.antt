@@ -1,37 +1,33 @@
 -- What stays so with one more node and one more cable, and so of every topology that was read.
-use Rattle.std.proofs.Common.{◌≡◌, ◌∙◌, ap₂, Bool, ◌||◌, ℕ, zero, suc, ◌≤◌, true, false, not, ◌&&◌, nat_eq, nat_le, List, [], ◌∷◌, ◌++◌, Option, Some, None, refl, arith}
+use Rattle.std.proofs.Common.{◌≡◌, ◌∙◌, ap₂, Bool, ◌||◌, ℕ, zero, suc, true, false, not, ◌&&◌, nat_eq, nat_le, List, [], ◌∷◌, ◌++◌, Option, Some, None, refl, arith}
 use Rattle.std.specs.List.{list_all, list_any, AllByRecursion, IsDistinct}
 use Rattle.std.specs.Str.{bytes_eq}
 use Rattle.std.proofs.Math.Bool.{and_comm}
 use Rattle.std.proofs.lemmas.Bool.{and_parts, and_from, false≢true, or_from, or_parts}
 use Rattle.std.proofs.lemmas.Cmp.{nat_eq_equiv}
 use Rattle.std.proofs.lemmas.Map.Keys.{IsDistinct-push}
-use Rattle.result_words.proofs.ListLemmas.{IsDistinct-nil, list_all_push}
-use Rattle.result_words.proofs.TestLemmas.{same_either_way}
-use Rattle.std.proofs.lemmas.Bool.Decides.{nat_tests}
+use Rattle.step_results.proofs.ListLemmas.{IsDistinct-nil, list_all_push}
+use Rattle.step_results.proofs.PlaceLemmas.{port_still, read_still}
+use Rattle.step_results.proofs.TestLemmas.{same_either_way}
 use Rattle.std.proofs.lemmas.List.Elements.{All-nil, All-push}
 use Rattle.fabric_parts.specs.declared.cable.Cable.{Cable}
 use Rattle.fabric_parts.specs.declared.cable.PortRef.{PortRef}
 use Rattle.topo_file.specs.declared.node.Node.{Node}
 use Rattle.topo_file.specs.declared.draft.Manager.{Manager}
-use Rattle.topo_file.specs.Node.{HasGuids, is_one_too_many, is_switch_at, last_guid, ports_at, shares_guid}
+use Rattle.topo_file.specs.Node.{HasGuids, is_one_too_many, is_switch, is_switch_at, last_guid, shares_guid}
 use Rattle.fabric_parts.specs.Cable.{ends_at, is_cabled, is_same_port}
 use Rattle.topo_file.specs.Sound.{is_named, is_port, is_sized, ends_at_ports, is_manager_port, joins_right, on_adapter, shares_name, shares_port, AreRoots, AreSound, IsSoundSoFar}
 use Rattle.topo_file.specs.Topology.{DraftState, is_root, nothing}
 use Rattle.topo_file.proofs.AcceptedLemmas.{IsNewNode, IsNewCable}
 use Rattle.topo_file.proofs.LimitLemmas.{within_limits_more}
 
-ports_grow : (nodes : List Node) (place : ℕ) (node : Node) → ports_at nodes place ≤ ports_at (nodes ++ node ∷ []) place
-ports_grow [] place node = omega arith
-ports_grow (first ∷ nodes) zero node = omega arith
-ports_grow (first ∷ nodes) (suc place) node = ports_grow nodes place node
-
-below_more : (number few many : ℕ) → few ≤ many → (nat_le 1 number && nat_le number few) ≡ true → (nat_le 1 number && nat_le number many) ≡ true
-below_more number few many more h = grind (arith, nat_tests)
-
--- a port stays a port when a node is added
+-- a port stays a port when a node is added, and of the same kind of node
 is_port_still : (nodes : List Node) (node : Node) (port : PortRef) → is_port nodes port ≡ true → is_port (nodes ++ node ∷ []) port ≡ true
-is_port_still nodes node port h = below_more port.port (ports_at nodes port.node) (ports_at (nodes ++ node ∷ []) port.node) (ports_grow nodes port.node node) h
+is_port_still nodes node port h = port_still (λ one. one.ports) nodes node port.node port.port h
+
+type_still : (nodes : List Node) (node : Node) (port : PortRef) → is_port nodes port ≡ true
+    → is_switch_at (nodes ++ node ∷ []) port.node ≡ is_switch_at nodes port.node
+type_still nodes node port h = read_still (λ one. one.ports) is_switch false nodes node port.node port.port h
 
 ends_still : (nodes : List Node) (node : Node) (cables : List Cable) → list_all (ends_at_ports nodes) cables ≡ true
     → list_all (ends_at_ports (nodes ++ node ∷ [])) cables ≡ true
@@ -43,20 +39,10 @@ ends_still nodes node (cable ∷ cables) h =
     (and_from (is_port (nodes ++ node ∷ []) cable.first) _ (is_port_still nodes node cable.first ends.0) (is_port_still nodes node cable.second ends.1))
     (ends_still nodes node cables parts.1)
 
-type_still : (nodes : List Node) (node : Node) (place number : ℕ)
-    → (nat_le 1 number && nat_le number (ports_at nodes place)) ≡ true
-    → is_switch_at (nodes ++ node ∷ []) place ≡ is_switch_at nodes place
-type_still [] node place number h = absurd (let none = none_at number in cc)
-  where
-    none_at : (number : ℕ) → (nat_le 1 number && nat_le number 0) ≡ false
-    none_at number = grind (arith, nat_tests)
-type_still (first ∷ nodes) node zero number h = refl
-type_still (first ∷ nodes) node (suc place) number h = type_still nodes node place number h
-
 manager_port_still : (nodes : List Node) (node : Node) (port : PortRef) → is_manager_port nodes port ≡ true → is_manager_port (nodes ++ node ∷ []) port ≡ true
 manager_port_still nodes node port h =
     let parts = and_parts (not (is_switch_at nodes port.node)) (is_port nodes port) h in
-    and_from (not (is_switch_at (nodes ++ node ∷ []) port.node)) _ (rw (type_still nodes node port.node port.port parts.1) parts.0) (is_port_still nodes node port parts.1)
+    and_from (not (is_switch_at (nodes ++ node ∷ []) port.node)) _ (rw (type_still nodes node port parts.1) parts.0) (is_port_still nodes node port parts.1)
 
 manager_still : (nodes : List Node) (node : Node) (manager : Option Manager) → on_adapter nodes manager ≡ true → on_adapter (nodes ++ node ∷ []) manager ≡ true
 manager_still nodes node None h = refl
@@ -109,7 +95,7 @@ join_still : (nodes : List Node) (node : Node) (cable : Cable) → ends_at_ports
     → joins_right nodes cable ≡ true → joins_right (nodes ++ node ∷ []) cable ≡ true
 join_still nodes node cable ends joins =
     let parts = and_parts (is_port nodes cable.first) (is_port nodes cable.second) ends in
-    rw (type_still nodes node cable.first.node cable.first.port parts.0, type_still nodes node cable.second.node cable.second.port parts.1) joins
+    rw (type_still nodes node cable.first parts.0, type_still nodes node cable.second parts.1) joins
 
 joins_still : (nodes : List Node) (node : Node) (cables : List Cable) → list_all (ends_at_ports nodes) cables ≡ true → list_all (joins_right nodes) cables ≡ true
     → list_all (joins_right (nodes ++ node ∷ [])) cables ≡ true

@@ -4,7 +4,7 @@ use Rattle.std.proofs.Common.{◌≡◌, ℕ, zero, suc, ◌+◌, ◌<◌, Bool,
 use Rattle.std.proofs.Common.{filter, get_or, slice_get, position, Option, Some, None, refl, sym, ap, subst, ◌∙◌, inl, inr, arith, zero-add}
 use Rattle.std.specs.List.{list_all, list_any, position_or_len, range_with_len}
 use Rattle.std.specs.Option.{option_map_or}
-use Rattle.result_words.proofs.ListLemmas.{list_any_weaker}
+use Rattle.step_results.proofs.ListLemmas.{list_any_weaker}
 use Rattle.std.proofs.lemmas.Bool.{and_parts, and_from, or_cases, or_parts, or_left, or_right, eqb-true, eq-eqb, false≢true}
 use Rattle.std.proofs.lemmas.List.Folds.{list_all_at, list_any_at}
 use Rattle.std.proofs.lemmas.List.FromFn.{get_or-range_with_len, length-range_with_len}
@@ -14,7 +14,7 @@ use Rattle.topo_file.specs.declared.node.Node.{Node}
 use Rattle.topo_file.specs.Node.{is_switch, is_switch_at, switch_count}
 use Rattle.topo_file.specs.Connectivity.{is_connected, is_joined_within, joins, is_walk, switches, Joined, AllJoined}
 use Rattle.topo_file.specs.Rounds.{is_marked, leads_to, after_rounds, leads_to_all, leads_to_all_from}
-use Rattle.result_words.proofs.PlaceLemmas.{not_there, one_more}
+use Rattle.step_results.proofs.PlaceLemmas.{not_there, one_more}
 use Rattle.topo_file.proofs.MarkLemmas.{mark-spread, mark-only, marked_switch, only_marks, stays, rests, all_marked, from_marked}
 
 -- a cable joins both ways
@@ -161,12 +161,12 @@ reached_joined : (nodes : List Node) (cables : List Cable) → leads_to_all node
 reached_joined nodes cables h = by (position is_switch nodes) refl h
   where
     by : (o : Option ℕ) → position is_switch nodes ≡ o → leads_to_all_from nodes cables o ≡ true → AllJoined nodes cables
-    by None e told a b at bt = absurd (let never = fails_at is_switch nodes a (not_there is_switch nodes e) in cc)
-    by (Some place) e told a b at bt =
+    by None e reported a b at bt = absurd (let never = fails_at is_switch nodes a (not_there is_switch nodes e) in cc)
+    by (Some place) e reported a b at bt =
         let start = first_is_switch nodes place e in
         let marks = after_rounds nodes cables place (switch_count nodes) in
-        let to_a = sound nodes cables place (switch_count nodes) a start (subst (λ (k : ℕ). is_marked marks k ≡ true) (zero-add a) (all_marked 0 nodes marks told a at)) in
-        let to_b = sound nodes cables place (switch_count nodes) b start (subst (λ (k : ℕ). is_marked marks k ≡ true) (zero-add b) (all_marked 0 nodes marks told b bt)) in
+        let to_a = sound nodes cables place (switch_count nodes) a start (subst (λ (k : ℕ). is_marked marks k ≡ true) (zero-add a) (all_marked 0 nodes marks reported a at)) in
+        let to_b = sound nodes cables place (switch_count nodes) b start (subst (λ (k : ℕ). is_marked marks k ≡ true) (zero-add b) (all_marked 0 nodes marks reported b bt)) in
         let back : Joined nodes cables a place = walk_back nodes cables place to_a.0 a to_a.1 in
         walk_on nodes cables a back.0 place b back.1 to_b
 
@@ -222,9 +222,9 @@ some_switch : (nodes : List Node) (q : ℕ → Bool) → list_any q (switches no
 some_switch nodes q h = from (range_with_len 0 (length nodes)) (sym (any_of (is_switch_at nodes) q (range_with_len 0 (length nodes))) ∙ h)
   where
     from : (places : List ℕ) → list_any (λ k. is_switch_at nodes k && q k) places ≡ true → (i : ℕ) × ((is_switch_at nodes i ≡ true) × (q i ≡ true))
-    from [] told = absurd cc
-    from (i ∷ places) told =
-        elim (or_cases (is_switch_at nodes i && q i) _ told) [ inl here ↦ let parts = and_parts (is_switch_at nodes i) (q i) here in (i, (parts.0, parts.1)) | inr later ↦ from places later ]
+    from [] reported = absurd cc
+    from (i ∷ places) reported =
+        elim (or_cases (is_switch_at nodes i && q i) _ reported) [ inl here ↦ let parts = and_parts (is_switch_at nodes i) (q i) here in (i, (parts.0, parts.1)) | inr later ↦ from places later ]
 
 -- a test that each switch passes
 each_switch : (nodes : List Node) (q : ℕ → Bool) → list_all q (switches nodes) ≡ true → (i : ℕ) → is_switch_at nodes i ≡ true → q i ≡ true

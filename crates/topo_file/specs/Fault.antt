@@ -1,8 +1,5 @@
--- The faults of a topology: their codes, and what the error of its reader tells.
-use Rattle.std.specs.Prelude.{ℕ, List, codes, Option, Some, None}
-use Rattle.result_words.specs.AtLine.{AtLine}
-use Rattle.topo_file.specs.declared.fault.TopoFault.{TopoFault}
-use Rattle.topo_file.specs.declared.fault.TopoFault.TheVariants.{NoMemory, At}
+-- The codes of the faults of a topology.
+use Rattle.std.specs.Prelude.{ℕ, List, codes}
 use Rattle.topo_file.specs.declared.fault.TopologyCause.{TopologyCause}
 use Rattle.topo_file.specs.declared.fault.TopologyCause.TheVariants.{Malformed, DuplicateName, DuplicateGuid, UnknownNode, NoSuchPort, PortTaken}
 use Rattle.topo_file.specs.declared.fault.TopologyCause.TheVariants.{WrongCableEnds, WrongManager, Disconnected, OverLimit, ManagerUncabled}
@@ -21,8 +18,3 @@ code_of Disconnected = codes "TF9"
 code_of OverLimit = codes "TF10"
 code_of ManagerUncabled = codes "TF11"
 code_of RootNotSwitch = codes "TF12"
-
--- what is wrong with the text, if the error tells it; none where memory was refused
-abbrev pub fault_in : TopoFault → Option (AtLine TopologyCause)
-fault_in NoMemory = None
-fault_in (At number cause) = Some (record { line = number; cause = cause })

@@ -15,6 +15,6 @@ LimitsAreMet =
     (nodes : List Node) (node : Node) → IsWithinLimits nodes
     → is_one_too_many nodes node.node_type node.ports ≡ false ↔ IsWithinLimits (nodes ++ node ∷ [])
 
--- two nodes are told to share a GUID exactly where some GUID is one of both
-abbrev pub SharedGuidsAreTold : Type 0
-SharedGuidsAreTold = (a b : Node) → shares_guid a b ≡ true ↔ ((guid : ℕ) × IsGuidOf a guid × IsGuidOf b guid)
+-- two nodes are reported to share a GUID exactly where some GUID is one of both
+abbrev pub SharedGuidsAreReported : Type 0
+SharedGuidsAreReported = (a b : Node) → shares_guid a b ≡ true ↔ ((guid : ℕ) × IsGuidOf a guid × IsGuidOf b guid)

@@ -3,8 +3,8 @@ use Rattle.std.specs.Prelude.{ℕ, Bool, ◌-◌, ◌^◌, ◌==◌, not, ◌&&�
 use Rattle.std.specs.List.{list_any}
 use Rattle.std.specs.Option.{ok_or}
 use Rattle.std.specs.Str.{bytes_eq}
-use Rattle.result_words.specs.AtLine.{AtLine, after_lines, on_line}
-use Rattle.result_words.specs.Steps.{◌>>=◌}
+use Rattle.step_results.specs.AtLine.{AtLine, after_lines, on_line}
+use Rattle.step_results.specs.Steps.{◌>>=◌}
 use Rattle.text_words.specs.Lines.{lines, words_of}
 use Rattle.text_words.specs.Number.{number_in}
 use Rattle.text_words.specs.Words.{Port, is_name, port_in}
@@ -63,15 +63,15 @@ new_node nodes node =
     else (if is_one_too_many nodes node.node_type node.ports then Err OverLimit
     else Ok node))
 
-unfoldable pub node_spelt : NodeType → List Node → List ℕ → List ℕ → List ℕ → Result Node TopologyCause
-node_spelt node_type nodes name guid ports = do
+unfoldable pub node_encoded : NodeType → List Node → List ℕ → List ℕ → List ℕ → Result Node TopologyCause
+node_encoded node_type nodes name guid ports = do
   named ← name_of name
   number ← number_up_to (2 ^ 64 - 1) guid
   count ← number_up_to (most_ports node_type) ports
   new_node nodes (record { name = named; node_type = node_type; guid = number; ports = count })
 
 unfoldable pub node_of : NodeType → List Node → List (List ℕ) → Result Node TopologyCause
-node_of node_type nodes (name ∷ guid ∷ ports ∷ []) = node_spelt node_type nodes name guid ports
+node_of node_type nodes (name ∷ guid ∷ ports ∷ []) = node_encoded node_type nodes name guid ports
 node_of node_type nodes _ = Err Malformed
 
 -- `cable PORT PORT`, of two ports that have none yet
@@ -81,8 +81,8 @@ new_cable nodes cables first second =
     else (if may_join nodes first.node second.node then Ok (record { first = first; second = second })
     else Err WrongCableEnds)
 
-unfoldable pub cable_spelt : List Node → List Cable → List ℕ → List ℕ → Result Cable TopologyCause
-cable_spelt nodes cables one other = do
+unfoldable pub cable_encoded : List Node → List Cable → List ℕ → List ℕ → Result Cable TopologyCause
+cable_encoded nodes cables one other = do
   a ← port_of one
   b ← port_of other
   i ← ok_or (place_of a.name nodes) UnknownNode
@@ -92,7 +92,7 @@ cable_spelt nodes cables one other = do
   new_cable nodes cables first second
 
 unfoldable pub cable_of : List Node → List Cable → List (List ℕ) → Result Cable TopologyCause
-cable_of nodes cables (one ∷ other ∷ []) = cable_spelt nodes cables one other
+cable_of nodes cables (one ∷ other ∷ []) = cable_encoded nodes cables one other
 cable_of nodes cables _ = Err Malformed
 
 -- `root NAME`, of a switch that is no root yet
@@ -105,14 +105,14 @@ new_root nodes roots place =
     else (if is_root roots place then Err DuplicateName
     else Ok place)
 
-unfoldable pub root_spelt : List Node → List ℕ → List ℕ → Result ℕ TopologyCause
-root_spelt nodes roots word = do
+unfoldable pub root_encoded : List Node → List ℕ → List ℕ → Result ℕ TopologyCause
+root_encoded nodes roots word = do
   name ← name_of word
   place ← ok_or (place_of name nodes) UnknownNode
   new_root nodes roots place
 
 unfoldable pub root_of : List Node → List ℕ → List (List ℕ) → Result ℕ TopologyCause
-root_of nodes roots (word ∷ []) = root_spelt nodes roots word
+root_of nodes roots (word ∷ []) = root_encoded nodes roots word
 root_of nodes roots _ = Err Malformed
 
 -- `sm PORT`, which stands once and names a port of an adapter
@@ -120,29 +120,29 @@ abbrev pub new_manager : List Node → Option Manager → ℕ → PortRef → Re
 new_manager nodes manager number port =
     if is_some manager || is_switch_at nodes port.node then Err WrongManager else Ok (record { port = port; line = number })
 
-unfoldable pub manager_spelt : List Node → Option Manager → ℕ → List ℕ → Result Manager TopologyCause
-manager_spelt nodes manager number word = do
+unfoldable pub manager_encoded : List Node → Option Manager → ℕ → List ℕ → Result Manager TopologyCause
+manager_encoded nodes manager number word = do
   a ← port_of word
   i ← ok_or (place_of a.name nodes) UnknownNode
   port ← ok_or (port_at nodes i a.number) NoSuchPort
   new_manager nodes manager number port
 
 unfoldable pub manager_of : List Node → Option Manager → ℕ → List (List ℕ) → Result Manager TopologyCause
-manager_of nodes manager number (word ∷ []) = manager_spelt nodes manager number word
+manager_of nodes manager number (word ∷ []) = manager_encoded nodes manager number word
 manager_of nodes manager number _ = Err Malformed
 
--- ---- a line after those before it: what is declared with what the line tells
+-- ---- a line after those before it: what is declared with what the line reports
 abbrev pub with_node : DraftState → Result Node TopologyCause → Result DraftState TopologyCause
-with_node so_far told = told >>= λ node. Ok (record so_far { nodes = so_far.nodes ++ node ∷ [] })
+with_node so_far reported = reported >>= λ node. Ok (record so_far { nodes = so_far.nodes ++ node ∷ [] })
 
 abbrev pub with_cable : DraftState → Result Cable TopologyCause → Result DraftState TopologyCause
-with_cable so_far told = told >>= λ cable. Ok (record so_far { cables = so_far.cables ++ cable ∷ [] })
+with_cable so_far reported = reported >>= λ cable. Ok (record so_far { cables = so_far.cables ++ cable ∷ [] })
 
 abbrev pub with_root : DraftState → Result ℕ TopologyCause → Result DraftState TopologyCause
-with_root so_far told = told >>= λ root. Ok (record so_far { roots = so_far.roots ++ root ∷ [] })
+with_root so_far reported = reported >>= λ root. Ok (record so_far { roots = so_far.roots ++ root ∷ [] })
 
 abbrev pub with_manager : DraftState → Result Manager TopologyCause → Result DraftState TopologyCause
-with_manager so_far told = told >>= λ manager. Ok (record so_far { manager = Some manager })
+with_manager so_far reported = reported >>= λ manager. Ok (record so_far { manager = Some manager })
 
 -- the first word says what the line declares; a line without words declares nothing
 unfoldable pub after_words : ℕ → DraftState → List (List ℕ) → Result DraftState TopologyCause

@@ -57,7 +57,7 @@ impl CableList {
         self.ends.contains(&port)
     }
 
-    /// Adds a cable at the end. Memory alone can be refused, and then the list stays as it was.
+    /// Adds a cable at the end. It can only run out of memory, and then the list stays as it was.
     pub(crate) fn push(&mut self, cable: Cable) -> Result<(), AllocError>
         ensures ok { OnOk result (self.new ≡ self.old ++ cable ∷ []) }
         ensures err { OnErr result (self.new ≡ self.old) }

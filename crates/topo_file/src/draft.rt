@@ -7,7 +7,7 @@ ghost use Rattle.topo_file.specs.Node.{HasGuids, is_one_too_many, is_switch_at, 
 ghost use Rattle.topo_file.specs.NewNode.{seen};
 ghost use Rattle.topo_file.specs.Cable.{port_at};
 ghost use Rattle.topo_file.specs.Sound.{is_port};
-ghost use Rattle.result_words.specs.Gives.{seen_by};
+ghost use Rattle.step_results.specs.Gives.{seen_by};
 ghost use Rattle.topo_file.specs.Topology.{is_root, new_node, new_cable, new_root, new_manager, nothing};
 
 use crate::cable::{CableList, may_join, port_at};

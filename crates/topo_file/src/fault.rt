@@ -3,8 +3,7 @@
 ghost use Rattle.std.specs.Prelude.{◌≡◌};
 ghost use Rattle.topo_file.specs.Fault.{code_of};
 
-use result_words::LineError;
-use std::alloc::AllocError;
+use step_results::{LineError, TextFault};
 use thiserror::Error;
 
 /// What is wrong with a line, or with the text as a whole.
@@ -72,38 +71,14 @@ impl TopologyCause {
 }
 
 /// Why a topology text was not read.
-#[derive(Clone, Copy, Debug, PartialEq, Eq, Error)]
-pub enum TopoFault {
-    /// Memory was refused.
-    #[error("out of memory")]
-    NoMemory,
-    /// The first fault of the text.
-    #[error("line {line}: {cause}")]
-    At {
-        /// The line, counted from 1; 0 where the fault is of no line, but of the text as a whole.
-        line: usize,
-        /// What is wrong.
-        cause: TopologyCause,
-    },
-}
+pub type TopoFault = TextFault<TopologyCause>;
 
 impl From<TopologyCause> for LineError<TopologyCause> {
-    ghost use Rattle.result_words.specs.declared.line_error.LineError.TheVariants.{Fault};
+    ghost use Rattle.step_results.specs.declared.line_error.LineError.TheVariants.{Fault};
 
     ghost from_gives = { λ cause e. e ≡ Fault cause };
 
     fn from(cause: TopologyCause) -> LineError<TopologyCause> {
         LineError::Fault(cause)
-    }
-}
-
-impl From<AllocError> for TopoFault {
-    ghost use Rattle.std.specs.Prelude.{◌≡◌};
-    ghost use Rattle.topo_file.specs.declared.fault.TopoFault.TheVariants as text;
-
-    ghost from_gives = { λ _ e. e ≡ text.NoMemory };
-
-    fn from(_error: AllocError) -> TopoFault {
-        TopoFault::NoMemory
     }
 }

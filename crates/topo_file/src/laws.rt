@@ -1,6 +1,6 @@
 //! What is so of all nodes and cables. The functions do nothing; their clauses are the theorems.
 
-ghost use Rattle.topo_file.specs.Laws.{ConnectedMeansJoined, LimitsAreMet, SharedGuidsAreTold};
+ghost use Rattle.topo_file.specs.Laws.{ConnectedMeansJoined, LimitsAreMet, SharedGuidsAreReported};
 
 /// The law of the test that the definition of [`read`] asks last: it is true exactly where walks over
 /// cables join every two switches.
@@ -18,6 +18,6 @@ pub fn limits_are_met()
 
 /// The law of GUIDs: two nodes cannot both stand in a topology exactly where some GUID is one of both, be it a node's own
 /// or that of a port.
-pub fn shared_guids_are_told()
-    ensures { SharedGuidsAreTold }
+pub fn shared_guids_are_reported()
+    ensures { SharedGuidsAreReported }
 {}

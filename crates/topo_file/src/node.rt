@@ -166,7 +166,7 @@ impl NodeList {
         self.names.get_index_of(name)
     }
 
-    /// Adds a node at the end. Memory alone can be refused, and then the list stays as it was.
+    /// Adds a node at the end. It can only run out of memory, and then the list stays as it was.
     pub(crate) fn push(&mut self, alloc: Global, node: &NewNode) -> Result<(), AllocError>
         requires new { place_of node.now.name.now self.old ≡ None }
         requires short { length node.now.name.now ≤ NAME_BYTES }

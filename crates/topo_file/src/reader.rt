@@ -1,16 +1,14 @@
 //! The reader of a whole topology.
 
-ghost use Rattle.std.specs.Prelude.{◌≡◌, ◌≤◌, true, false, None, length, map, IfOk};
-ghost use Rattle.text_words.specs.Lines.{lines};
+ghost use Rattle.std.specs.Prelude.{◌≡◌, ◌≤◌, true, false, None, length, IfOk};
 ghost use Rattle.fabric_parts.specs.declared.limits.TheConstants.{NAME_BYTES};
 ghost use Rattle.text_words.specs.Words.{seen as port_seen};
 ghost use Rattle.topo_file.specs.Node.{HasGuids, is_one_too_many, is_switch_at, place_of};
 ghost use Rattle.topo_file.specs.NewNode.{seen};
 ghost use Rattle.topo_file.specs.Sound.{ends_at_ports, is_manager_port};
-ghost use Rattle.result_words.specs.AtLine.{on_line};
-ghost use Rattle.result_words.specs.Gives.{Gives, LineGives, seen_by};
-ghost use Rattle.topo_file.specs.Fault.{fault_in};
-ghost use Rattle.topo_file.specs.Topology.{name_of, port_of, number_up_to, node_spelt, node_of, cable_spelt, cable_of, root_spelt, root_of, manager_spelt, manager_of, is_root, with_node, with_cable, with_root, with_manager, after_words, after_line, whole, declarations_of, topology_of};
+ghost use Rattle.step_results.specs.Gives.{LineGives, seen_by};
+ghost use Rattle.step_results.specs.TextGives.{TextGives};
+ghost use Rattle.topo_file.specs.Topology.{name_of, port_of, number_up_to, node_encoded, node_of, cable_encoded, cable_of, root_encoded, root_of, manager_encoded, manager_of, is_root, with_node, with_cable, with_root, with_manager, after_words, after_line, whole, topology_of};
 
 use crate::connectivity::is_connected;
 use crate::draft::{Draft, Manager};
@@ -18,9 +16,9 @@ use crate::fault::{TopoFault, TopologyCause};
 use crate::node::NewNode;
 use crate::topology::Topology;
 use fabric_parts::{Cable, NodeType};
-use result_words::LineError;
 use std::alloc::Global;
-use text_words::{Lines, PortWord, Words, is_name, number_in, port_in};
+use step_results::LineError;
+use text_words::{LineReader, PortWord, Words, is_name, number_in, port_in, read_lines};
 
 impl Draft {
     /// The node that a line declares, by the words after the first.
@@ -45,18 +43,18 @@ impl Draft {
         ) else {
             return Err(TopologyCause::Malformed);
         };
-        self.node_spelt(node_type, name, guid, ports)
+        self.node_encoded(node_type, name, guid, ports)
     }
 
-    #[tactic(auto, unfolding(crate::specs::Topology::node_spelt))]
-    fn node_spelt<'a>(
+    #[tactic(auto, unfolding(crate::specs::Topology::node_encoded))]
+    fn node_encoded<'a>(
         &self,
         node_type: NodeType,
         name: &'a [u8],
         guid: &[u8],
         ports: &[u8],
     ) -> Result<NewNode<'a>, TopologyCause>
-        ensures value { seen_by seen result ≡ node_spelt node_type self.now.nodes name.now guid.now ports.now }
+        ensures value { seen_by seen result ≡ node_encoded node_type self.now.nodes name.now guid.now ports.now }
         ensures new { IfOk result (λ node. place_of node.name.now self.now.nodes ≡ None) }
         ensures short { IfOk result (λ node. length node.name.now ≤ NAME_BYTES) }
         ensures guids { IfOk result (λ node. HasGuids (seen node)) }
@@ -85,12 +83,12 @@ impl Draft {
         let (Some(one), Some(other), None) = (words.next(), words.next(), words.next()) else {
             return Err(TopologyCause::Malformed);
         };
-        self.cable_spelt(one, other)
+        self.cable_encoded(one, other)
     }
 
-    #[tactic(auto, unfolding(crate::specs::Topology::cable_spelt))]
-    fn cable_spelt(&self, one: &[u8], other: &[u8]) -> Result<Cable, TopologyCause>
-        ensures value { result ≡ cable_spelt self.now.nodes self.now.cables one.now other.now }
+    #[tactic(auto, unfolding(crate::specs::Topology::cable_encoded))]
+    fn cable_encoded(&self, one: &[u8], other: &[u8]) -> Result<Cable, TopologyCause>
+        ensures value { result ≡ cable_encoded self.now.nodes self.now.cables one.now other.now }
         ensures ends { IfOk result (λ cable. ends_at_ports self.now.nodes cable ≡ true) }
     {
         let one = port_of(one)?;
@@ -113,12 +111,12 @@ impl Draft {
         let (Some(word), None) = (words.next(), words.next()) else {
             return Err(TopologyCause::Malformed);
         };
-        self.root_spelt(word)
+        self.root_encoded(word)
     }
 
-    #[tactic(auto, unfolding(crate::specs::Topology::root_spelt))]
-    fn root_spelt(&self, word: &[u8]) -> Result<usize, TopologyCause>
-        ensures value { result ≡ root_spelt self.now.nodes self.now.roots word.now }
+    #[tactic(auto, unfolding(crate::specs::Topology::root_encoded))]
+    fn root_encoded(&self, word: &[u8]) -> Result<usize, TopologyCause>
+        ensures value { result ≡ root_encoded self.now.nodes self.now.roots word.now }
         ensures switch { IfOk result (λ root. is_switch_at self.now.nodes root ≡ true) }
         ensures own { IfOk result (λ root. is_root self.now.roots root ≡ false) }
     {
@@ -137,12 +135,12 @@ impl Draft {
         let (Some(word), None) = (words.next(), words.next()) else {
             return Err(TopologyCause::Malformed);
         };
-        self.manager_spelt(number, word)
+        self.manager_encoded(number, word)
     }
 
-    #[tactic(auto, unfolding(crate::specs::Topology::manager_spelt))]
-    fn manager_spelt(&self, number: usize, word: &[u8]) -> Result<Manager, TopologyCause>
-        ensures value { result ≡ manager_spelt self.now.nodes self.now.manager number word.now }
+    #[tactic(auto, unfolding(crate::specs::Topology::manager_encoded))]
+    fn manager_encoded(&self, number: usize, word: &[u8]) -> Result<Manager, TopologyCause>
+        ensures value { result ≡ manager_encoded self.now.nodes self.now.manager number word.now }
         ensures on_adapter { IfOk result (λ manager. is_manager_port self.now.nodes manager.port ≡ true) }
     {
         let word = port_of(word)?;
@@ -223,37 +221,10 @@ impl Draft {
         Err(LineError::Fault(TopologyCause::Malformed))
     }
 
-    #[tactic(auto, unfolding(crate::specs::Topology::after_line))]
-    fn take_line(
-        &mut self,
-        alloc: Global,
-        number: usize,
-        line: &[u8],
-    ) -> Result<(), LineError<TopologyCause>>
-        ensures { LineGives (λ _. self.new) result (after_line number self.old line.now) }
-    {
-        let words = Words::of(line).ok_or(TopologyCause::Malformed)?;
-        self.take_words(alloc, number, words)
-    }
-
-    /// Takes the line of this number, and tells its fault with the number.
-    fn take_numbered(&mut self, alloc: Global, number: usize, line: &[u8]) -> Result<(), TopoFault>
-        ensures { Gives fault_in (λ _. self.new) result (on_line number (after_line number self.old line.now)) }
-    {
-        match self.take_line(alloc, number, line) {
-            Ok(()) => Ok(()),
-            Err(LineError::NoMemory) => Err(TopoFault::NoMemory),
-            Err(LineError::Fault(cause)) => Err(TopoFault::At {
-                line: number,
-                cause,
-            }),
-        }
-    }
-
     /// The topology, if all lines together describe one.
     #[tactic(auto, unfolding(crate::specs::Topology::whole))]
     fn finish(self, alloc: Global) -> Result<Topology, TopoFault>
-        ensures { Gives fault_in (λ topology. topology) result (whole self) }
+        ensures { TextGives (λ topology. topology) result (whole self) }
     {
         let Some(manager) = self.manager else {
             return Err(TopoFault::At {
@@ -282,6 +253,23 @@ impl Draft {
     }
 }
 
+impl LineReader for Draft {
+    type Cause = TopologyCause;
+
+    ghost after_line = { after_line };
+
+    #[tactic(auto, unfolding(crate::specs::Topology::after_line))]
+    fn take_line(
+        &mut self,
+        alloc: Global,
+        number: usize,
+        line: &[u8],
+    ) -> Result<(), LineError<TopologyCause>> {
+        let words = Words::of(line).ok_or(TopologyCause::Malformed)?;
+        self.take_words(alloc, number, words)
+    }
+}
+
 fn name_of(word: &[u8]) -> Result<&[u8], TopologyCause>
     ensures value { seen_by (λ name. name.now) result ≡ name_of word.now }
     ensures short { IfOk result (λ name. length name.now ≤ NAME_BYTES) }
@@ -298,7 +286,7 @@ fn port_of(word: &[u8]) -> Result<PortWord<'_>, TopologyCause>
     port_in(word).ok_or(TopologyCause::Malformed)
 }
 
-/// The number that a word spells, if it is one from 1 to `top`.
+/// The number that a word encodes, if it is one from 1 to `top`.
 fn number_up_to(top: u64, word: &[u8]) -> Result<u64, TopologyCause>
     ensures value { result ≡ number_up_to top word.now }
     ensures within { IfOk result (λ number. number ≤ top) }
@@ -309,26 +297,14 @@ fn number_up_to(top: u64, word: &[u8]) -> Result<u64, TopologyCause>
     }
 }
 
-fn declarations_of(alloc: Global, text: &[u8]) -> Result<Draft, TopoFault>
-    ensures { Gives fault_in (λ draft. draft) result (declarations_of text.now) }
-{
-    let mut draft = Draft::new(alloc);
-    let mut number = 0;
-    for line in Lines::new(text) {
-        number += 1;
-        draft.take_numbered(alloc, number, line)?;
-    }
-    Ok(draft)
-}
-
 /// The topology that a text describes, or its first fault with the line.
 ///
 /// Lines are judged in turn, each after those before it; `specs/Topology.antt` says how. Time is
 /// linear in the length of the text, and only names are copied.
 #[tactic(auto, unfolding(crate::specs::Topology::topology_of))]
 pub fn read(alloc: Global, text: &[u8]) -> Result<Topology, TopoFault>
-    ensures { Gives fault_in (λ topology. topology) result (topology_of text.now) }
+    ensures { TextGives (λ topology. topology) result (topology_of text.now) }
 {
-    let draft = declarations_of(alloc, text)?;
+    let draft = read_lines(alloc, text, Draft::new(alloc))?;
     draft.finish(alloc)
 }

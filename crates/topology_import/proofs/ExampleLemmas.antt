@@ -5,9 +5,9 @@ use Rattle.fabric_parts.specs.declared.cable.Cable.{Cable}
 use Rattle.fabric_parts.specs.declared.node_type.NodeType.TheVariants.{ChannelAdapter, Switch}
 use Rattle.std.specs.Fmt.{digits}
 use Rattle.hex.specs.Hex.{encode_with}
-use Rattle.result_words.specs.AtLine.{after_lines}
+use Rattle.step_results.specs.AtLine.{after_lines}
 use Rattle.topo_file.specs.declared.node.Node.{Node}
-use Rattle.topo_file.specs.Topology.{TopologyState, after_line, after_words, cable_of, cable_spelt, manager_of, manager_spelt, node_of, node_spelt, topology_of, whole}
+use Rattle.topo_file.specs.Topology.{TopologyState, after_line, after_words, cable_of, cable_encoded, manager_of, manager_encoded, node_of, node_encoded, topology_of, whole}
 use Rattle.topology_import.specs.Agreement.{agrees}
 use Rattle.topology_import.specs.Ends.{ends}
 use Rattle.topology_import.specs.Examples.{EndsAreCounted, OthersAreRefused, PortsAreImported, two_hosts, two_hosts_text, TwoHostsAreImported, two_ports, two_ports_text}
@@ -29,12 +29,12 @@ plan = record {
   sm = port 1 1;
 }
 
-told : text_of two_hosts 33 ≡ two_hosts_text
+reported : text_of two_hosts 33 ≡ two_hosts_text
 unfolding digits encode_with named text_with
-told = refl
+reported = refl
 
 read : topology_of two_hosts_text ≡ Ok plan
-unfolding adapter after_line after_lines after_words cable cable_of cable_spelt manager_of manager_spelt node_of node_spelt plan topology_of whole
+unfolding adapter after_line after_lines after_words cable cable_of cable_encoded manager_of manager_encoded node_of node_encoded plan topology_of whole
 read = refl
 
 agreed : agrees two_hosts (ends two_hosts) (planned_nodes two_hosts) 33 plan ≡ true
@@ -42,7 +42,7 @@ unfolding adapter cable digits named plan
 agreed = refl
 
 given : text_read two_hosts 33 ≡ Ok two_hosts_text
-given = rw (told, read, agreed) refl
+given = rw (reported, read, agreed) refl
 
 pub two_hosts_are_imported : TwoHostsAreImported
 unfolding import_of
@@ -58,12 +58,12 @@ other_plan = record {
   sm = port 1 2;
 }
 
-other_told : text_of two_ports 258 ≡ two_ports_text
+other_reported : text_of two_ports 258 ≡ two_ports_text
 unfolding digits encode_with named text_with
-other_told = refl
+other_reported = refl
 
 other_read : topology_of two_ports_text ≡ Ok other_plan
-unfolding after_line after_lines after_words cable_of cable_spelt manager_of manager_spelt node_of node_spelt other_plan topology_of whole
+unfolding after_line after_lines after_words cable_of cable_encoded manager_of manager_encoded node_of node_encoded other_plan topology_of whole
 other_read = refl
 
 other_agreed : agrees two_ports (ends two_ports) (planned_nodes two_ports) 258 other_plan ≡ true
@@ -71,14 +71,14 @@ unfolding digits named other_plan
 other_agreed = refl
 
 other_given : text_read two_ports 258 ≡ Ok two_ports_text
-other_given = rw (other_told, other_read, other_agreed) refl
+other_given = rw (other_reported, other_read, other_agreed) refl
 
 pub ports_are_imported : PortsAreImported
 unfolding import_of
 ports_are_imported = record { asked = other_given; of_a_router = refl; of_none = refl }
 
 pub others_are_refused : OthersAreRefused
-unfolding after_line after_lines after_words cable_of cable_spelt digits encode_with import_of manager_of manager_spelt named node_of node_spelt text_with topology_of whole
+unfolding after_line after_lines after_words cable_of cable_encoded digits encode_with import_of manager_of manager_encoded named node_of node_encoded text_with topology_of whole
 others_are_refused = record { of_a_node = refl; of_port_0 = refl; too_large = refl; past_its_ports = refl }
 
 pub ends_are_counted : EndsAreCounted

@@ -1,6 +1,6 @@
 -- Where a GUID stands, as GUIDs are added.
 use Rattle.std.proofs.Common.{◌≡◌, ◌∙◌, refl, sym, ap, ℕ, ◌+◌, Bool, true, false, List, [], ◌∷◌, ◌++◌, length, position, Option, Some, None, option_map, arith}
-use Rattle.result_words.proofs.RisingLemmas.{place_here, place_later}
+use Rattle.step_results.proofs.RisingLemmas.{place_here, place_later}
 use Rattle.topology_import.specs.Index.{first_or}
 
 later : (found : Option ℕ) (passes : Bool) (n : ℕ) → option_map (λ k. k + 1) (first_or found passes n) ≡ first_or (option_map (λ k. k + 1) found) passes (n + 1)

@@ -6,11 +6,11 @@ use Rattle.std.proofs.lemmas.Bool.{and_parts, eqb-true, or_cases, or_left, or_ri
 use Rattle.std.proofs.lemmas.Bool.Decides.{nat_tests}
 use Rattle.std.proofs.lemmas.Map.Keys.{any_passes_from_place}
 use Rattle.std.proofs.lemmas.Option.{same_Some}
-use Rattle.result_words.specs.AtLine.{AtLine, on_line}
-use Rattle.result_words.specs.Steps.{◌>>=◌, unless}
-use Rattle.result_words.proofs.ListLemmas.{all_there, range_at}
-use Rattle.result_words.proofs.PlaceLemmas.{list_any_place}
-use Rattle.result_words.proofs.StepLemmas.{bind_ok, let_through, same_ok, unless_ok}
+use Rattle.step_results.specs.AtLine.{AtLine, on_line}
+use Rattle.step_results.specs.Steps.{◌>>=◌, unless}
+use Rattle.step_results.proofs.ListLemmas.{all_there, range_at}
+use Rattle.step_results.proofs.PlaceLemmas.{list_any_place}
+use Rattle.step_results.proofs.StepLemmas.{bind_ok, let_through, same_ok, unless_ok}
 use Rattle.fabric_parts.specs.declared.cable.Cable.{Cable}
 use Rattle.fabric_parts.specs.declared.cable.PortRef.{PortRef}
 use Rattle.fabric_parts.specs.Cable.{ends_at, is_cabled, is_same_port, port}
@@ -29,11 +29,11 @@ use Rattle.topo_file.specs.Node.{is_switch, port_guid}
 use Rattle.topo_file.specs.Topology.{TopologyState, topology_of}
 use Rattle.topology_import.specs.declared.cables.CableMeant.{CableMeant}
 use Rattle.topology_import.specs.declared.planned.Planned.{Planned}
-use Rattle.topology_import.specs.Agreement.{agrees, are_as_planned, has_cable, has_ends, is_between, is_cable_of, is_end_port, is_port_of, is_told}
+use Rattle.topology_import.specs.Agreement.{agrees, are_as_planned, has_cable, has_ends, is_between, is_cable_of, is_end_port, is_port_of, is_reported}
 use Rattle.topology_import.specs.Cables.{cables_meant}
 use Rattle.topology_import.specs.Ends.{counted, counts, ends, firsts, guid_of, is_above, is_end, is_port_guid}
 use Rattle.topology_import.specs.Import.{asked_for, if_end_port, import_of, judged, manager_of, text_read}
-use Rattle.topology_import.specs.Laws.{Among, HasEndPort, HasLine, IsGiven, LeadToOneAnother, OthersAreTold}
+use Rattle.topology_import.specs.Laws.{Among, HasEndPort, HasLine, IsGiven, LeadToOneAnother, OthersAreReported}
 use Rattle.topology_import.specs.Nodes.{guid_fault}
 use Rattle.topology_import.specs.Text.{planned_nodes, text_of}
 
@@ -90,16 +90,16 @@ place_passes p xs h = any_found p xs (list_any_place p xs ∙ by (nat_lt (positi
     by true e = refl
     by false e = absurd cc
 
-told_guid : (o : Option ℕ) (guid : ℕ) → is_some o ≡ true → (guid == unwrap_or o 0) ≡ true → o ≡ Some guid
-told_guid (Some own) guid there same = ap Some (sym (eqb-true guid own same))
-told_guid None guid there same = absurd cc
+reported_guid : (o : Option ℕ) (guid : ℕ) → is_some o ≡ true → (guid == unwrap_or o 0) ≡ true → o ≡ Some guid
+reported_guid (Some own) guid there same = ap Some (sym (eqb-true guid own same))
+reported_guid None guid there same = absurd cc
 
 line_of_end : (discovery : DiscoveryState) (guid : ℕ) → is_port_guid (ends discovery) guid ≡ true → HasLine discovery guid
 line_of_end discovery guid h =
     let found = place_passes (λ line. guid == guid_of line) (ends discovery) h in
     let is = and_parts (counts discovery.nodes found.x) _ (filter_passes (is_end discovery.nodes) discovery.ports found.x found.among) in
     let there = from_filter (is_end discovery.nodes) discovery.ports found.x found.among in
-    (found.x, into_filter (counts discovery.nodes) discovery.ports found.x there is.0, told_guid found.x.guid guid is.1 found.passes)
+    (found.x, into_filter (counts discovery.nodes) discovery.ports found.x there is.0, reported_guid found.x.guid guid is.1 found.passes)
 
 only_ends : (discovery : DiscoveryState) (nodes : List Node) → list_all (has_ends (ends discovery)) nodes ≡ true
     → (place number : ℕ) (node : Node) → slice_get nodes place ≡ Some node → is_switch node ≡ false → 1 ≤ number → number ≤ node.ports
@@ -202,12 +202,12 @@ none_named : (roots : List ℕ) → (length roots == 0) ≡ true → roots ≡ [
 none_named [] h = refl
 none_named (root ∷ roots) h = absurd (let none : suc (length roots) ≡ 0 = eqb-true (suc (length roots)) 0 h in cc)
 
-pub others_are_told : OthersAreTold
-others_are_told discovery planned manager plan sound passes =
+pub others_are_reported : OthersAreReported
+others_are_reported discovery planned manager plan sound passes =
     let first = and_parts (are_as_planned planned plan.nodes) _ passes in
     let own = and_parts (list_all (has_ends (ends discovery)) plan.nodes) _ first.1 in
     let second = and_parts (list_all (has_cable discovery plan) (counted discovery)) _ own.1 in
-    let third = and_parts (list_all (is_told discovery plan) plan.cables) _ second.1 in
+    let third = and_parts (list_all (is_reported discovery plan) plan.cables) _ second.1 in
     let last = and_parts (is_end_port plan.nodes plan.sm manager) _ third.1 in
     record {
       end_ports = λ line guid among has.
@@ -220,7 +220,7 @@ others_are_told discovery planned manager plan sound passes =
           (it.cable, it.among, ap (is_between discovery plan.nodes it.cable line) (sym same) ∙ it.leads.passes);
       no_others = λ cable among.
           let found = any_found (λ line. is_cable_of discovery plan.nodes line cable) (counted discovery)
-          (all_there (is_told discovery plan) plan.cables among.0 cable third.0 among.1) in
+          (all_there (is_reported discovery plan) plan.cables among.0 cable third.0 among.1) in
           let it = leads discovery.nodes discovery.ports found.x.far (is_between discovery plan.nodes cable found.x) found.passes in
           (found.x, it.other, leads_back discovery sound found.x it.other found.among it.is, it.passes);
       manager_port = last.0;
@@ -279,5 +279,5 @@ given discovery manager text sound h =
       plan = it.plan;
       read = still_read (text_of discovery second.0) text it.plan it.same it.is;
       nodes = as_planned discovery (planned_nodes discovery) second.0 it.plan it.passes;
-      is_of = others_are_told discovery (planned_nodes discovery) second.0 it.plan sound it.passes;
+      is_of = others_are_reported discovery (planned_nodes discovery) second.0 it.plan sound it.passes;
     }

@@ -2,7 +2,7 @@
 use Rattle.std.proofs.Common.{◌≡◌, ◌∙◌, refl, sym, ap, ℕ, suc, ◌+◌, ◌-◌, ◌<◌, ◌≤◌, ◌&&◌, Bool, true, false, cond, List, [], ◌∷◌, ◌++◌, find, length, take, drop, drop-cons, get_or, Some, unwrap_or, append_assoc, arith}
 use Rattle.std.specs.List.{flat_map, list_all, range_with_len}
 use Rattle.std.proofs.lemmas.List.{flat_map_more, take_more}
-use Rattle.result_words.proofs.RangeLemmas.{flat_more}
+use Rattle.step_results.proofs.RangeLemmas.{flat_more}
 use Rattle.netdiscover_file.specs.declared.node.Node.{Node}
 use Rattle.topology_import.specs.declared.nodes.Meant.{Meant}
 use Rattle.topology_import.specs.declared.planned.Planned.{Planned}

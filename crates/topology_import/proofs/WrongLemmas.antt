@@ -6,8 +6,8 @@ use Rattle.std.proofs.lemmas.Map.Keys.{any_passes_from_place}
 use Rattle.fabric_parts.specs.declared.cable.Cable.{Cable}
 use Rattle.fabric_parts.specs.declared.node_type.NodeType.TheVariants as node_type
 use Rattle.fabric_parts.specs.Cable.{port}
-use Rattle.result_words.proofs.DistinctLemmas.{distinct}
-use Rattle.result_words.proofs.ListLemmas.{IsDistinct-nil}
+use Rattle.step_results.proofs.DistinctLemmas.{distinct}
+use Rattle.step_results.proofs.ListLemmas.{IsDistinct-nil}
 use Rattle.netdiscover_file.specs.declared.kind.NodeKind.TheVariants.{ChannelAdapter, Switch}
 use Rattle.netdiscover_file.specs.declared.node.Node.{Node as FoundNode}
 use Rattle.netdiscover_file.specs.declared.port.PortLine.{PortLine}
@@ -42,7 +42,7 @@ abbrev plan_of : List Node → List Cable → ℕ → TopologyState
 plan_of nodes cables place = record { nodes = nodes; cables = cables; roots = []; sm = port place 1 }
 
 pub the_manager_is_wanted : TheManagerIsWanted
-the_manager_is_wanted law = let told : false ≡ true = (law nothing [] 1 (plan_of [] [] 0) nothing_sound refl).manager_port in false≢true told
+the_manager_is_wanted law = let reported : false ≡ true = (law nothing [] 1 (plan_of [] [] 0) nothing_sound refl).manager_port in false≢true reported
 
 -- ---- a switch with an adapter at each of its two ports
 abbrev switch : FoundNode
@@ -112,8 +112,8 @@ nodes = read_switch ∷ read_adapter (codes "a") 16 ∷ read_adapter (codes "b")
 pub lines_are_wanted : LinesAreWanted
 lines_are_wanted law =
     let it = (law star planned 17 (plan_of nodes [] 1) star_sound refl).end_ports (back 1 16 1) 17 (2, refl) refl in
-    let told : false ≡ true = it.2 in
-    false≢true told
+    let reported : false ≡ true = it.2 in
+    false≢true reported
 
 abbrev cable : ℕ → ℕ → Cable
 cable number place = record { first = port 0 number; second = port place 1 }
@@ -143,14 +143,14 @@ cables_are_wanted law =
     let one : joins_some it.0 ≡ true =
     any_passes_from_place (λ other. is_between star nodes (record { first = port 0 3; second = port 0 3 }) it.0 other) star.ports
     it.2.there.0 it.1 it.2.there.1 it.3 in
-    let told : false ≡ true = any_passes_from_place joins_some (counted star) it.2.counts.0 it.0 it.2.counts.1 one in
-    false≢true told
+    let reported : false ≡ true = any_passes_from_place joins_some (counted star) it.2.counts.0 it.0 it.2.counts.1 one in
+    false≢true reported
 
 -- the switch is a root
 pub no_roots_are_wanted : NoRootsAreWanted
 no_roots_are_wanted law =
     let with_root : TopologyState = record { nodes = nodes; cables = cable 1 1 ∷ cable 2 2 ∷ []; roots = 0 ∷ []; sm = port 1 1 } in
-    let told : ◌≡◌ {A = List ℕ} (0 ∷ []) [] = (law star planned 17 with_root star_sound refl).no_roots in
+    let reported : ◌≡◌ {A = List ℕ} (0 ∷ []) [] = (law star planned 17 with_root star_sound refl).no_roots in
     absurd cc
 
 -- the adapters have changed places
@@ -161,8 +161,8 @@ pub near_ends_alone_are_not_enough : NearEndsAloneAreNotEnough
 near_ends_alone_are_not_enough law =
     let lead : LeadToOneAnother star (out 1 16) (back 1 16 1) = record { counts = (0, refl); there = (2, refl); cable = refl } in
     let it = (law star planned 17 (plan_of nodes crossed 1) star_sound refl).joined (out 1 16) (back 1 16 1) lead in
-    let told : false ≡ true = any_passes_from_place (λ c. is_between star nodes c (out 1 16) (back 1 16 1)) crossed it.1.0 it.0 it.1.1 it.2 in
-    false≢true told
+    let reported : false ≡ true = any_passes_from_place (λ c. is_between star nodes c (out 1 16) (back 1 16 1)) crossed it.1.0 it.0 it.1.1 it.2 in
+    false≢true reported
 
 -- ---- two switches, of which the first has an adapter
 abbrev trunk : ℕ → ℕ → ℕ → ℕ → PortLine
@@ -206,5 +206,5 @@ switches_are_joined_too law =
     let one : List Cable = cable 1 2 ∷ [] in
     let lead : LeadToOneAnother twins (trunk 0 2 2 1) (trunk 1 1 1 2) = record { counts = (1, refl); there = (2, refl); cable = refl } in
     let it = (law twins twins_planned 17 (plan_of twins_nodes one 2) twins_sound refl).joined (trunk 0 2 2 1) (trunk 1 1 1 2) lead in
-    let told : false ≡ true = any_passes_from_place (λ c. is_between twins twins_nodes c (trunk 0 2 2 1) (trunk 1 1 1 2)) one it.1.0 it.0 it.1.1 it.2 in
-    false≢true told
+    let reported : false ≡ true = any_passes_from_place (λ c. is_between twins twins_nodes c (trunk 0 2 2 1) (trunk 1 1 1 2)) one it.1.0 it.0 it.1.1 it.2 in
+    false≢true reported

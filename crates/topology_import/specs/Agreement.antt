@@ -61,8 +61,8 @@ is_cable_of discovery nodes line cable =
 abbrev pub has_cable : DiscoveryState → TopologyState → PortLine → Bool
 has_cable discovery plan line = list_any (is_cable_of discovery plan.nodes line) plan.cables
 
-abbrev pub is_told : DiscoveryState → TopologyState → Cable → Bool
-is_told discovery plan cable = list_any (λ line. is_cable_of discovery plan.nodes line cable) (counted discovery)
+abbrev pub is_reported : DiscoveryState → TopologyState → Cable → Bool
+is_reported discovery plan cable = list_any (λ line. is_cable_of discovery plan.nodes line cable) (counted discovery)
 
 -- no switch is named as a root
 abbrev pub has_no_roots : TopologyState → Bool
@@ -75,4 +75,4 @@ agrees discovery ends planned manager plan =
     are_as_planned planned plan.nodes
     && (list_all (has_ends ends) plan.nodes
     && (list_all (has_cable discovery plan) (counted discovery)
-    && (list_all (is_told discovery plan) plan.cables && (is_end_port plan.nodes plan.sm manager && has_no_roots plan))))
+    && (list_all (is_reported discovery plan) plan.cables && (is_end_port plan.nodes plan.sm manager && has_no_roots plan))))

@@ -49,7 +49,7 @@ two_hosts_text = codes "# fabric import, from ibnetdiscover at port 0x0000000000
 abbrev pub TwoHostsAreImported : Type 0
 TwoHostsAreImported = import_of two_hosts None ≡ Ok two_hosts_text
 
--- ---- a switch with a name of 33 bytes, of which the GUID of port 0 is not told, an adapter of two ports that has no name, and a
+-- ---- a switch with a name of 33 bytes, of which the GUID of port 0 is not reported, an adapter of two ports that has no name, and a
 -- router
 abbrev pub spine : Node
 spine = record { id = record { kind = Switch; guid = 16 }; ports = 4; name = codes "a switch of thirty-three letters."; lid = Some 3; port_guid = None; line = 2 }
@@ -81,11 +81,11 @@ two_ports_text = codes "# fabric import, from ibnetdiscover\nswitch a_switch_of_
 pub record PortsAreImported : Type 0 where
   -- the subnet manager is on the port that is asked for
   pub asked : import_of two_ports (Some 258) ≡ Ok two_ports_text
-  -- a router's port is none, and where nothing is asked for and the text tells none there is none
+  -- a router's port is none, and where nothing is asked for and the text reports none there is none
   pub of_a_router : import_of two_ports (Some 513) ≡ Err (record { line = 0; cause = UnknownManager })
   pub of_none : import_of two_ports None ≡ Err (record { line = 0; cause = UnknownManager })
 
--- ---- an adapter that would have the GUID of a switch, or of its port 0; and fabrics that no topology may have, told with the line
+-- ---- an adapter that would have the GUID of a switch, or of its port 0; and fabrics that no topology may have, reported with the line
 -- of the switch or of the cable
 abbrev pub one_host : ℕ → DiscoveryState
 one_host guid = record { nodes = leaf ∷ host guid 6 ∷ []; ports = down 1 guid 4 ∷ up 1 guid 1 7 ∷ []; initiator = Some (guid + 1) }

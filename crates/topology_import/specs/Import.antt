@@ -1,7 +1,7 @@
 -- The topology text of a discovery, or what is wrong.
 use Rattle.std.specs.Prelude.{ℕ, List, Option, Some, None, is_some, Result, Ok, Err, if◌then◌else◌}
-use Rattle.result_words.specs.AtLine.{AtLine, on_line}
-use Rattle.result_words.specs.Steps.{◌>>=◌, unless}
+use Rattle.step_results.specs.AtLine.{AtLine, on_line}
+use Rattle.step_results.specs.Steps.{◌>>=◌, unless}
 use Rattle.netdiscover_file.specs.declared.port.PortLine.{PortLine}
 use Rattle.netdiscover_file.specs.Discovery.{DiscoveryState}
 use Rattle.topo_file.specs.declared.fault.TopologyCause.{TopologyCause}

@@ -65,10 +65,10 @@ pub record IsGiven (discovery : DiscoveryState) (manager : Option ℕ) (text : L
   pub is_of : IsTopologyOf discovery guid plan
 
 -- where this test lets a topology pass, it is that of the discovery
-abbrev pub TellsOthers : (DiscoveryState → List Planned → ℕ → TopologyState → Bool) → Type 0
-TellsOthers test =
+abbrev pub ReportsOthers : (DiscoveryState → List Planned → ℕ → TopologyState → Bool) → Type 0
+ReportsOthers test =
     (discovery : DiscoveryState) (planned : List Planned) (manager : ℕ) (plan : TopologyState) → IsSound discovery
     → test discovery planned manager plan ≡ true → IsTopologyOf discovery manager plan
 
-abbrev pub OthersAreTold : Type 0
-OthersAreTold = TellsOthers (λ discovery. agrees discovery (ends discovery))
+abbrev pub OthersAreReported : Type 0
+OthersAreReported = ReportsOthers (λ discovery. agrees discovery (ends discovery))

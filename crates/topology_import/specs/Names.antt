@@ -1,4 +1,4 @@
--- The names of nodes: those of the discovery, spelt with the bytes that a name may have, and each made one of its own.
+-- The names of nodes: those of the discovery, encoded with the bytes that a name may have, and each made one of its own.
 use Rattle.std.specs.Prelude.{ℕ, Bool, not, ◌+◌, ◌-◌, ◌==◌, List, [], ◌∷◌, ◌++◌, codes, decimal, find, length, map, take, slice_get, unwrap_or, if◌then◌else◌}
 use Rattle.std.specs.List.{list_any, range_with_len}
 use Rattle.std.specs.Option.{option_map_or}
@@ -19,8 +19,8 @@ name_byte byte = if is_name_byte byte then byte else 95
 abbrev pub or_node : List ℕ → List ℕ
 or_node name = if length name == 0 then codes "node" else name
 
-abbrev pub spelt : List ℕ → List ℕ
-spelt name = or_node (map name_byte (take 32 name))
+abbrev pub encoded : List ℕ → List ℕ
+encoded name = or_node (map name_byte (take 32 name))
 
 -- `NAME-2`, in 32 bytes at most
 abbrev pub suffix : ℕ → List ℕ
@@ -53,7 +53,7 @@ planned name node = record {
 }
 
 abbrev pub with_name : List Node → List Planned → Meant → Planned
-with_name found so_far node = planned (own_name so_far (spelt (name_at found node.node))) node
+with_name found so_far node = planned (own_name so_far (encoded (name_at found node.node))) node
 
 unfoldable pub named : List Node → List Planned → List Meant → List Planned
 named found so_far [] = so_far

@@ -2,7 +2,7 @@
 use Rattle.std.specs.Prelude.{ℕ, Bool, ◌-◌, ◌==◌, ◌&&◌, ◌||◌, List, [], ◌∷◌, ◌++◌, map, flat_map, find, length, slice_get, Option, option_map, unwrap_or, if◌then◌else◌}
 use Rattle.std.specs.List.{list_any, range_with_len}
 use Rattle.std.specs.Option.{option_map_or}
-use Rattle.result_words.specs.AtLine.{AtLine}
+use Rattle.step_results.specs.AtLine.{AtLine}
 use Rattle.fabric_parts.specs.declared.node_type.NodeType.TheVariants as node_type
 use Rattle.netdiscover_file.specs.declared.node.Node.{Node}
 use Rattle.netdiscover_file.specs.declared.port.PortLine.{PortLine}
@@ -14,7 +14,7 @@ use Rattle.topology_import.specs.declared.fault.ImportCause.TheVariants.{GuidTak
 use Rattle.topology_import.specs.Ends.{ends, firsts, guid_of, ports_from}
 
 -- ---- switches, in the order of the discovery
--- the GUID of its port 0, or where that is not told its node's
+-- the GUID of its port 0, or where that is not reported its node's
 abbrev pub switch_guid : Node → ℕ
 switch_guid node = unwrap_or node.port_guid node.id.guid
 

@@ -1,9 +1,8 @@
 -- The text of the topology.
 use Rattle.std.specs.Prelude.{ℕ, ◌+◌, ◌-◌, ◌^◌, ◌==◌, nat_lt, List, [], ◌∷◌, ◌++◌, codes, decimal, flat_map, length, position, slice_get, Option, if◌then◌else◌}
-use Rattle.std.specs.Int.{w64, to_be_bytes}
 use Rattle.std.specs.List.{range_with_len}
 use Rattle.std.specs.Option.{option_and_then, option_map_or}
-use Rattle.hex.specs.Hex.{encode_lower}
+use Rattle.text_parts.specs.Parts.{guid_text, port_name, quoted}
 use Rattle.fabric_parts.specs.NodeType.{is_switch_type}
 use Rattle.netdiscover_file.specs.declared.node.Node.{Node}
 use Rattle.netdiscover_file.specs.declared.port.PortLine.{PortLine}
@@ -16,15 +15,7 @@ use Rattle.topology_import.specs.Ends.{end_with, ends, is_router}
 use Rattle.topology_import.specs.Names.{name_at, named}
 use Rattle.topology_import.specs.Nodes.{nodes_meant}
 
--- ---- parts
--- all 16 digits of a GUID
-abbrev pub guid_text : ℕ → List ℕ
-guid_text guid = codes "0x" ++ encode_lower (to_be_bytes w64 guid)
-
--- a name as it stands
-abbrev pub quoted : List ℕ → List ℕ
-quoted name = codes "\"" ++ name ++ codes "\""
-
+-- ---- a LID, if there is one
 abbrev pub lid_text : Option ℕ → List ℕ
 lid_text lid = option_map_or (λ number. codes " lid " ++ decimal number) lid []
 
@@ -86,7 +77,7 @@ abbrev pub name_with : ℕ → List Planned → List ℕ
 name_with guid nodes = option_map_or (λ node. node.name) (option_and_then (λ place. slice_get nodes place) (place_with guid nodes)) []
 
 abbrev pub end_text : List Planned → End → List ℕ
-end_text nodes port = name_with port.guid nodes ++ codes "/" ++ decimal port.port
+end_text nodes port = port_name (name_with port.guid nodes) port.port
 
 abbrev pub cable_line : List Planned → CableMeant → List ℕ
 cable_line nodes cable = codes "cable " ++ end_text nodes cable.first ++ codes " " ++ end_text nodes cable.second ++ 10 ∷ []

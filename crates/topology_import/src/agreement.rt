@@ -4,7 +4,7 @@ ghost use Rattle.std.specs.Prelude.{◌≡◌, ◌+◌};
 ghost use Rattle.std.specs.List.{list_all, range_with_len, zip};
 ghost use Rattle.topo_file.specs.Node.{is_switch_at, port_guid, port_guid_at};
 ghost use Rattle.topology_import.specs.Ends.{counted, is_above};
-ghost use Rattle.topology_import.specs.Agreement.{agrees, are_as_planned, guid_at, has_cable, has_ends, is_as_planned, is_between, is_cable_of, is_end_port, is_port_of, is_switch_port, is_told};
+ghost use Rattle.topology_import.specs.Agreement.{agrees, are_as_planned, guid_at, has_cable, has_ends, is_as_planned, is_between, is_cable_of, is_end_port, is_port_of, is_switch_port, is_reported};
 
 use crate::ends::{EndList, counts};
 use crate::nodes::switch_guid_at;
@@ -108,7 +108,7 @@ fn is_switch_port(nodes: &[Node], port: PortRef, guid: u64, number: u8) -> bool
     is_switch_at(nodes, port.node) && (guid_at(nodes, port.node) == guid && port.port == number)
 }
 
-/// Whether it is the port that a line tells.
+/// Whether it is the port that a line reports.
 fn is_port_of(discovery: &Discovery, nodes: &[Node], line: &PortLine, port: PortRef) -> bool
     ensures { result ≡ is_port_of discovery.now nodes.now line.now port }
 {
@@ -166,8 +166,8 @@ fn all_have_cables(discovery: &Discovery, plan: &Topology) -> bool
         .all(|line| has_cable(discovery, plan, line))
 }
 
-fn is_told(discovery: &Discovery, plan: &Topology, cable: &Cable) -> bool
-    ensures { result ≡ is_told discovery.now plan.now cable.now }
+fn is_reported(discovery: &Discovery, plan: &Topology, cable: &Cable) -> bool
+    ensures { result ≡ is_reported discovery.now plan.now cable.now }
 {
     let found = discovery.nodes();
     let nodes = plan.nodes();
@@ -178,12 +178,12 @@ fn is_told(discovery: &Discovery, plan: &Topology, cable: &Cable) -> bool
         .any(|line| is_cable_of(discovery, nodes, line, cable))
 }
 
-fn all_are_told(discovery: &Discovery, plan: &Topology) -> bool
-    ensures { result ≡ list_all (is_told discovery.now plan.now) plan.now.cables }
+fn all_are_reported(discovery: &Discovery, plan: &Topology) -> bool
+    ensures { result ≡ list_all (is_reported discovery.now plan.now) plan.now.cables }
 {
     plan.cables()
         .iter()
-        .all(|cable| is_told(discovery, plan, cable))
+        .all(|cable| is_reported(discovery, plan, cable))
 }
 
 /// Whether the topology has the planned nodes, adapters with the end ports of the discovery alone, the cables of the lines that
@@ -200,6 +200,6 @@ pub(crate) fn agrees(
     are_as_planned(planned, plan.nodes())
         && (all_have_ends(ends, plan.nodes())
             && (all_have_cables(discovery, plan)
-                && (all_are_told(discovery, plan)
+                && (all_are_reported(discovery, plan)
                     && (is_end_port(plan.nodes(), plan.sm(), manager) && plan.roots().is_empty()))))
 }

@@ -17,7 +17,7 @@ pub(crate) struct End {
     pub(crate) port: u8,
 }
 
-/// A cable, with the line that tells it.
+/// A cable, with the line that reports it.
 #[derive(Clone, Copy)]
 pub(crate) struct CableMeant {
     pub(crate) first: End,

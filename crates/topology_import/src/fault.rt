@@ -3,7 +3,7 @@
 ghost use Rattle.std.specs.Prelude.{◌≡◌};
 ghost use Rattle.topology_import.specs.Fault.{code_of};
 
-use std::alloc::AllocError;
+use step_results::TextFault;
 use thiserror::Error;
 use topo_file::TopologyCause;
 
@@ -43,29 +43,5 @@ impl ImportCause {
     }
 }
 
-/// Why no text was given.
-#[derive(Clone, Copy, Debug, PartialEq, Eq, Error)]
-pub enum ImportError {
-    /// Memory was refused.
-    #[error("out of memory")]
-    NoMemory,
-    /// The first fault.
-    #[error("line {line}: {cause}")]
-    At {
-        /// The line of what `ibnetdiscover` printed, counted from 1; 0 where the fault is of no line.
-        line: usize,
-        /// What is wrong.
-        cause: ImportCause,
-    },
-}
-
-impl From<AllocError> for ImportError {
-    ghost use Rattle.std.specs.Prelude.{◌≡◌};
-    ghost use Rattle.topology_import.specs.declared.fault.ImportError.TheVariants as text;
-
-    ghost from_gives = { λ _ e. e ≡ text.NoMemory };
-
-    fn from(_error: AllocError) -> ImportError {
-        ImportError::NoMemory
-    }
-}
+/// Why no text was given: the line is one of what `ibnetdiscover` printed.
+pub type ImportFault = TextFault<ImportCause>;

@@ -1,12 +1,11 @@
 //! The topology of a discovery.
 
 ghost use Rattle.std.specs.Prelude.{◌≡◌, IfOk};
-ghost use Rattle.result_words.specs.AtLine.{on_line};
-ghost use Rattle.result_words.specs.Gives.{Gives};
-ghost use Rattle.result_words.specs.Steps.{unless};
+ghost use Rattle.step_results.specs.AtLine.{on_line};
+ghost use Rattle.step_results.specs.TextGives.{TextGives};
+ghost use Rattle.step_results.specs.Steps.{unless};
 ghost use Rattle.topo_file.specs.Topology.{topology_of};
 ghost use Rattle.topology_import.specs.Ends.{ends as ends_of, firsts as firsts_of};
-ghost use Rattle.topology_import.specs.Fault.{fault_in};
 ghost use Rattle.topology_import.specs.Import.{asked_for, if_end_port, import_of, judged, text_read};
 ghost use Rattle.topology_import.specs.Laws.{IsGiven};
 ghost use Rattle.topology_import.specs.Nodes.{guid_fault};
@@ -14,7 +13,7 @@ ghost use Rattle.topology_import.specs.Nodes.{guid_fault};
 use crate::agreement::agrees;
 use crate::cables::{CableMeant, cables_meant};
 use crate::ends::{EndList, guid_of};
-use crate::fault::{ImportCause, ImportError};
+use crate::fault::{ImportCause, ImportFault};
 use crate::names::named;
 use crate::nodes::{adapter_guid, first_taken, nodes_meant};
 use crate::planned::PlannedList;
@@ -47,21 +46,21 @@ fn manager_of(
     discovery: &Discovery,
     ends: &EndList,
     manager: Option<u64>,
-) -> Result<u64, ImportError>
-    ensures { Gives fault_in (λ guid. guid) result (on_line 0 (if_end_port ends.now (asked_for manager discovery.now.initiator))) }
+) -> Result<u64, ImportFault>
+    ensures { TextGives (λ guid. guid) result (on_line 0 (if_end_port ends.now (asked_for manager discovery.now.initiator))) }
 {
     match if_end_port(ends, asked_for(manager, discovery.initiator())) {
         Ok(guid) => Ok(guid),
-        Err(cause) => Err(ImportError::At { line: 0, cause }),
+        Err(cause) => Err(ImportFault::At { line: 0, cause }),
     }
 }
 
 /// The same, unless the GUID of an adapter is a switch's or 0.
-fn if_free(discovery: &Discovery, firsts: &[PortLine], manager: u64) -> Result<u64, ImportError>
-    ensures { Gives fault_in (λ guid. guid) result (unless (guid_fault discovery.now.nodes firsts.now) manager) }
+fn if_free(discovery: &Discovery, firsts: &[PortLine], manager: u64) -> Result<u64, ImportFault>
+    ensures { TextGives (λ guid. guid) result (unless (guid_fault discovery.now.nodes firsts.now) manager) }
 {
     match first_taken(discovery.nodes(), firsts) {
-        Some(first) => Err(ImportError::At {
+        Some(first) => Err(ImportFault::At {
             line: first.line,
             cause: ImportCause::GuidTaken {
                 port: guid_of(first),
@@ -81,22 +80,22 @@ fn read_back(
     cables: &[CableMeant],
     manager: u64,
     text: Vec<u8>,
-) -> Result<Vec<u8>, ImportError>
-    ensures { Gives fault_in (λ text. text.items) result
+) -> Result<Vec<u8>, ImportFault>
+    ensures { TextGives (λ text. text.items) result
         (judged discovery.now ends.now nodes.now cables.now manager text.items (topology_of text.items)) }
 {
     match topo_file::read(alloc, text.as_slice()) {
         Ok(plan) => {
             if !agrees(discovery, ends, nodes.as_slice(), manager, &plan) {
-                return Err(ImportError::At {
+                return Err(ImportFault::At {
                     line: 0,
                     cause: ImportCause::Unlike,
                 });
             }
             Ok(text)
         }
-        Err(TopoFault::NoMemory) => Err(ImportError::NoMemory),
-        Err(TopoFault::At { line, cause }) => Err(ImportError::At {
+        Err(TopoFault::NoMemory) => Err(ImportFault::NoMemory),
+        Err(TopoFault::At { line, cause }) => Err(ImportFault::At {
             line: source_of(nodes.as_slice(), cables, line),
             cause: ImportCause::Refused(cause),
         }),
@@ -109,10 +108,10 @@ fn text_read(
     ends: &EndList,
     firsts: &[PortLine],
     manager: u64,
-) -> Result<Vec<u8>, ImportError>
+) -> Result<Vec<u8>, ImportFault>
     requires ends { ends.now ≡ ends_of discovery.now }
     requires firsts { firsts.now ≡ firsts_of ends.now }
-    ensures { Gives fault_in (λ text. text.items) result (text_read discovery.now manager) }
+    ensures { TextGives (λ text. text.items) result (text_read discovery.now manager) }
 {
     let meant = nodes_meant(alloc, discovery, ends, firsts)?;
     let nodes = named(alloc, discovery.nodes(), &meant)?;
@@ -124,15 +123,15 @@ fn text_read(
 /// The topology text of a discovery, with the subnet manager on the port of that GUID or, where none is given, on the one at
 /// which the discovery was made; or the first fault, with its line.
 ///
-/// `specs/Import.antt` says which. Memory alone may be refused besides.
+/// `specs/Import.antt` says which. Besides, an allocation can fail.
 #[tactic(auto, using(crate::proofs::LawLemmas::given))]
 pub fn topology_text(
     alloc: Global,
     discovery: &Discovery,
     manager: Option<u64>,
-) -> Result<Vec<u8>, ImportError>
+) -> Result<Vec<u8>, ImportFault>
     // The text that the definition gives, or its fault.
-    ensures exact { Gives fault_in (λ text. text.items) result (import_of discovery.now manager) }
+    ensures exact { TextGives (λ text. text.items) result (import_of discovery.now manager) }
     // It is read as the topology of the discovery.
     ensures given { IfOk result (λ text. IsGiven discovery.now manager text.items) }
 {
@@ -146,8 +145,8 @@ fn imported(
     alloc: Global,
     discovery: &Discovery,
     manager: Option<u64>,
-) -> Result<Vec<u8>, ImportError>
-    ensures { Gives fault_in (λ text. text.items) result (import_of discovery.now manager) }
+) -> Result<Vec<u8>, ImportFault>
+    ensures { TextGives (λ text. text.items) result (import_of discovery.now manager) }
 {
     let ends = EndList::of(alloc, discovery)?;
     let manager = manager_of(discovery, &ends, manager)?;

@@ -43,7 +43,7 @@ impl GuidIndex {
         self.places.get(&guid).copied()
     }
 
-    /// Adds a GUID at the end. Memory alone can be refused, and then the list stays as it was.
+    /// Adds a GUID at the end. It can only run out of memory, and then the list stays as it was.
     pub(crate) fn push(&mut self, guid: u64) -> Result<(), AllocError>
         ensures ok { OnOk result (self.new ≡ self.old ++ guid ∷ []) }
         ensures err { OnErr result (self.new ≡ self.old) }

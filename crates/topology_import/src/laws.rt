@@ -1,13 +1,13 @@
 //! What is so of every topology that is given, and the wrong rules that break it. The functions do nothing; their clauses
 //! are the theorems.
 
-ghost use Rattle.topology_import.specs.Laws.{OthersAreTold};
+ghost use Rattle.topology_import.specs.Laws.{OthersAreReported};
 ghost use Rattle.topology_import.specs.WrongRules.{CablesAreWanted, EndsAreWanted, LinesAreWanted, NearEndsAloneAreNotEnough, NoRootsAreWanted};
 ghost use Rattle.topology_import.specs.WrongRules.{SwitchesAreJoinedToo, TheManagerIsWanted};
 
 /// A topology that passes the test of this crate is that of the discovery.
-pub fn others_are_told()
-    ensures { OthersAreTold }
+pub fn others_are_reported()
+    ensures { OthersAreReported }
 {}
 
 /// Where adapters may have any ports besides, one may have a port that was not discovered.

@@ -2,7 +2,7 @@
 //!
 //! [`topology_text`] gives the text that `topo_file` reads, or what is wrong with the line of the discovery that it comes from.
 //! `specs/Import.antt` says which text that is: over the end ports and adapters of `specs/Ends.antt`, the nodes of
-//! `specs/Nodes.antt` with the names of `specs/Names.antt`, and the cables of `specs/Cables.antt`, spelt as `specs/Text.antt` says.
+//! `specs/Nodes.antt` with the names of `specs/Names.antt`, and the cables of `specs/Cables.antt`, encoded as `specs/Text.antt` says.
 //! A text is given only where the topology that is read of it is that of the discovery, as `specs/Agreement.antt` says.
 #![tactic(auto)]
 
@@ -16,9 +16,8 @@ mod index;
 mod laws;
 mod names;
 mod nodes;
-mod parts;
 mod planned;
 mod text;
 
-pub use crate::fault::{ImportCause, ImportError};
+pub use crate::fault::{ImportCause, ImportFault};
 pub use crate::import::topology_text;

@@ -2,14 +2,14 @@
 
 ghost use Rattle.std.specs.Prelude.{◌≡◌, ◌++◌, [], ◌∷◌, not, map, take, IfOk, OnOk};
 ghost use Rattle.text_words.specs.Words.{is_name_byte};
-ghost use Rattle.topology_import.specs.Names.{free_number, has_name, name_at, name_byte, named, numbered, or_node, own_name, spelt, suffix, with_name};
+ghost use Rattle.topology_import.specs.Names.{free_number, has_name, name_at, name_byte, named, numbered, or_node, own_name, encoded, suffix, with_name};
 
 use crate::nodes::Meant;
-use crate::parts::push_decimal;
 use crate::planned::PlannedList;
 use fabric_parts::NAME_BYTES;
 use netdiscover_file::Node;
 use std::alloc::{AllocError, Global};
+use text_parts::push_decimal;
 
 /// The name of the node there as it stands, or no name where there is none.
 pub(crate) fn name_at(nodes: &[Node], place: usize) -> &[u8]
@@ -59,9 +59,9 @@ fn or_node(alloc: Global, name: Vec<u8>) -> Result<Vec<u8>, AllocError>
     Ok(name)
 }
 
-/// A name, spelt with the bytes that one may have.
-fn spelt(alloc: Global, name: &[u8]) -> Result<Vec<u8>, AllocError>
-    ensures { IfOk result (λ text. text.items ≡ spelt name.now) }
+/// A name, encoded with the bytes that one may have.
+fn encoded(alloc: Global, name: &[u8]) -> Result<Vec<u8>, AllocError>
+    ensures { IfOk result (λ text. text.items ≡ encoded name.now) }
 {
     let name = plain(alloc, cut_to(NAME_BYTES, name))?;
     or_node(alloc, name)
@@ -130,7 +130,7 @@ fn push_named(
 ) -> Result<(), AllocError>
     ensures { OnOk result (nodes.new ≡ nodes.old ++ with_name found.now nodes.old node.now ∷ []) }
 {
-    let name = spelt(alloc, name_at(found, node.node))?;
+    let name = encoded(alloc, name_at(found, node.node))?;
     let name = own_name(alloc, nodes, name)?;
     nodes.push(alloc, name, *node)
 }

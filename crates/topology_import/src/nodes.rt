@@ -22,7 +22,7 @@ pub(crate) struct Meant {
     pub(crate) line: usize,
 }
 
-/// The GUID of a switch's port 0, or where that is not told the node's.
+/// The GUID of a switch's port 0, or where that is not reported the node's.
 fn switch_guid(node: &Node) -> u64
     ensures { result ≡ switch_guid node.now }
 {

@@ -116,7 +116,7 @@ impl PlannedList {
         }
     }
 
-    /// Adds a node of this name at the end. Memory alone can be refused.
+    /// Adds a node of this name at the end. It can only run out of memory.
     pub(crate) fn push(
         &mut self,
         alloc: Global,

@@ -1,15 +1,15 @@
 //! The text of the topology.
 
 ghost use Rattle.std.specs.Prelude.{◌≡◌, ◌++◌, ◌<◌, flat_map, IfOk, OnOk};
-ghost use Rattle.topology_import.specs.Text.{adapter_note, cable_line, cable_source, end_text, from_text, heading, line_note, line_source, manager_line, node_line, node_note, next_note, note, note_of, port_note, router_line, separator, source_of, switch_note, text_with, title, type_text};
+ghost use Rattle.topology_import.specs.Text.{adapter_note, cable_line, cable_source, end_text, from_text, heading, lid_text, line_note, line_source, manager_line, node_line, node_note, next_note, note, note_of, port_note, router_line, separator, source_of, switch_note, text_with, title, type_text};
 
 use crate::cables::{CableMeant, End, adapter_end};
 use crate::ends::{EndList, is_router};
 use crate::names::name_at;
-use crate::parts::{push_decimal, push_guid, push_lid, push_quoted};
 use crate::planned::{Planned, PlannedList};
 use netdiscover_file::{Discovery, Node, PortLine};
 use std::alloc::{AllocError, Global};
+use text_parts::{push_decimal, push_guid, push_port_name, push_quoted};
 
 fn title() -> &'static [u8]
     ensures { result.now ≡ title }
@@ -33,6 +33,18 @@ fn push_from(text: &mut Vec<u8>, initiator: Option<u64>) -> Result<(), AllocErro
         Some(guid) => {
             text.extend_from_slice(b" at port ")?;
             push_guid(text, guid)
+        }
+        None => Ok(()),
+    }
+}
+
+fn push_lid(text: &mut Vec<u8>, lid: Option<u16>) -> Result<(), AllocError>
+    ensures { OnOk result (text.new.items ≡ text.old.items ++ lid_text lid) }
+{
+    match lid {
+        Some(number) => {
+            text.extend_from_slice(b" lid ")?;
+            push_decimal(text, usize::from(number))
         }
         None => Ok(()),
     }
@@ -188,9 +200,7 @@ fn push_node_lines(
 fn push_end(text: &mut Vec<u8>, nodes: &PlannedList, port: End) -> Result<(), AllocError>
     ensures { OnOk result (text.new.items ≡ text.old.items ++ end_text nodes.now port) }
 {
-    text.extend_from_slice(nodes.name_with(port.guid))?;
-    text.extend_from_slice(b"/")?;
-    push_decimal(text, usize::from(port.port))
+    push_port_name(text, nodes.name_with(port.guid), port.port)
 }
 
 fn push_cable_line(

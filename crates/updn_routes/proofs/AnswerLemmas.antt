@@ -16,7 +16,7 @@ use Rattle.updn_routes.specs.Fabric.{IsFabric}
 use Rattle.updn_routes.specs.Laws.{KeepsTheOrder}
 use Rattle.updn_routes.specs.Order.{AreDistances, IsOrder, is_first_root, is_root, place_of, precedes}
 use Rattle.updn_routes.specs.Rounds.{is_marked}
-use Rattle.updn_routes.specs.Routes.{AllReached, AllRouted, AreRoutes, IsFirstUnreached, IsPair, LeadsToLid, LegalPath, NoLegalPath, SwitchRoutesState, all_hang, carries, has_gap, home_of, hop_to, is_gap, next_hop, number_of, port_towards, routes_with}
+use Rattle.updn_routes.specs.Routes.{AllReached, AllRouted, AreRoutes, IsFirstUnreached, IsPair, LeadsToLid, LegalPath, NoLegalPath, SwitchRoutesState, all_attached, carries, has_gap, home_of, hop_to, is_gap, next_hop, number_of, port_towards, routes_with}
 use Rattle.updn_routes.specs.Tables.{AreTables, all_downs, all_ups, downs_at, place_at, places_of}
 use Rattle.updn_routes.specs.UpDown.{channel_number, is_legal}
 use Rattle.updn_routes.proofs.CablingLemmas.{ends, leads_there, next_leads}
@@ -90,7 +90,7 @@ marks_first rows guids roots fabric =
 
 -- ---- all routes
 pub routes_right : (rows : List (List Link)) (guids roots ranks depths places : List ℕ) (tables : List (List (Option NextHop)))
-    (homes : List PortRef) → IsFabric rows guids roots → length rows ≤ 64 → all_hang homes (length rows) ≡ true
+    (homes : List PortRef) → IsFabric rows guids roots → length rows ≤ 64 → all_attached homes (length rows) ≡ true
     → length homes ≤ 49151
     → places ≡ places_of ranks guids
     → AreTables (all_downs rows places) (all_ups rows places) (length (all_downs rows places)) tables
@@ -164,10 +164,10 @@ module _ (routes : SwitchRoutesState) (are : AreRoutes routes) where
       by false f =
           none_legal routes.rows before (port_towards routes d) d are.cabling (are.chosen d dl) s steps sl (eqb-false s d f) e
 
-  hangs : (lid : ℕ) (home : PortRef) → home_of routes.homes lid ≡ Some home → home.node < length routes.rows
-  hangs lid home e = by (lid == 0) refl e
+  attached : (lid : ℕ) (home : PortRef) → home_of routes.homes lid ≡ Some home → home.node < length routes.rows
+  attached lid home e = by (lid == 0) refl e
     where
-      all_at : (homes : List PortRef) (i : ℕ) → all_hang homes (length routes.rows) ≡ true → slice_get homes i ≡ Some home
+      all_at : (homes : List PortRef) (i : ℕ) → all_attached homes (length routes.rows) ≡ true → slice_get homes i ≡ Some home
           → home.node < length routes.rows
       all_at homes i all h =
           elim (slice_get_cases homes i).1 [
@@ -179,11 +179,11 @@ module _ (routes : SwitchRoutesState) (are : AreRoutes routes) where
             | inr past ↦ absurd (let no_room : ⊥ = cc (past.1, h) in no_room)
           ]
         where
-          at : (homes : List PortRef) (i : ℕ) (d : PortRef) → i < length homes → all_hang homes (length routes.rows) ≡ true
+          at : (homes : List PortRef) (i : ℕ) (d : PortRef) → i < length homes → all_attached homes (length routes.rows) ≡ true
               → nat_lt (get_or homes i d).node (length routes.rows) ≡ true
           at [] i d less all = absurd (let no_room : ⊥ = omega (arith, less) in no_room)
           at (x ∷ xs) zero d less all = (and_parts (nat_lt x.node (length routes.rows)) _ all).0
-          at (x ∷ xs) (suc i) d less all = at xs i d (omega (arith, less)) (and_parts (nat_lt x.node (length routes.rows)) (all_hang xs (length routes.rows)) all).1
+          at (x ∷ xs) (suc i) d less all = at xs i d (omega (arith, less)) (and_parts (nat_lt x.node (length routes.rows)) (all_attached xs (length routes.rows)) all).1
 
       by : (b : Bool) → (lid == 0) ≡ b → cond b None (slice_get routes.homes (lid - 1)) ≡ Some home → home.node < length routes.rows
       by true f h = absurd (let no_room : ⊥ = cc h in no_room)
@@ -193,7 +193,7 @@ module _ (routes : SwitchRoutesState) (are : AreRoutes routes) where
   all_routed s lid d port sl home = record { arrives = leads_on; none = none }
     where
       dl : d < length routes.rows
-      dl = hangs lid (record { node = d; port = port }) home
+      dl = attached lid (record { node = d; port = port }) home
 
       hop : (t : ℕ) → next_hop routes t lid ≡ cond (d == t) (Some port) (port_towards routes d t)
       hop t = ap (hop_to routes t) home
@@ -273,7 +273,7 @@ get_or_default [] i one other less = absurd (let no_room : ⊥ = omega (arith, l
 get_or_default (x ∷ xs) zero one other less = refl
 get_or_default (x ∷ xs) (suc i) one other less = get_or_default xs i one other (omega (arith, less))
 
--- ---- where LIDs hang
+-- ---- where LIDs are attached
 abbrev Stands : List PortRef → ℕ → PortRef → Type 0
 Stands homes lid home = (i : ℕ) × ((lid ≡ i + 1) × ((i < length homes) × (get_or homes i home ≡ home)))
 
@@ -317,9 +317,9 @@ module _ (routes : SwitchRoutesState) (are : AreRoutes routes) where
       → (has_gap routes (record { node = s; port = 0 }) ≡ false) ⊎ ((port : ℕ) → home_of routes.homes b ≡ Some (record { node = d; port = port }) → is_gap routes s (record { node = d; port = port }) ≡ false)
       → LegalPath routes.rows order s d
   legal_pair a b s d pair (inr none) =
-      no_gap s (record { node = d; port = pair.port }) (hangs routes are a (record { node = s; port = 0 }) pair.switch) (hangs routes are b (record { node = d; port = pair.port }) pair.adapter) pair.is_port (none pair.port pair.adapter)
+      no_gap s (record { node = d; port = pair.port }) (attached routes are a (record { node = s; port = 0 }) pair.switch) (attached routes are b (record { node = d; port = pair.port }) pair.adapter) pair.is_port (none pair.port pair.adapter)
   legal_pair a b s d pair (inl none) =
-      no_gap s (record { node = d; port = pair.port }) (hangs routes are a (record { node = s; port = 0 }) pair.switch) (hangs routes are b (record { node = d; port = pair.port }) pair.adapter) pair.is_port gapless
+      no_gap s (record { node = d; port = pair.port }) (attached routes are a (record { node = s; port = 0 }) pair.switch) (attached routes are b (record { node = d; port = pair.port }) pair.adapter) pair.is_port gapless
     where
       all : list_any (is_gap routes s) routes.homes ≡ false
       all = by (list_any (is_gap routes s) routes.homes) refl
@@ -386,7 +386,7 @@ module _ (routes : SwitchRoutesState) (are : AreRoutes routes) where
 
       none : NoLegalPath routes.rows order (at_place i).node (at_place j).node
       none =
-          gone routes are (at_place i).node (at_place j).node (hangs routes are (i + 1) (record { node = (at_place i).node; port = 0 }) at_own) (hangs routes are (j + 1) (at_place j) (hung routes.homes j (record { node = 0; port = 0 }) to.0)) (empty (port_towards routes (at_place j).node (at_place i).node) far.1)
+          gone routes are (at_place i).node (at_place j).node (attached routes are (i + 1) (record { node = (at_place i).node; port = 0 }) at_own) (attached routes are (j + 1) (at_place j) (hung routes.homes j (record { node = 0; port = 0 }) to.0)) (empty (port_towards routes (at_place j).node (at_place i).node) far.1)
         where
           empty : (o : Option ℕ) → is_none o ≡ true → o ≡ None
           empty None h = refl

@@ -3,7 +3,7 @@ use Rattle.std.proofs.Common.{◌≡◌, ℕ, ◌<◌, Bool, true, false, not, �
 use Rattle.std.specs.List.{list_all, list_any}
 use Rattle.std.proofs.lemmas.Bool.{and_parts, and_from, or_cases, or_left, or_right, cases_lt, eqb-true, eqb-false, eq-eqb, ne_eqb, ltb-true, false≢true, not-true}
 use Rattle.std.proofs.lemmas.List.{get_or_past}
-use Rattle.result_words.proofs.ListLemmas.{list_all_weaker, list_any_weaker}
+use Rattle.step_results.proofs.ListLemmas.{list_all_weaker, list_any_weaker}
 use Rattle.sweep.proofs.JoinedLemmas.{at_each}
 use Rattle.updn_routes.specs.declared.link.Link.{Link}
 use Rattle.updn_routes.specs.Cabling.{is_cabling, is_next_to, is_row, leads, links_of, rises}

@@ -2,7 +2,7 @@
 use Rattle.std.proofs.Common.{◌≡◌, ℕ, suc, ◌<◌, Bool, true, ◌==◌, ◌&&◌, nat_le, List, [], ◌∷◌, ◌++◌, length, get_or, refl, sym, subst, inl, inr, arith}
 use Rattle.std.specs.List.{list_all, list_any, range_with_len}
 use Rattle.std.proofs.lemmas.Bool.{and_parts, and_from, cases_lt, or_cases, or_left, eqb-true, eq-eqb, le-leb, leb-true, false≢true}
-use Rattle.result_words.proofs.ListLemmas.{list_all_weaker}
+use Rattle.step_results.proofs.ListLemmas.{list_all_weaker}
 use Rattle.updn_routes.specs.declared.link.Link.{Link}
 use Rattle.updn_routes.specs.Cabling.{AllJoined, is_next_to, is_walk}
 use Rattle.updn_routes.specs.Fabric.{HasRoutes, IsFabric}

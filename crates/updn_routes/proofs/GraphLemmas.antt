@@ -1,4 +1,4 @@
--- Every graph whose switches are joined is a fabric, and its LIDs hang on its switches.
+-- Every graph whose switches are joined is a fabric, and its LIDs are attached to its switches.
 use Rattle.std.proofs.Common.{◌≡◌, ℕ, zero, suc, ◌+◌, ◌<◌, ◌≤◌, ◌⊎◌, Bool, true, cond, not, ◌==◌, ◌&&◌, nat_le, nat_lt, List, [], ◌∷◌, length, map, find, get_or, position}
 use Rattle.std.proofs.Common.{Option, Some, None, option_map, refl, sym, ap, subst, ◌∙◌, inl, inr, arith, length-append}
 use Rattle.std.specs.List.{list_all, list_any, position_or_len, range_with_len}
@@ -10,9 +10,9 @@ use Rattle.std.proofs.Math.ListN.{get_or-map}
 use Rattle.fabric_parts.specs.Cable.{port}
 use Rattle.fabric_parts.specs.declared.cable.PortRef.{PortRef}
 use Rattle.lid_assign.specs.Lids.{AreLids, adapter_end, end_ports, switch_end}
-use Rattle.result_words.proofs.ListLemmas.{list_all_weaker, any_map}
-use Rattle.result_words.proofs.DistinctLemmas.{left_part}
-use Rattle.result_words.proofs.TestLemmas.{same_and}
+use Rattle.step_results.proofs.ListLemmas.{list_all_weaker, any_map}
+use Rattle.step_results.proofs.DistinctLemmas.{left_part}
+use Rattle.step_results.proofs.TestLemmas.{same_and}
 use Rattle.sweep.proofs.JoinedLemmas.{at_each}
 use Rattle.sweep.specs.Graph.{GraphState, IsGraph, count_at, is_linked, is_right_link, is_right_port, is_right_row, is_switch_port, rise_above}
 use Rattle.sweep.specs.Joined.{AllJoined as AllJoinedThere, is_next_to as is_next_there, is_walk_by}
@@ -22,8 +22,8 @@ use Rattle.sweep.specs.declared.graph.GraphLink.{GraphLink}
 use Rattle.updn_routes.specs.declared.link.Link.{Link}
 use Rattle.updn_routes.specs.Cabling.{AllJoined, is_cabling, is_next_to, is_row, is_walk, links_of, rises}
 use Rattle.updn_routes.specs.Fabric.{IsFabric}
-use Rattle.updn_routes.specs.Routes.{all_hang}
-use Rattle.updn_routes.specs.Subnet.{guids_of, home_from, home_in, homes_of, link_of, place_of, row_of, rows_of, seat_of}
+use Rattle.updn_routes.specs.Routes.{all_attached}
+use Rattle.updn_routes.specs.Subnet.{guids_of, home_from, home_in, homes_of, link_of, place_of, row_of, rows_of, attachment_of}
 use Rattle.updn_routes.proofs.CablingLemmas.{some_of}
 use Rattle.updn_routes.proofs.WriteLemmas.{past_end}
 
@@ -136,8 +136,8 @@ module _ (graph : GraphState) (is : IsGraph graph) where
   switches : length (rows_of graph) ≡ length graph.switches
   switches = count ∙ is.a_row_each
 
-  seat : (at : PortRef) → is_switch_port graph.switches at ≡ true → at.node < length (rows_of graph)
-  seat at h =
+  attachment : (at : PortRef) → is_switch_port graph.switches at ≡ true → at.node < length (rows_of graph)
+  attachment at h =
       let parts = and_parts (nat_le 1 at.port) (nat_le at.port (count_at graph.switches at.node)) h in
       let low = leb-true 1 at.port parts.0 in
       let high = leb-true at.port (count_at graph.switches at.node) parts.1 in
@@ -150,7 +150,7 @@ module _ (graph : GraphState) (is : IsGraph graph) where
   pub some_switch : 0 < length (rows_of graph)
   some_switch =
       let manager = some_of (λ port. port.port_guid == graph.manager) (is_right_port graph.switches) graph.ports is.ports is.manager_there in
-      let low = seat manager.0.at (and_parts (is_switch_port graph.switches manager.0.at) _ manager.1.1).0 in
+      let low = attachment manager.0.at (and_parts (is_switch_port graph.switches manager.0.at) _ manager.1.1).0 in
       omega (arith, low)
 
   pub graph_is_fabric : (roots : List ℕ) → AllJoinedThere graph.rows
@@ -170,18 +170,18 @@ module _ (graph : GraphState) (is : IsGraph graph) where
   graph_is_small = let even = switches in let few = is.few_switches in omega (arith, even, few)
 
   -- ---- LIDs
-  hangs_there : (guid : ℕ) → nat_lt (home_in graph guid).node (length (rows_of graph)) ≡ true
-  hangs_there guid =
-      by (place_of graph.switches guid) refl (seat_of graph.ports guid) (seated (find (λ port. port.port_guid == guid) graph.ports) refl)
+  attached_there : (guid : ℕ) → nat_lt (home_in graph guid).node (length (rows_of graph)) ≡ true
+  attached_there guid =
+      by (place_of graph.switches guid) refl (attachment_of graph.ports guid) (attached (find (λ port. port.port_guid == guid) graph.ports) refl)
     where
-      seated : (o : Option GraphPort) → find (λ port. port.port_guid == guid) graph.ports ≡ o → (at : PortRef) → option_map (λ port. port.at) (find (λ port. port.port_guid == guid) graph.ports) ≡ Some at → at.node < length (rows_of graph)
-      seated None e at f = absurd (none_is at (sym (ap (option_map (λ port. port.at)) e) ∙ f))
-      seated (Some port) e at f =
+      attached : (o : Option GraphPort) → find (λ port. port.port_guid == guid) graph.ports ≡ o → (at : PortRef) → option_map (λ port. port.at) (find (λ port. port.port_guid == guid) graph.ports) ≡ Some at → at.node < length (rows_of graph)
+      attached None e at f = absurd (none_is at (sym (ap (option_map (λ port. port.at)) e) ∙ f))
+      attached (Some port) e at f =
           elim (slice_get_cases graph.ports (position_or_len (λ port. port.port_guid == guid) graph.ports)).1 [
             | inl there ↦
                 (let same : there.0 ≡ port = same_port there.0 port (sym there.2 ∙ (sym (find_at (λ port. port.port_guid == guid) graph.ports) ∙ e)) in
                 let right = subst (λ (p : GraphPort). is_right_port graph.switches p ≡ true) (there.3 ∙ same) (all_get (is_right_port graph.switches) graph.ports (position_or_len (λ port. port.port_guid == guid) graph.ports) there.0 is.ports there.1) in
-                let low = seat port.at (and_parts (is_switch_port graph.switches port.at) _ right).0 in
+                let low = attachment port.at (and_parts (is_switch_port graph.switches port.at) _ right).0 in
                 subst (λ (p : PortRef). p.node < length (rows_of graph)) (same_at port.at at (sym (ap (option_map (λ port. port.at)) e) ∙ f)) low)
             | inr past ↦ absurd (none_some port (sym past.1 ∙ (sym (find_at (λ port. port.port_guid == guid) graph.ports) ∙ e)))
           ]
@@ -202,10 +202,10 @@ module _ (graph : GraphState) (is : IsGraph graph) where
       by None e (Some at) low = lt-ltb at.node (length (rows_of graph)) (low at refl)
       by None e None low = lt-ltb 0 (length (rows_of graph)) some_switch
 
-  pub all_hang_there : (lids : List ℕ) → all_hang (homes_of graph lids) (length (rows_of graph)) ≡ true
-  all_hang_there [] = refl
-  all_hang_there (guid ∷ lids) =
-      and_from (nat_lt (home_in graph guid).node (length (rows_of graph))) (all_hang (homes_of graph lids) (length (rows_of graph))) (hangs_there guid) (all_hang_there lids)
+  pub all_attached_there : (lids : List ℕ) → all_attached (homes_of graph lids) (length (rows_of graph)) ≡ true
+  all_attached_there [] = refl
+  all_attached_there (guid ∷ lids) =
+      and_from (nat_lt (home_in graph guid).node (length (rows_of graph))) (all_attached (homes_of graph lids) (length (rows_of graph))) (attached_there guid) (all_attached_there lids)
 
 pub lids_count : (graph : GraphState) (lids : List ℕ) → AreLids (end_ports graph) lids
     → length lids ≡ length graph.switches + length graph.ports

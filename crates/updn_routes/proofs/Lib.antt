@@ -3,7 +3,7 @@ pub mod PlaceLemmas
 pub mod NumberLemmas
 pub mod RouteLemmas
 pub mod UniqueLemmas
-pub mod CircleLemmas
+pub mod CycleLemmas
 pub mod OrderLemmas
 pub mod DistanceLemmas
 pub mod TreeLemmas

@@ -2,7 +2,7 @@
 use Rattle.std.proofs.Common.{◌≡◌, ℕ, suc, ◌+◌, ◌-◌, ◌*◌, ◌<◌, ◌≤◌, Bool, true, ◌&&◌, nat_le, nat_lt, List, [], ◌∷◌, length, refl, ap, inl, inr, arith}
 use Rattle.std.specs.List.{list_all}
 use Rattle.std.proofs.lemmas.Bool.{and_parts, and_from, or_cases, leb-true, le-leb, ltb-true, lt-ltb}
-use Rattle.result_words.proofs.ListLemmas.{list_all_weaker}
+use Rattle.step_results.proofs.ListLemmas.{list_all_weaker}
 use Rattle.updn_routes.specs.declared.link.Link.{Link}
 use Rattle.updn_routes.specs.Cabling.{is_cabling, is_next_to, is_walk, rises}
 use Rattle.updn_routes.specs.Order.{IsOrder, place_of}

@@ -115,9 +115,9 @@ module _ (count : ℕ) (before : ℕ → ℕ → Bool) (order : IsOrder count be
         | inr h ↦ le-ltb _ _ (let far = place_less t s tl h in omega (arith, far)) ∙ sym (after t s h)
       ]
 
-  pub place_tells : (s t : ℕ) → s < count → t < count
+  pub place_reports : (s t : ℕ) → s < count → t < count
       → nat_lt (place_of before count s) (place_of before count t) ≡ before s t
-  place_tells s t sl tl = cases s t sl tl (s == t) refl
+  place_reports s t sl tl = cases s t sl tl (s == t) refl
 
   pub place_own : (s t : ℕ) → s < count → t < count → place_of before count s ≡ place_of before count t → s ≡ t
   place_own s t sl tl same = by (s == t) refl
@@ -131,4 +131,4 @@ module _ (count : ℕ) (before : ℕ → ℕ → Bool) (order : IsOrder count be
           ])
 
   pub keeps_order : KeepsTheOrder count before (place_of before count)
-  keeps_order = record { below = place_below; less = place_tells; own = place_own }
+  keeps_order = record { below = place_below; less = place_reports; own = place_own }

@@ -3,7 +3,7 @@ use Rattle.std.proofs.Common.{◌≡◌, ℕ, suc, ◌<◌, Bool, true, false, �
 use Rattle.std.proofs.Common.{sym, ap, subst, ◌∙◌, inl, inr, arith}
 use Rattle.std.specs.List.{list_all, list_any}
 use Rattle.std.proofs.lemmas.Bool.{and_parts, and_from, or_cases, or_left, or_right, eqb-true, eqb-false, eq-eqb, ne_eqb, ltb-true, false≢true}
-use Rattle.result_words.proofs.TestLemmas.{same_and, same_or}
+use Rattle.step_results.proofs.TestLemmas.{same_and, same_or}
 use Rattle.updn_routes.specs.declared.link.Link.{Link}
 use Rattle.updn_routes.specs.Cabling.{is_cabling, is_next_to, is_walk, leads, links_of}
 use Rattle.updn_routes.specs.Choice.{AllChosen, HasNone, IsChosenOf, IsLeastOf, is_route, is_way_down, is_way_up}
@@ -17,7 +17,7 @@ long_map : (f : ℕ → ℕ) (xs : List ℕ) → length (map f xs) ≡ length xs
 long_map f [] = refl
 long_map f (x ∷ xs) = ap suc (long_map f xs)
 
--- ---- ways that are the same, told by places
+-- ---- ways that are the same, reported by places
 -- a way of the one kind is one of the other between the places, and each of these is one of those
 record SameWays (place : ℕ → ℕ) (w v : ℕ → List ℕ → Bool) : Type 0 where
   there : (p : ℕ) (path : List ℕ) → w p path ≡ true → v p (map place path) ≡ true

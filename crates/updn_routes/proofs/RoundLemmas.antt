@@ -6,7 +6,7 @@ use Rattle.std.specs.Option.{unwrap_or}
 use Rattle.std.proofs.lemmas.Bool.{and_parts, and_from, cases_lt, eqb-true, eq-eqb, leb-true, le-leb, false≢true}
 use Rattle.std.proofs.lemmas.List.{get_or-map}
 use Rattle.std.proofs.lemmas.List.FromFn.{get_or-map-range_with_len, length-range_with_len}
-use Rattle.result_words.proofs.ListLemmas.{list_any_weaker}
+use Rattle.step_results.proofs.ListLemmas.{list_any_weaker}
 use Rattle.updn_routes.specs.declared.link.Link.{Link}
 use Rattle.updn_routes.specs.Cabling.{AllJoined, is_cabling, is_next_to, is_walk, links_of}
 use Rattle.updn_routes.specs.Order.{AreDistances, IsDistance}

@@ -5,8 +5,8 @@ use Rattle.std.specs.List.{IsDistinct}
 use Rattle.std.specs.Option.{option_and_then, option_map_or}
 use Rattle.std.proofs.lemmas.Bool.{eqb-true, eq-eqb, false≢true, false_from_ne_true, leb-true, ltb-true, not-true, not_from_false, not_from_true}
 use Rattle.std.proofs.lemmas.Option.{none-some, same_Some, option_and_then_some}
-use Rattle.result_words.proofs.ElementLemmas.{find_all}
-use Rattle.result_words.proofs.ListLemmas.{all_at, found_passes}
+use Rattle.step_results.proofs.ElementLemmas.{find_all}
+use Rattle.step_results.proofs.ListLemmas.{all_at, found_passes}
 use Rattle.updn_routes.specs.declared.link.Link.{Link}
 use Rattle.updn_routes.specs.Cabling.{is_cabling, links_of}
 use Rattle.updn_routes.specs.Laws.{IsSided, SidesPart}

@@ -208,7 +208,7 @@ module _ (rows : List (List Link)) (before : ℕ → ℕ → Bool) (d : ℕ) (ca
           let more : Routed a.to k = later a.to a.there a.nearer in
           (a.to ∷ more.0, step_first rows next s a.to more.0 d (record { away = away; port = a.port; picked = a.picked; out = a.out; rest = more.1 }), ap suc more.2)
 
-  -- and a route is as long as told
+  -- and a route is as long as reported
   route_own : (s : ℕ) (steps : List ℕ) → s < length rows → is_route rows next s steps d ≡ true
       → own s ≡ Some (length steps)
   route_own s [] less route = own_at_home s (eqb-true s d route)

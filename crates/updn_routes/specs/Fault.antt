@@ -1,4 +1,4 @@
--- What a fault tells.
+-- What a fault reports.
 use Rattle.std.specs.Prelude.{ℕ, List}
 use Rattle.fabric_parts.specs.declared.cable.PortRef.{PortRef}
 use Rattle.updn_routes.specs.declared.fault.RouteFault.{RouteFault}

@@ -76,8 +76,8 @@ OneChoiceIsLeft =
     → (s : ℕ) → s < length rows → s ≢ d → one s ≡ other s
 
 -- with choices for each target, no channel waits, over others, for itself
-abbrev pub NoCircleWaits : Type 0
-NoCircleWaits =
+abbrev pub NoCycleWaits : Type 0
+NoCycleWaits =
     (rows : List (List Link)) (before : ℕ → ℕ → Bool) (next : ℕ → ℕ → Option ℕ)
     → is_cabling rows ≡ true → IsOrder (length rows) before
     → ((d : ℕ) → d < length rows → AllChosen rows before (next d) d)

@@ -1,4 +1,4 @@
--- The order that tells up from down: by rank, and where ranks are equal by GUID.
+-- The order that reports up from down: by rank, and where ranks are equal by GUID.
 use Rattle.std.specs.Prelude.{ℕ, ◌≡◌, ◌≢◌, ◌==◌, ◌<◌, ◌≤◌, ◌&&◌, ◌||◌, nat_le, nat_lt, Bool, true, false, List, [], ◌∷◌, length, filter, get_or}
 use Rattle.std.specs.List.{list_all, list_any, range_with_len}
 use Rattle.updn_routes.specs.declared.link.Link.{Link}

@@ -3,7 +3,7 @@ use Rattle.std.specs.Prelude.{ℕ, ◌≡◌, ◌<◌, List, length, map}
 use Rattle.updn_routes.specs.declared.link.Link.{Link}
 use Rattle.updn_routes.specs.Cabling.{links_of}
 
--- a link, whose switch is told by its place
+-- a link, whose switch is named by its place
 abbrev pub placed_link : (ℕ → ℕ) → Link → Link
 placed_link place link = record { port = link.port; to = place link.to }
 

@@ -1,4 +1,4 @@
--- Routes of a whole subnet: by LIDs, with the port at which each LID hangs.
+-- Routes of a whole subnet: by LIDs, with the port at which each LID is attached.
 use Rattle.std.specs.Prelude.{ℕ, ◌≡◌, ◌≢◌, ◌⊎◌, ◌+◌, ◌-◌, ◌*◌, ◌<◌, ◌≤◌, ◌==◌, not, ◌&&◌, nat_lt, Bool, true, false, if◌then◌else◌, List, [], length, get_or, slice_get, Option, Some, None, option_map, is_none}
 use Rattle.std.specs.List.{list_all, list_any}
 use Rattle.fabric_parts.specs.declared.cable.PortRef.{PortRef}
@@ -14,7 +14,7 @@ use Rattle.fabric_parts.specs.declared.limits.TheConstants.{SWITCHES}
 use Rattle.fabric_parts.specs.declared.lid.TheConstants.{LAST_UNICAST_LID}
 
 -- the switches' links, GUIDs, ranks and depths, each by the number of the switch; the place of each in the order, and
--- for the target at each place its table by places; and where each LID hangs, from LID 1 on
+-- for the target at each place its table by places; and where each LID is attached, from LID 1 on
 pub record SwitchRoutesState : Type 0 where
   pub rows : List (List Link)
   pub guids : List ℕ
@@ -31,7 +31,7 @@ routes_with rows guids ranks depths places tables homes =
     record { rows = rows; guids = guids; ranks = ranks; depths = depths; places = places; tables = tables; homes = homes }
 
 -- ---- LIDs
--- where a LID hangs: the port of a switch that has a cable to the adapter's port, and 0 of a switch for its own LID
+-- where a LID is attached: the port of a switch that has a cable to the adapter's port, and 0 of a switch for its own LID
 abbrev pub home_of : List PortRef → ℕ → Option PortRef
 home_of homes lid = if lid == 0 then None else slice_get homes (lid - 1)
 
@@ -44,7 +44,7 @@ abbrev pub port_towards : SwitchRoutesState → ℕ → ℕ → Option ℕ
 port_towards routes d s =
     option_map (λ hop. hop.port) (entry_at (get_or routes.tables (place_at routes.places d) []) (place_at routes.places s))
 
--- the port by which s sends what is for something that hangs there
+-- the port by which s sends what is for something that is attached there
 abbrev pub hop_to : SwitchRoutesState → ℕ → Option PortRef → Option ℕ
 hop_to routes s None = None
 hop_to routes s (Some home) = if home.node == s then Some home.port else port_towards routes home.node s
@@ -58,15 +58,15 @@ number_of routes s t =
     if is_next_to routes.rows s t then Some (channel_number (order_of routes) (length routes.rows) s t) else None
 
 -- ---- what holds of all routes
-abbrev pub all_hang : List PortRef → ℕ → Bool
-all_hang homes count = list_all (λ home. nat_lt home.node count) homes
+abbrev pub all_attached : List PortRef → ℕ → Bool
+all_attached homes count = list_all (λ home. nat_lt home.node count) homes
 
 pub record AreRoutes (routes : SwitchRoutesState) : Type 0 where
   pub cabling : is_cabling routes.rows ≡ true
   pub count : length routes.guids ≡ length routes.rows
   pub order : IsOrder (length routes.rows) (order_of routes)
   pub places : routes.places ≡ places_of routes.ranks routes.guids
-  pub hang : all_hang routes.homes (length routes.rows) ≡ true
+  pub hang : all_attached routes.homes (length routes.rows) ≡ true
   pub few : length routes.rows ≤ SWITCHES
   pub few_lids : length routes.homes ≤ LAST_UNICAST_LID
   pub chosen : (d : ℕ) → d < length routes.rows → AllChosen routes.rows (order_of routes) (port_towards routes d) d
@@ -81,7 +81,7 @@ pub record AreRoutesOf (rows : List (List Link)) (guids roots : List ℕ) (homes
   pub depths_are : AreDepths rows guids roots routes.depths
 
 -- ---- following them
--- these steps from s are where a LID's next hops lead: to the switch d at which it hangs, and there out of its port
+-- these steps from s are where a LID's next hops lead: to the switch d at which it is attached, and there out of its port
 pub record LeadsToLid (routes : SwitchRoutesState) (lid s d port : ℕ) (steps : List ℕ) : Type 0 where
   pub route : is_route routes.rows (λ t. next_hop routes t lid) s steps d ≡ true
   pub legal : is_legal (order_of routes) s steps ≡ true
@@ -89,7 +89,7 @@ pub record LeadsToLid (routes : SwitchRoutesState) (lid s d port : ℕ) (steps :
   pub short : length steps + 1 ≤ 2 * length routes.rows
   pub out : next_hop routes d lid ≡ Some port
 
--- a LID that hangs at port of d, seen from s: with a next hop, following these leads there; with none, no legal path does
+-- a LID that is attached at port of d, seen from s: with a next hop, following these leads there; with none, no legal path does
 pub record IsRouted (routes : SwitchRoutesState) (lid s d port : ℕ) : Type 0 where
   pub arrives : (first : ℕ) → next_hop routes s lid ≡ Some first → (steps : List ℕ) × LeadsToLid routes lid s d port steps
   pub none : next_hop routes s lid ≡ None
@@ -101,7 +101,7 @@ AllRouted routes s lid =
     → IsRouted routes lid s d port
 
 -- ---- what has no route
--- some LID hangs on a port of the switch: an adapter's port does
+-- some LID is attached to a port of the switch: an adapter's port does
 abbrev pub carries : List PortRef → ℕ → Bool
 carries homes s = list_any (λ home. not (home.port == 0) && (home.node == s)) homes
 
@@ -132,7 +132,7 @@ pub record IsFirstUnreached (rows : List (List Link)) (before : ℕ → ℕ → 
   pub earlier : (a' b' s' d' : ℕ) → IsPair homes a' b' s' d' → (a' < a) ⊎ ((a' ≡ a) × (b' < b)) → LegalPath rows before s' d'
 
 -- ---- as they are found
--- no port is chosen there towards where that port hangs
+-- no port is chosen there towards where that port is attached
 abbrev pub is_gap : SwitchRoutesState → ℕ → PortRef → Bool
 is_gap routes s to = not (to.port == 0) && is_none (port_towards routes to.node s)
 

@@ -1,4 +1,4 @@
--- What routes are of: the cables between the switches of a graph, their GUIDs, and where each LID hangs. And the routes
+-- What routes are of: the cables between the switches of a graph, their GUIDs, and where each LID is attached. And the routes
 -- of a subnet, which keep the graph and the LIDs.
 use Rattle.std.specs.Prelude.{ℕ, ◌≡◌, ◌==◌, List, map, find, position, Option, Some, None, option_map}
 use Rattle.fabric_parts.specs.declared.cable.PortRef.{PortRef}
@@ -30,19 +30,19 @@ abbrev pub place_of : List GraphSwitch → ℕ → Option ℕ
 place_of switches guid = position (λ switch. switch.guid == guid) switches
 
 -- the port of a switch that has a cable to the adapter's port with that GUID
-abbrev pub seat_of : List GraphPort → ℕ → Option PortRef
-seat_of ports guid = option_map (λ port. port.at) (find (λ port. port.port_guid == guid) ports)
+abbrev pub attachment_of : List GraphPort → ℕ → Option PortRef
+attachment_of ports guid = option_map (λ port. port.at) (find (λ port. port.port_guid == guid) ports)
 
--- where the end port with that GUID hangs: it is a switch's own, or an adapter's
+-- where the end port with that GUID is attached: it is a switch's own, or an adapter's
 abbrev pub home_from : Option ℕ → Option PortRef → PortRef
 home_from (Some place) at = record { node = place; port = 0 }
 home_from None (Some at) = at
 home_from None None = record { node = 0; port = 0 }
 
 abbrev pub home_in : GraphState → ℕ → PortRef
-home_in graph guid = home_from (place_of graph.switches guid) (seat_of graph.ports guid)
+home_in graph guid = home_from (place_of graph.switches guid) (attachment_of graph.ports guid)
 
--- where each LID hangs, from LID 1 on
+-- where each LID is attached, from LID 1 on
 abbrev pub homes_of : GraphState → List ℕ → List PortRef
 homes_of graph lids = map (home_in graph) lids
 

@@ -1,4 +1,4 @@
--- Channels that wait for one another, which a fabric without a free buffer would do for ever if they stood in a circle.
+-- Channels that wait for one another, which a fabric without a free buffer would do for ever if they stood in a cycle.
 use Rattle.std.specs.Prelude.{ℕ, ◌≡◌, ◌<◌, true, List, [], ◌∷◌, length, Option, Some}
 use Rattle.updn_routes.specs.declared.link.Link.{Link}
 use Rattle.updn_routes.specs.Choice.{is_route}

@@ -15,9 +15,9 @@ use crate::table::{Table, entry_at, table_at};
 use fabric_parts::PortRef;
 use std::marker::Model;
 
-/// The routes between switches, and where LIDs hang on these.
+/// The routes between switches, and where LIDs are attached to these.
 ///
-/// Switches are told by their numbers in the rows that the routes were made of.
+/// Switches are named by their numbers in the rows that the routes were made of.
 #[derive(Debug, Drop)]
 pub struct SwitchRoutes {
     pub(crate) rows: Vec<Row>,
@@ -42,7 +42,7 @@ impl Model for SwitchRoutes {
 
 impl SwitchRoutes {
     /// The port by which a switch sends what is for a LID: 0 where the LID is its own, the port of the adapter
-    /// where one with that LID hangs on it, and else the port chosen towards the switch at which the LID hangs.
+    /// where one with that LID is attached to it, and else the port chosen towards the switch at which the LID is attached.
     /// None where no port is chosen, and where nobody has the LID.
     pub fn next_hop(&self, switch: usize, lid: u16) -> Option<u8>
         ensures exact { result ≡ next_hop self.now switch lid }
@@ -127,7 +127,7 @@ impl SwitchRoutes {
         }
     }
 
-    /// Where a LID hangs: at a port of a switch, and at its port 0 where it is the switch's own.
+    /// Where a LID is attached: at a port of a switch, and at its port 0 where it is the switch's own.
     pub fn home_of(&self, lid: u16) -> Option<PortRef>
         ensures { result ≡ home_of self.now.homes lid }
     {
@@ -152,7 +152,7 @@ impl SwitchRoutes {
         to.port != 0 && self.port_towards(to.node, switch).is_none()
     }
 
-    /// Whether adapters' ports hang on the switch.
+    /// Whether adapters' ports are attached to the switch.
     fn carries(&self, switch: usize) -> bool
         ensures { result ≡ carries self.now.homes switch }
     {
@@ -202,7 +202,7 @@ impl SwitchRoutes {
     }
 }
 
-/// Where a LID hangs.
+/// Where a LID is attached.
 fn home_of(homes: &[PortRef], lid: u16) -> Option<PortRef>
     ensures { result ≡ home_of homes.now lid }
 {

@@ -3,7 +3,7 @@
 ghost use Rattle.std.specs.Prelude.{ℕ, ◌≡◌, ◌==◌, ◌<◌, length, get_or, IfOk};
 ghost use Rattle.std.specs.List.{list_all, list_any};
 ghost use Rattle.lid_assign.specs.Lids.{AreLids, end_ports};
-ghost use Rattle.updn_routes.specs.Subnet.{guids_of, home_from, home_in, homes_of, link_of, row_of, rows_of, seat_of};
+ghost use Rattle.updn_routes.specs.Subnet.{guids_of, home_from, home_in, homes_of, link_of, row_of, rows_of, attachment_of};
 ghost use Rattle.fabric_parts.specs.declared.lid.TheConstants.{LAST_UNICAST_LID};
 
 use crate::link::Link;
@@ -13,7 +13,7 @@ use lid_assign::Lids;
 use std::alloc::{AllocError, Global};
 use sweep::{Graph, GraphPort};
 
-/// The links between the switches of a graph. Memory alone can be refused.
+/// The links between the switches of a graph. It can only run out of memory.
 pub(crate) fn rows_of(alloc: Global, graph: &Graph) -> Result<Vec<Row>, AllocError>
     ensures { IfOk result (λ rows. rows.items ≡ rows_of graph.now) }
 {
@@ -38,7 +38,7 @@ fn row_of(alloc: Global, links: &[sweep::GraphLink]) -> Result<Vec<Link>, AllocE
         .collect(alloc)
 }
 
-/// The GUIDs of the switches of a graph. Memory alone can be refused.
+/// The GUIDs of the switches of a graph. It can only run out of memory.
 pub(crate) fn guids_of(alloc: Global, graph: &Graph) -> Result<Vec<u64>, AllocError>
     ensures { IfOk result (λ guids. guids.items ≡ guids_of graph.now) }
 {
@@ -49,7 +49,7 @@ pub(crate) fn guids_of(alloc: Global, graph: &Graph) -> Result<Vec<u64>, AllocEr
         .collect(alloc)
 }
 
-/// Where each LID hangs, from LID 1 on. Memory alone can be refused.
+/// Where each LID is attached, from LID 1 on. It can only run out of memory.
 pub(crate) fn homes_of(
     alloc: Global,
     graph: &Graph,
@@ -68,21 +68,21 @@ pub(crate) fn homes_of(
     Ok(homes)
 }
 
-/// Where the LID after so many hangs.
+/// Where the LID after so many is attached.
 fn home_of(graph: &Graph, lids: &Lids, before: usize) -> PortRef
     requires there { before < length lids.now }
     requires few { before < LAST_UNICAST_LID }
     ensures { result ≡ home_in graph.now (get_or lids.now before 0) }
 {
     match lids.port_of((before + 1) as u16) {
-        Some(guid) => home_from(graph.place_of(guid), seat_of(graph.ports(), guid)),
+        Some(guid) => home_from(graph.place_of(guid), attachment_of(graph.ports(), guid)),
         None => PortRef { node: 0, port: 0 },
     }
 }
 
-/// The port of a switch on which the adapter's port with that GUID hangs.
-fn seat_of(ports: &[GraphPort], guid: u64) -> Option<PortRef>
-    ensures { result ≡ seat_of ports.now guid }
+/// The port of a switch to which the adapter's port with that GUID is attached.
+fn attachment_of(ports: &[GraphPort], guid: u64) -> Option<PortRef>
+    ensures { result ≡ attachment_of ports.now guid }
 {
     ports
         .iter()
@@ -90,7 +90,7 @@ fn seat_of(ports: &[GraphPort], guid: u64) -> Option<PortRef>
         .map(|port| port.at)
 }
 
-/// Where an end port hangs: on the switch whose own it is, or on a port of one.
+/// Where an end port is attached: on the switch whose own it is, or on a port of one.
 fn home_from(place: Option<usize>, at: Option<PortRef>) -> PortRef
     ensures { result ≡ home_from place at }
 {

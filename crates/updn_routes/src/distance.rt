@@ -11,7 +11,7 @@ use crate::link::Link;
 use crate::row::{Row, links_of};
 use std::alloc::{AllocError, Global};
 
-/// How many cables lead from each switch to the nearest that is marked. Memory alone can be refused.
+/// How many cables lead from each switch to the nearest that is marked. It can only run out of memory.
 #[tactic(auto, using(crate::proofs::RoundLemmas::found_first, crate::proofs::RoundLemmas::found_more, crate::proofs::RoundLemmas::found_all))]
 pub(crate) fn distances(
     alloc: Global,

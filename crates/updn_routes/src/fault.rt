@@ -6,7 +6,7 @@ use thiserror::Error;
 /// Why there are no routes.
 #[derive(Clone, Copy, Debug, PartialEq, Eq, Error)]
 pub enum RouteFault {
-    /// Memory was refused.
+    /// Out of memory.
     #[error("out of memory")]
     NoMemory,
     /// From a switch that carries adapters' ports no legal path leads to one of these. Of all such pairs this is

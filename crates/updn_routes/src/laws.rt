@@ -1,7 +1,7 @@
 //! What follows from the definitions of routes alone. Each function's contract is its law; it does nothing.
 
 ghost use Rattle.updn_routes.specs.Examples.{FourSwitchesMeetTheLaws, SevenSwitchesMeetTheLaws, TwoSwitchesMeetTheLaws};
-ghost use Rattle.updn_routes.specs.Laws.{ChoicesLeadHome, ChoicesThereAre, EveryFabricHasRoutes, JoinedSwitchesHaveDistances, NoCircleWaits, OneChoiceIsLeft, OneDistanceIsLeft, PlacesAreTheirOwn, PlacesKeepTheChoices, PlacesKeepTheOrder, PlacesKeepTheWalks, RanksAndGuidsOrder, SidesPartTheTree, TheTreeHasSides, TheTreeLeadsToTheFirstRoot, WaysDownComeFirst};
+ghost use Rattle.updn_routes.specs.Laws.{ChoicesLeadHome, ChoicesThereAre, EveryFabricHasRoutes, JoinedSwitchesHaveDistances, NoCycleWaits, OneChoiceIsLeft, OneDistanceIsLeft, PlacesAreTheirOwn, PlacesKeepTheChoices, PlacesKeepTheOrder, PlacesKeepTheWalks, RanksAndGuidsOrder, SidesPartTheTree, TheTreeHasSides, TheTreeLeadsToTheFirstRoot, WaysDownComeFirst};
 
 /// Where cables join all switches, each of them has a distance from the nearest of any given ones, as its rank
 /// from the roots and its depth from the first root; and it has one such distance only.
@@ -29,15 +29,15 @@ pub fn choices_lead_home()
 {}
 
 /// Towards every switch there are choices that obey the definition, and such tables are the same: that a
-/// switch's choice follows its neighbours' choices goes round in no circle.
+/// switch's choice follows its neighbours' choices goes round in no cycle.
 pub fn one_choice_is_left()
     ensures some { ChoicesThereAre }
     ensures one { OneChoiceIsLeft }
 {}
 
 /// No channel waits, over others, for itself.
-pub fn no_circle_waits()
-    ensures { NoCircleWaits }
+pub fn no_cycle_waits()
+    ensures { NoCycleWaits }
 {}
 
 /// Where some walk leads down all the way, the route goes down all the way, and no such walk is shorter. So a

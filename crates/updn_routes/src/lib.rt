@@ -1,7 +1,7 @@
 //! Up/down routes between the switches of a subnet: what a route is, what follows from that, and how all of them
 //! are computed.
 //!
-//! [`routes`] is the one call: over a graph and its LIDs it gives the [`Routes`], which keep both and tell the port by
+//! [`routes`] is the one call: over a graph and its LIDs it gives the [`Routes`], which keep both and report the port by
 //! which a switch sends what is for a LID, the numbers of channels, and the spanning tree of multicast. The standard leaves
 //! the choice of ways to a subnet manager (IBA volume 1, chapter 14).
 //!
@@ -23,14 +23,14 @@ mod place;
 mod root;
 mod routing;
 mod row;
-mod subnet;
+mod subnet_routes;
 mod table;
 
 pub use crate::answer::SwitchRoutes;
 pub use crate::cabling::are_switches;
 pub use crate::fault::RouteFault;
 pub use crate::laws::{
-    choices_lead_home, every_fabric_has_routes, joined_switches_have_distances, no_circle_waits,
+    choices_lead_home, every_fabric_has_routes, joined_switches_have_distances, no_cycle_waits,
     one_choice_is_left, places_keep_order_and_walks, ranks_and_guids_order,
     the_four_switch_fabric_meets_the_laws, the_seven_switch_fabric_meets_the_laws,
     the_tree_has_sides, the_tree_leads_to_the_first_root, the_two_switch_fabric_meets_the_laws,
@@ -39,4 +39,4 @@ pub use crate::laws::{
 pub use crate::link::Link;
 pub use crate::routing::{routes, routes_over};
 pub use crate::row::Row;
-pub use crate::subnet::Routes;
+pub use crate::subnet_routes::Routes;

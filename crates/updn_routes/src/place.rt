@@ -12,7 +12,7 @@ use crate::link::Link;
 use crate::row::{Row, links_of};
 use std::alloc::{AllocError, Global};
 
-/// The place of each switch. Memory alone can be refused.
+/// The place of each switch. It can only run out of memory.
 pub(crate) fn places(
     alloc: Global,
     ranks: &[usize],
@@ -130,7 +130,7 @@ fn ups_at(
         .collect(alloc)
 }
 
-/// The links that lead down, place by place. Memory alone can be refused.
+/// The links that lead down, place by place. It can only run out of memory.
 pub(crate) fn all_downs(
     alloc: Global,
     rows: &[Row],
@@ -145,7 +145,7 @@ pub(crate) fn all_downs(
     Ok(downs)
 }
 
-/// The links that lead up, place by place. Memory alone can be refused.
+/// The links that lead up, place by place. It can only run out of memory.
 pub(crate) fn all_ups(alloc: Global, rows: &[Row], places: &[usize]) -> Result<Vec<Row>, AllocError>
     ensures { IfOk result (λ ups. ups.items ≡ all_ups rows.now places.now) }
 {

@@ -7,7 +7,7 @@ ghost use Rattle.updn_routes.specs.Order.{is_first_root, is_root};
 use crate::place::guid_of;
 use std::alloc::{AllocError, Global};
 
-/// Of each switch whether it is a root. Memory alone can be refused.
+/// Of each switch whether it is a root. It can only run out of memory.
 pub(crate) fn marked_roots(
     alloc: Global,
     guids: &[u64],
@@ -20,7 +20,7 @@ pub(crate) fn marked_roots(
         .collect(alloc)
 }
 
-/// Of each switch whether it is the first root. Memory alone can be refused.
+/// Of each switch whether it is the first root. It can only run out of memory.
 pub(crate) fn marked_first_root(
     alloc: Global,
     guids: &[u64],

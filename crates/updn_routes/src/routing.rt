@@ -7,7 +7,7 @@ ghost use Rattle.sweep.specs.Joined.{AllJoined};
 ghost use Rattle.updn_routes.specs.Fabric.{IsFabric};
 ghost use Rattle.updn_routes.specs.Fault.{IsFaultOf};
 ghost use Rattle.updn_routes.specs.Order.{AreRanks};
-ghost use Rattle.updn_routes.specs.Routes.{AllReached, AreRoutesOf, all_hang, order_of};
+ghost use Rattle.updn_routes.specs.Routes.{AllReached, AreRoutesOf, all_attached, order_of};
 ghost use Rattle.updn_routes.specs.Subnet.{guids_of, homes_of, rows_of};
 ghost use Rattle.updn_routes.specs.Tree.{AreDepths};
 ghost use Rattle.fabric_parts.specs.declared.limits.TheConstants.{SWITCHES};
@@ -20,7 +20,7 @@ use crate::fault::RouteFault;
 use crate::place::{all_downs, all_ups, places};
 use crate::root::{marked_first_root, marked_roots};
 use crate::row::Row;
-use crate::subnet::Routes;
+use crate::subnet_routes::Routes;
 use crate::table::all_tables;
 use fabric_parts::PortRef;
 use lid_assign::Lids;
@@ -74,7 +74,7 @@ fn routes_between(
 }
 
 /// The routes over these cables: the links of each switch and its GUID, the GUIDs of the roots in the order in
-/// which they are named, and where each LID hangs, from LID 1 on.
+/// which they are named, and where each LID is attached, from LID 1 on.
 ///
 /// `NoLegalPath` exactly where some switch that carries adapters' ports has no legal path to one of these.
 pub fn routes_over(
@@ -86,7 +86,7 @@ pub fn routes_over(
 ) -> Result<SwitchRoutes, RouteFault>
     requires fabric { IsFabric rows.items guids.items roots.now }
     requires few { length rows.items ≤ SWITCHES }
-    requires hang { all_hang homes.items (length rows.items) ≡ true }
+    requires hang { all_attached homes.items (length rows.items) ≡ true }
     requires few_lids { length homes.items ≤ LAST_UNICAST_LID }
     ensures made { IfOk result (λ routes. AreRoutesOf rows.items guids.items roots.now homes.items routes) }
     ensures reached { IfOk result (λ routes. AllReached rows.items (order_of routes) homes.items) }
@@ -109,7 +109,7 @@ fn all_routes(
 ) -> Result<SwitchRoutes, AllocError>
     requires fabric { IsFabric rows.items guids.items roots.now }
     requires few { length rows.items ≤ SWITCHES }
-    requires hang { all_hang homes.items (length rows.items) ≡ true }
+    requires hang { all_attached homes.items (length rows.items) ≡ true }
     requires few_lids { length homes.items ≤ LAST_UNICAST_LID }
     ensures { IfOk result (λ routes. AreRoutesOf rows.items guids.items roots.now homes.items routes) }
 {

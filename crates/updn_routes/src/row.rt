@@ -46,7 +46,7 @@ impl Row {
         &self.links
     }
 
-    /// Adds a link. Memory alone can be refused.
+    /// Adds a link. It can only run out of memory.
     pub fn push(&mut self, link: Link) -> Result<(), AllocError>
         ensures { OnOk result (self.new ≡ self.old ++ link ∷ []) }
     {

@@ -47,7 +47,7 @@ impl Table {
 /// At the target itself.
 const HOME: NextHop = NextHop { port: 0, hops: 0 };
 
-/// The table towards each switch, by the switch's place. Memory alone can be refused.
+/// The table towards each switch, by the switch's place. It can only run out of memory.
 pub(crate) fn all_tables(
     alloc: Global,
     downs: &[Row],

@@ -25,7 +25,7 @@ const WHOLE: u32 = 0x25252512;
 
 const CUT: u32 = 0x25251212;
 
-/// Two ports, each by the place of its node and its number, whether a cable between them is mended or cut, and what is told then
+/// Two ports, each by the place of its node and its number, whether a cable between them is mended or cut, and what is reported then
 /// of A, and of B if SMPs get there. A is node 0, B node 1 and h0 node 2; between ports 4 there is no cable, and no port is 9.
 const CHANGES: [(usize, u8, usize, u8, bool, u32, Option<u32>); 10] = [
     (0, 3, 1, 3, true, WHOLE, Some(WHOLE)),
@@ -48,8 +48,8 @@ fn is_cut_and_mended(rt: &impl Abort, fabric: &mut Fabric) {
             port: other_port,
         };
         fabric.set_cable(one, other, up);
-        let told = (states(fabric, &[1]), states(fabric, &[1, 3]));
-        assert_eq!(rt; told, (Some(at_a), at_b));
+        let reported = (states(fabric, &[1]), states(fabric, &[1, 3]));
+        assert_eq!(rt; reported, (Some(at_a), at_b));
     }
 }
 

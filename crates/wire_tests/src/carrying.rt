@@ -82,7 +82,7 @@ fn packets_go_to_the_port_of_their_lid_and_to_their_group(rt: HostRuntime) -> Re
 }
 
 /// The entries of A and B for LID 5, and where a packet of h1 to it goes then: to h2, back to h1, which asks for no LID, or nowhere,
-/// as port 4 has no cable, there is no port 5, 0 is the switch itself, and the last two lead in a circle.
+/// as port 4 has no cable, there is no port 5, 0 is the switch itself, and the last two lead in a cycle.
 const ENTRIES_FOR_5: [(u8, u8, u32); 9] = [
     (3, 1, 0x3),
     (2, 1, 0x2),
@@ -171,8 +171,8 @@ fn got_under(
 
 fn go_by_keys(rt: &impl Abort, alloc: Global, fabric: &mut Fabric) {
     for (one, other, held, sender, dlid, key, got) in KEYS {
-        let told = got_under(alloc, fabric, (one, other, held), (sender, dlid, key));
-        assert_eq!(rt; told, Some(got));
+        let reported = got_under(alloc, fabric, (one, other, held), (sender, dlid, key));
+        assert_eq!(rt; reported, Some(got));
     }
 }
 
@@ -183,13 +183,13 @@ fn packets_pass_where_keys_match(rt: HostRuntime) -> Result<(), Fail> {
     Ok(())
 }
 
-/// The two-switch fabric; nothing where memory is refused.
+/// The two-switch fabric; nothing if an allocation fails.
 fn fabric_or_none(alloc: Global) -> Option<Fabric> {
     let topology = read(alloc, TWO_SWITCHES.as_bytes()).ok()?;
     Fabric::new(alloc, &topology).ok()
 }
 
-/// Who gets a packet of that port to that LID, as digits; where memory is refused, who should get it.
+/// Who gets a packet of that port to that LID, as digits; if an allocation fails, who should get it.
 fn receivers_or(
     alloc: Global,
     fabric: &mut Fabric,
@@ -207,8 +207,8 @@ fn receivers_or(
 
 fn is_delivered_or_refused(rt: &impl Abort, alloc: Global, sender: u64, dlid: u16, got: u32) {
     if let Some(mut fabric) = fabric_or_none(alloc) {
-        let told = receivers_or(alloc, &mut fabric, sender, dlid, got);
-        assert_eq!(rt; told, Some(got));
+        let reported = receivers_or(alloc, &mut fabric, sender, dlid, got);
+        assert_eq!(rt; reported, Some(got));
     }
 }
 

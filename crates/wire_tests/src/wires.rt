@@ -104,7 +104,7 @@ fn a_block_is_set(rt: &impl Abort, fabric: &mut Fabric) {
     let table = SmpAttribute::LinearForwardingTable;
     for (is_set, block, hops, byte) in BLOCKS {
         let path = &[1, 3][..hops.min(2)];
-        let told = if is_set {
+        let reported = if is_set {
             set_attribute(fabric, 1, table, block, path, &[3; 64])
         } else {
             get_attribute(fabric, 2, table, block, path)
@@ -113,7 +113,7 @@ fn a_block_is_set(rt: &impl Abort, fabric: &mut Fabric) {
             Some(byte) => Ok([byte; 64]),
             None => Err(ReplyFault::Refused),
         };
-        assert_eq!(rt; told, expected);
+        assert_eq!(rt; reported, expected);
     }
 }
 
@@ -169,14 +169,14 @@ impl SmpWire for LateWire {
 fn each_has_its_number(rt: &impl Abort, wire: &mut LateWire) {
     let table = SmpAttribute::LinearForwardingTable;
     for number in [0x0102_0304_0506_0708, 0x0102_0304_0506_0709, 0] {
-        let told = if number == 0x0102_0304_0506_0708 {
+        let reported = if number == 0x0102_0304_0506_0708 {
             Ok([3; 64])
         } else {
             Err(ReplyFault::WrongReply)
         };
         let set = set_attribute(wire, number, table, 7, &[1, 3], &[3; 64]);
-        assert_eq!(rt; set, told);
-        assert_eq!(rt; get_attribute(wire, number, table, 7, &[1, 3]), told);
+        assert_eq!(rt; set, reported);
+        assert_eq!(rt; get_attribute(wire, number, table, 7, &[1, 3]), reported);
     }
 }
 

@@ -136,8 +136,8 @@ const EDITS: [(&'static [(usize, u8)], usize, u8, u8); 8] = [
 #[test]
 fn a_sweep_takes_no_wrong_reply(rt: HostRuntime) -> Result<(), Fail> {
     for (of, place, value, smps) in EDITS {
-        let told = swept(rt.alloc(), of, place, value)?;
-        assert_eq!(rt; told, (Some(SweepFault::WrongReply), smps));
+        let reported = swept(rt.alloc(), of, place, value)?;
+        assert_eq!(rt; reported, (Some(SweepFault::WrongReply), smps));
     }
     assert_eq!(rt; swept(rt.alloc(), &[], METHOD, 0x81)?, (None, 22));
     Ok(())

@@ -20,8 +20,8 @@ const TEXTS: [(SweepFault, &str); 5] = [
 #[test]
 fn faults_of_a_sweep_say_what_stopped_it(rt: HostRuntime) -> Result<(), Fail> {
     for (fault, text) in TEXTS.iter() {
-        let told = format!(in rt.alloc(); "{}", *fault)?;
-        assert_eq!(rt; told.as_str(), *text);
+        let reported = format!(in rt.alloc(); "{}", *fault)?;
+        assert_eq!(rt; reported.as_str(), *text);
     }
     Ok(())
 }

@@ -99,7 +99,7 @@ pub fn put_key(fabric: &mut Fabric, path: &[u8], number: u8, key: u16) -> Option
     )
 }
 
-/// Sets the mask of a multicast LID, told by its distance from 0xC000, at one position of the table of a switch, and those of
+/// Sets the mask of a multicast LID, reported by its distance from 0xC000, at one position of the table of a switch, and those of
 /// the other LIDs of its block to 0.
 pub fn put_mask(
     fabric: &mut Fabric,

@@ -1,4 +1,4 @@
-//! Packets to multicast LIDs where memory is refused, and on the greatest fabric.
+//! Packets to multicast LIDs if an allocation fails, and on the greatest fabric.
 
 mod fat_tree;
 

@@ -44,4 +44,4 @@ same_switch_info a b bytes h g =
 
 pub returns-clause-read : goal.returns-clause-read
 returns-clause-read c =
-    same_switch_info c.read.result c.args.info.now c.write.new.bytes c.read.ensures.fields c.write.ensures.spells.fields
+    same_switch_info c.read.result c.args.info.now c.write.new.bytes c.read.ensures.fields c.write.ensures.encodes.fields

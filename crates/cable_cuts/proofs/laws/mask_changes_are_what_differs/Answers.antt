@@ -1,4 +1,4 @@
-use Rattle.cable_cuts.proofs.MaskToldLemmas.{mask_changes_are_what_differs}
+use Rattle.cable_cuts.proofs.MaskReportedLemmas.{mask_changes_are_what_differs}
 use Rattle.cable_cuts.proofs.laws.mask_changes_are_what_differs.Goals as goal
 
 pub returns : goal.returns

@@ -1,5 +1,5 @@
 use Rattle.std.proofs.Common.{◌==◌, sym}
-use Rattle.result_words.proofs.PlaceLemmas.{place-none}
+use Rattle.step_results.proofs.PlaceLemmas.{place-none}
 use Rattle.code_texts.proofs.lines.line_end.Goals as goal
 
 pub returns-in-None-clause-value : goal.returns-in-None-clause-value

@@ -1,5 +1,5 @@
 use Rattle.std.proofs.Common.{[], option_map, refl}
-use Rattle.call_words.specs.declared.call.Work.TheVariants as work
+use Rattle.cli_args.specs.declared.call.Work.TheVariants as work
 use Rattle.fabric_cli.proofs.SmpsLemmas.{smps_after, smps_unanswered}
 use Rattle.fabric_cli.specs.Serving.{texts_with}
 use Rattle.fabric_cli.proofs.answering.answered_of_texts.Goals as goal
@@ -17,7 +17,7 @@ returns-in-Ok-clause-exact g c =
     let script = option_map (λ items. items.items) c.in-Smps.script in
     let left = rw (c.as_slice-topology.ensures.value, c.slice_of-partitions.ensures, c.slice_of.ensures) at c.in-Ok.ensures in
     rw c.in-Smps.is
-    (smps_after c.args.texts.topology.items partitions script (g.I.Reader.remaining c.in-Smps.input) (g.O.Output.is_sure c.args.out.now) c.in-Ok.subnet c.smps_answered.result _ _ left.0 left.1
+    (smps_after c.args.texts.topology.items partitions script (g.I.Reader.remaining c.in-Smps.smps.input) (g.O.Output.is_sure c.args.out.now) c.in-Ok.subnet c.smps_answered.result _ _ left.0 left.1
     c.smps_answered.ensures.exact)
 
 pub returns-in-Ok-clause-unread : goal.returns-in-Ok-clause-unread
@@ -29,4 +29,4 @@ returns-in-Smps-clause-exact g c =
     let script = option_map (λ items. items.items) c.in-Smps.script in
     let fails = rw (c.as_slice-topology.ensures.value, c.slice_of-partitions.ensures, c.slice_of.ensures) at c.in-Err.ensures in
     rw c.in-Smps.is
-    (smps_unanswered c.args.texts.topology.items partitions script (g.I.Reader.remaining c.in-Smps.input) (g.O.Output.is_sure c.args.out.now) c.in-Err.fault _ fails)
+    (smps_unanswered c.args.texts.topology.items partitions script (g.I.Reader.remaining c.in-Smps.smps.input) (g.O.Output.is_sure c.args.out.now) c.in-Err.fault _ fails)

@@ -9,5 +9,5 @@ returns-in-Ok-clause-exact g c =
 pub returns-clause-exact : goal.returns-clause-exact
 returns-clause-exact g c =
     rw c.of_smps.ensures
-    (smps_fail_over (up_in c.args.subnet) _ _ _ (g.O.Output.is_sure c.args.out.now) (Unit {0}) c.args.name c.in-Err.stop _ c.into_parts-fabric.ensures.parts.1 c.in-Err.ensures.exact
+    (smps_fail_over (up_in c.args.subnet) _ _ _ (g.O.Output.is_sure c.args.out.now) (Unit {0}) c.args.smps.name c.in-Err.stop _ c.into_parts-fabric.ensures.parts.1 c.in-Err.ensures.exact
     c.in-Err.ensures.sure)

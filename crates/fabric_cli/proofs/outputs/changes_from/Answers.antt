@@ -4,4 +4,4 @@ use Rattle.fabric_cli.proofs.outputs.changes_from.Goals as goal
 
 pub returns-in-Err-clause-exact : goal.returns-in-Err-clause-exact
 returns-in-Err-clause-exact c =
-    rw c.second_stop.ensures.told (second_stops c.args.before.now c.args.topology.now (option_copied c.args.second) c.in-Err.fault c.in-Err.ensures)
+    rw c.second_stop.ensures.reported (second_stops c.args.before.now c.args.topology.now (option_copied c.args.second) c.in-Err.fault c.in-Err.ensures)

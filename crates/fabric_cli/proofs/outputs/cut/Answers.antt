@@ -1,5 +1,5 @@
 use Rattle.std.specs.Option.{option_copied}
-use Rattle.call_words.specs.Words.{named_view}
+use Rattle.cli_args.specs.Words.{named_view}
 use Rattle.fabric_cli.proofs.CutLemmas.{brought_up}
 use Rattle.fabric_cli.proofs.JudgedLemmas.{cuts_come, cuts_stop}
 use Rattle.fabric_cli.proofs.outputs.cut.Goals as goal

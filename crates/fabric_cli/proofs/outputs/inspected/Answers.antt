@@ -1,5 +1,5 @@
 use Rattle.std.specs.Option.{option_copied}
-use Rattle.call_words.specs.Words.{named_inspection}
+use Rattle.cli_args.specs.Words.{named_inspection}
 use Rattle.fabric_cli.proofs.JudgedLemmas.{inspection_stops, is_inspected}
 use Rattle.fabric_cli.proofs.outputs.inspected.Goals as goal
 

@@ -1,7 +1,7 @@
 use Rattle.std.proofs.Common.{◌≡◌, Global, Vec, ℕ}
 use Rattle.std.specs.Option.{option_copied}
 use Rattle.std.specs.Prelude.{IsErr}
-use Rattle.call_words.specs.declared.call.Work.TheVariants as work
+use Rattle.cli_args.specs.declared.call.Work.TheVariants as work
 use Rattle.fabric_cli.specs.Serving.{ForEnding, complete, texts_with}
 use Rattle.subnet_core.specs.Listing.{listing_text}
 use Rattle.fabric_cli.proofs.JudgedLemmas.{is_listed, listing_stops, made_comes, ok_then, refused_of_run}
@@ -11,9 +11,9 @@ pub returns-in-Ok-clause-exact : goal.returns-in-Ok-clause-exact
 returns-in-Ok-clause-exact c =
     let partitions = option_copied c.args.partitions in
     made_comes (texts_with c.args.topology.now partitions work.Check) c.listing.result c.text_or_stop.result
-    (ok_then (λ (text : Vec ℕ Global). text.items ≡ listing_text c.in-Ok.subnet.roster.configuration)
+    (ok_then (λ (text : Vec ℕ Global). text.items ≡ listing_text c.in-Ok.subnet.inventory.configuration)
     (λ (text : Vec ℕ Global). ForEnding (texts_with c.args.topology.now partitions work.Check) (λ ending. ending ≡ complete text.items))
-    (λ text is. is_listed c.args.topology.now partitions c.in-Ok.subnet.roster text.items c.in-Ok.ensures.exact is) c.listing.result c.listing.ensures)
+    (λ text is. is_listed c.args.topology.now partitions c.in-Ok.subnet.inventory text.items c.in-Ok.ensures.exact is) c.listing.result c.listing.ensures)
     c.text_or_stop.ensures.made c.text_or_stop.ensures.fault
 
 pub returns-in-Err-clause-exact : goal.returns-in-Err-clause-exact

@@ -9,5 +9,5 @@ returns-in-Err-clause-exact c =
 
 pub returns-in-Ok-clause-exact : goal.returns-in-Ok-clause-exact
 returns-in-Ok-clause-exact c =
-    shares_come c.args.topology.now (option_copied c.args.partitions) (option_map (λ word. word.now) c.args.port) c.in-Ok.roster
+    shares_come c.args.topology.now (option_copied c.args.partitions) (option_map (λ word. word.now) c.args.port) c.in-Ok.inventory
     c.shares_in.result c.in-Ok.ensures c.shares_in.ensures.exact

@@ -6,19 +6,19 @@ pub returns-in_err-partitions-clause-order : goal.returns-in_err-partitions-clau
 returns-in_err-partitions-clause-order g c =
     opens_first _ _ _ _ (opens_more _ _ _ _ _ c.read_file.ensures.opened c.read_if_named.ensures.opened)
 
-pub returns-in_err-task-clause-order : goal.returns-in_err-task-clause-order
-returns-in_err-task-clause-order g c =
-    opens_then _ _ _ _ _ (opens_more _ _ _ _ _ c.read_file.ensures.opened c.read_if_named.ensures.opened) c.task_of.ensures.order
+pub returns-in_err-work-clause-order : goal.returns-in_err-work-clause-order
+returns-in_err-work-clause-order g c =
+    opens_then _ _ _ _ _ (opens_more _ _ _ _ _ c.read_file.ensures.opened c.read_if_named.ensures.opened) c.work_of.ensures.order
 
 pub returns-clause-order : goal.returns-clause-order
 returns-clause-order g c =
-    opens_then _ _ _ _ _ (opens_more _ _ _ _ _ c.read_file.ensures.opened c.read_if_named.ensures.opened) c.task_of.ensures.order
+    opens_then _ _ _ _ _ (opens_more _ _ _ _ _ c.read_file.ensures.opened c.read_if_named.ensures.opened) c.work_of.ensures.order
 
-pub returns-in_err-task-clause-unread : goal.returns-in_err-task-clause-unread
-returns-in_err-task-clause-unread g c =
-    let p = err_from_is_err_and c.from_residual-in_err-task.result c.from_residual-in_err-task.ensures.1 in
+pub returns-in_err-work-clause-unread : goal.returns-in_err-work-clause-unread
+returns-in_err-work-clause-unread g c =
+    let p = err_from_is_err_and c.from_residual-in_err-work.result c.from_residual-in_err-work.ensures.1 in
     rw (p.1, p.2) (unread_after _ _ _ _ _ _ _ _ _ _ c.read_file.ensures.same c.read_file.ensures.stays c.read_file.ensures.opened (one_open _ _ _ c.in_ok-topology.ensures.bytes)
-    (unread_after _ _ _ _ _ _ _ _ _ _ c.read_if_named.ensures.same c.read_if_named.ensures.stays c.read_if_named.ensures.opened (named_open _ _ _ c.in_ok-partitions.ensures.bytes) c.in_err-task.ensures.unread))
+    (unread_after _ _ _ _ _ _ _ _ _ _ c.read_if_named.ensures.same c.read_if_named.ensures.stays c.read_if_named.ensures.opened (named_open _ _ _ c.in_ok-partitions.ensures.bytes) c.in_err-work.ensures.unread))
 
 pub returns-in_err-topology-clause-unread : goal.returns-in_err-topology-clause-unread
 returns-in_err-topology-clause-unread g c =
@@ -35,4 +35,8 @@ pub returns-clause-last : goal.returns-clause-last
 returns-clause-last g c = λ word is.
     last_after _ _ _ _ _ _ _ _ _ word c.read_file.ensures.same c.read_file.ensures.stays c.read_file.ensures.opened (one_open _ _ _ c.in_ok-topology.ensures.bytes)
     (last_after _ _ _ _ _ _ _ _ _ word c.read_if_named.ensures.same c.read_if_named.ensures.stays c.read_if_named.ensures.opened (named_open _ _ _ c.in_ok-partitions.ensures.bytes)
-    (c.in_ok-task.ensures.last word is))
+    (c.in_ok-work.ensures.last word is))
+
+pub returns-clause-all : goal.returns-clause-all
+returns-clause-all g c =
+    opens_more _ _ _ _ _ (opens_more _ _ _ _ _ c.read_file.ensures.opened c.read_if_named.ensures.opened) c.in_ok-work.ensures.all

@@ -5,4 +5,4 @@ use Rattle.fabric_graph.proofs.drawing.push_nodes.Given as goal
 
 abbrev pub invariant-loop-place : goal.invariant-loop-place
 invariant-loop-place l =
-    l.text.items ≡ l.fn.text.items ++ flat_map (place_text l.fn.topology l.fn.configuration l.fn.seats) (range_with_len 0 l.place)
+    l.text.items ≡ l.fn.text.items ++ flat_map (place_text l.fn.topology l.fn.configuration l.fn.attachments) (range_with_len 0 l.place)

@@ -5,4 +5,4 @@ use Rattle.fabric_graph.proofs.list_lines.push_rows.Given as goal
 
 abbrev pub invariant-loop-place : goal.invariant-loop-place
 invariant-loop-place l =
-    l.text.items ≡ l.fn.text.items ++ flat_map (row_at l.fn.topology l.fn.configuration l.fn.seats) (take l.place-index l.fn.drawn)
+    l.text.items ≡ l.fn.text.items ++ flat_map (row_at l.fn.topology l.fn.configuration l.fn.attachments) (take l.place-index l.fn.drawn)

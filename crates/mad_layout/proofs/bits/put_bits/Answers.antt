@@ -10,12 +10,12 @@ use Rattle.mad_layout.proofs.WindowLemmas.{put_is, cut_at, shifts}
 use Rattle.mad_layout.proofs.bits.put_bits.Goals as goal
 
 -- the bytes of the window with its digits replaced are the field set
-spelled : (xs t : List ℕ) (w first count off len low v : ℕ) → AllBelowBase 256 xs
+encoded : (xs t : List ℕ) (w first count off len low v : ℕ) → AllBelowBase 256 xs
     → t ≡ bytes_high_first count (replaced w low len v) → w ≡ number (take count (drop first xs))
     → w < 2 ^ (8 * count) → v < 2 ^ len → count ≤ 9 → first + count ≤ length xs
     → off + len + low ≡ 8 * (first + count) → 8 * first ≤ off
     → take first xs ++ (t ++ drop count (drop first xs)) ≡ put_field xs off len v
-spelled xs t w first count off len low v below e is small fits few within ends starts =
+encoded xs t w first count off len low v below e is small fits few within ends starts =
     let x = replaced w low len v in
     let s = shifts w low len v (8 * count) small (omega arith) (omega arith) fits in
     let value : number t ≡ replaced (number (take count (drop first xs))) low len v =
@@ -57,6 +57,6 @@ returns g c =
     ∙ last_of_16 count c.with_digits-new.result (omega arith)
     ∙ ap (λ (n : ℕ). bytes_high_first count n) c.with_digits-new.ensures in
     let put : take first xs ++ (t ++ drop count (drop first xs)) ≡ put_field xs g.row.OFF g.row.LEN c.args.value =
-    spelled xs t w first count g.row.OFF g.row.LEN low c.args.value c.known_bytes.ensures e is small c.requires.fits
+    encoded xs t w first count g.row.OFF g.row.LEN low c.args.value c.known_bytes.ensures e is small c.requires.fits
     (omega arith) (omega arith) (omega arith) (omega arith) in
     ap (λ (n : ℕ). take first xs ++ (t ++ drop n (drop first xs))) span ∙ put

@@ -1,5 +1,5 @@
 use Rattle.std.proofs.Common.{◌≡◌, ◌+◌, ◌-◌, ◌*◌, ◌∙◌, arith, length, suc, sym}
-use Rattle.packet_trace.proofs.TraceLemmas.{all_told, ends, goes_on}
+use Rattle.packet_trace.proofs.TraceLemmas.{all_reported, ends, goes_on}
 use Rattle.packet_trace.proofs.trace.way.Goals as goal
 
 pub returns-in-None : goal.returns-in-None
@@ -24,4 +24,4 @@ pub returns : goal.returns
 returns c =
     let past = rw c.cable_ends-hop-end.ensures at c.loop-hop-test.false in
     let none : 2 * length c.args.fabric.now.cables + 1 - c.loop-hop._hop ≡ 0 = omega (arith, past) in
-    all_told c.args.fabric.now c.args.packet.now _ c.loop-hop.steps.items c.loop-hop.here _ none c.loop-hop.invariant
+    all_reported c.args.fabric.now c.args.packet.now _ c.loop-hop.steps.items c.loop-hop.here _ none c.loop-hop.invariant

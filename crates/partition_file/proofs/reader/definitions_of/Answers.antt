@@ -1,6 +1,6 @@
 use Rattle.std.proofs.Common.{◌≡◌, get_or, refl, sym, ap, ◌∙◌, arith, length, ◌≤◌}
 use Rattle.std.proofs.lemmas.Result.{err_from_is_err_and}
-use Rattle.partition_file.specs.Fault.{fault_in}
+use Rattle.step_results.specs.TextGives.{text_fault_in}
 use Rattle.text_words.specs.Lines.{is_line_end}
 use Rattle.partition_file.specs.Pieces.{is_delimiter}
 use Rattle.partition_file.proofs.ReadLemmas.{starts, goes_on, stops, ends, next_from, next_line}
@@ -16,7 +16,7 @@ returns-in_err-take_byte c =
     let at = c.loop-index in
     let p = err_from_is_err_and c.from_residual-in_err-take_byte.result c.from_residual-in_err-take_byte.ensures.1 in
     rw (p.1, p.2, ← c.in_ok-shown.ensures, ← c.as_slice-shown.ensures.value)
-    (stops (fault_in c.in_err-take_byte.field-0.0) shown at.index at.from at.line at.scan (get_or shown at.index 0)
+    (stops (text_fault_in c.in_err-take_byte.field-0.0) shown at.index at.from at.line at.scan (get_or shown at.index 0)
     refl c.loop-index-test.true at.invariant c.in_err-take_byte.ensures)
 
 pub loop-index-preserved : goal.loop-index-preserved

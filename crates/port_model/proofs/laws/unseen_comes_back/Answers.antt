@@ -4,4 +4,4 @@ use Rattle.port_model.proofs.laws.unseen_comes_back.Goals as goal
 
 pub returns : goal.returns
 unfolding agent_reply
-returns c = λ held smp off len value put spelled. reply_passes get set held smp off len value put spelled
+returns c = λ held smp off len value put encoded. reply_passes get set held smp off len value put encoded

@@ -21,8 +21,8 @@ returns-in_ok-reaction-in-Some-sa_mad_of-clause-reacts c =
     let found : port_with_guid state.configuration.ports c.args.port ≡ Some who.own =
     sym (ap (port_with_guid state.configuration.ports) c.in-Some.ensures.found.1) ∙ who.found in
     let read = ap (λ (request : Request). answer_to state.configuration.ports who.own request state.administration) c.read.ensures in
-    let told = answered_as state.configuration.ports c.args.port who.own c.in-Some-sa_mad_of.mad.now c.args.payload.now state.administration found c.in-Some-sa_mad_of.ensures in
-    subst (λ (answered : Answered). Reacts answered c.in_ok-reaction-in-Some-sa_mad_of.reaction state c.reaction_to.new.store) (read ∙ told)
+    let reported = answered_as state.configuration.ports c.args.port who.own c.in-Some-sa_mad_of.mad.now c.args.payload.now state.administration found c.in-Some-sa_mad_of.ensures in
+    subst (λ (answered : Answered). Reacts answered c.in_ok-reaction-in-Some-sa_mad_of.reaction state c.reaction_to.new.store) (read ∙ reported)
     (c.in_ok-reaction-in-Some-sa_mad_of.ensures.reacts who.own who.found)
 
 pub returns-in-None-clause-reacts : goal.returns-in-None-clause-reacts
@@ -31,6 +31,6 @@ returns-in-None-clause-reacts c =
     let who = somebody state.configuration.ports c.in-Some.requester.guid c.in-Some.requester.place c.in-Some.ensures.found.0 in
     let found : port_with_guid state.configuration.ports c.args.port ≡ Some who.own =
     sym (ap (port_with_guid state.configuration.ports) c.in-Some.ensures.found.1) ∙ who.found in
-    let told = ignored_as state.configuration.ports c.args.port who.own c.args.payload.now state.administration found c.in-None.ensures in
+    let reported = ignored_as state.configuration.ports c.args.port who.own c.args.payload.now state.administration found c.in-None.ensures in
     let replies = ap (λ replies. replies.items) c.answered-in-None.ensures.replies in
-    rw told (quiet _ c.answered-in-None.result state state (record { mads_are = replies ∙ c.new-in-None.ensures.items; next = refl }) c.answered-in-None.ensures.changed refl)
+    rw reported (quiet _ c.answered-in-None.result state state (record { mads_are = replies ∙ c.new-in-None.ensures.items; next = refl }) c.answered-in-None.ensures.changed refl)

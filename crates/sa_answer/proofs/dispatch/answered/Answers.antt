@@ -16,7 +16,7 @@ use Rattle.sa_replies.proofs.StateLemmas.{parameters_fit}
 use Rattle.sa_answer.specs.declared.wanted.Wanted.TheVariants.{Get, GetTable, Refused}
 use Rattle.sa_store.specs.Kept.{KeptPort}
 use Rattle.sa_store.specs.Registry.{IsListed, RegistryState}
-use Rattle.sa_answer.proofs.AnswerLemmas.{guid_of_found, told_of}
+use Rattle.sa_answer.proofs.AnswerLemmas.{guid_of_found, reported_of}
 use Rattle.sa_answer.proofs.WantedLemmas.{by_wish, of_join, of_leave, of_service_deleted, of_service_set}
 use Rattle.sa_answer.proofs.dispatch.answered.Goals as goal
 
@@ -35,25 +35,25 @@ reacts_so : {E : Type 0} (own : SubnetPort) (request : Request) (ports : List Su
 reacts_so own request ports old new result brought is reacts =
     subst (λ (brought : Result Brought MadStatus). IfOk result (λ reaction. Reacts (answered_with own request old.administration brought) reaction old new)) is reacts
 
-pub records_answered-requires-clause-told : goal.records_answered-requires-clause-told
-records_answered-requires-clause-told c =
+pub records_answered-requires-clause-reported : goal.records_answered-requires-clause-reported
+records_answered-requires-clause-reported c =
     let state = c.args.store.now in
     let ports = state.configuration.ports in
     let own = c.kept_at.result.now.port in
     let listed = listed_port c.kept_at.result.now ports c.args.requester.guid c.kept_at.ensures in
     let wish = by_wish ports own state.administration.remembered c.args.request.now (Get c.in-Get.attribute) (sym c.in-Get.is ∙ c.wanted.ensures) in
     let brings = subst (λ (brought : Result Brought MadStatus). Brings state.administration.remembered brought c.got-outcome.result) wish (c.got-outcome.ensures listed) in
-    told_of state.configuration own state.administration.remembered c.args.request.now c.got-outcome.result c.known.ensures.configured listed c.known.ensures.remembered brings
+    reported_of state.configuration own state.administration.remembered c.args.request.now c.got-outcome.result c.known.ensures.configured listed c.known.ensures.remembered brings
 
-pub records_answered-requires-in-GetTable-clause-told : goal.records_answered-requires-in-GetTable-clause-told
-records_answered-requires-in-GetTable-clause-told c =
+pub records_answered-requires-in-GetTable-clause-reported : goal.records_answered-requires-in-GetTable-clause-reported
+records_answered-requires-in-GetTable-clause-reported c =
     let state = c.args.store.now in
     let ports = state.configuration.ports in
     let own = c.kept_at-in-GetTable.result.now.port in
     let listed = listed_port c.kept_at-in-GetTable.result.now ports c.args.requester.guid c.kept_at-in-GetTable.ensures in
     let wish = by_wish ports own state.administration.remembered c.args.request.now (GetTable c.in-GetTable.attribute) (sym c.in-GetTable.is ∙ c.wanted.ensures) in
     let brings = subst (λ (brought : Result Brought MadStatus). Brings state.administration.remembered brought c.in_ok-outcome-in-GetTable.outcome) wish (c.in_ok-outcome-in-GetTable.ensures listed) in
-    told_of state.configuration own state.administration.remembered c.args.request.now c.in_ok-outcome-in-GetTable.outcome c.known.ensures.configured listed c.known.ensures.remembered brings
+    reported_of state.configuration own state.administration.remembered c.args.request.now c.in_ok-outcome-in-GetTable.outcome c.known.ensures.configured listed c.known.ensures.remembered brings
 
 pub group_joined-requires-clause-fit : goal.group_joined-requires-clause-fit
 group_joined-requires-clause-fit c =

@@ -26,8 +26,8 @@ unreachable-requires c =
     let found : port_with_guid ports c.args.requester.guid ≡ Some own = sym c.kept_at.ensures in
     let guid = guid_of_found ports c.args.requester.guid own found in
     let listed : port_with_guid ports own.guid ≡ Some own = ap (port_with_guid ports) guid ∙ found in
-    let told = rw c.port.ensures at c.join_refusal.ensures in
-    let none : first_refusal (join_questions own c.args.mask c.args.asked.now) ≡ None = sym told ∙ c.in_default.is in
+    let reported = rw c.port.ensures at c.join_refusal.ensures in
+    let none : first_refusal (join_questions own c.args.mask c.args.asked.now) ≡ None = sym reported ∙ c.in_default.is in
     let there = c.partition_of.ensures.there own listed (ap (is_in own) c.base_of.ensures.value ∙ join_is_in own c.args.mask c.args.asked.now none) in
     false≢true (sym (ap is_some c.in_default-partition_of.is) ∙ there)
 
@@ -43,8 +43,8 @@ returns-in-Some-join_refused-clause-brings c own found =
     let ports = c.args.store.now.configuration.ports in
     let mask = c.args.mask in
     let asked = c.args.asked.now in
-    let told = rw c.port.ensures at c.join_refusal.ensures in
-    let none = sym (asked_by (λ one. join_questions one mask asked) c.join_refusal.result c.kept_at.result.now.port own _ c.kept_at.ensures found told) ∙ c.in_default.is in
+    let reported = rw c.port.ensures at c.join_refusal.ensures in
+    let none = sym (asked_by (λ one. join_questions one mask asked) c.join_refusal.result c.kept_at.result.now.port own _ c.kept_at.ensures found reported) ∙ c.in_default.is in
     let join = c.join_asked-join.ensures own (guid_of_found ports c.args.requester.guid own found) in
     rw (join_not_allowed ports own state mask asked c.in-Some-join_refused.status none (sym (c.join_refused.ensures own join) ∙ c.in-Some-join_refused.is)) (refl, refl)
 
@@ -58,8 +58,8 @@ join-requires c =
     let found : port_with_guid ports c.args.requester.guid ≡ Some own = sym c.kept_at.ensures in
     let guid = guid_of_found ports c.args.requester.guid own found in
     let listed : port_with_guid ports own.guid ≡ Some own = ap (port_with_guid ports) guid ∙ found in
-    let told = rw c.port.ensures at c.join_refusal.ensures in
-    let none : first_refusal (join_questions own mask asked) ≡ None = sym told ∙ c.in_default.is in
+    let reported = rw c.port.ensures at c.join_refusal.ensures in
+    let none : first_refusal (join_questions own mask asked) ≡ None = sym reported ∙ c.in_default.is in
     let join = c.join_asked-join.ensures own guid in
     let place : place_with_base partitions (base_of asked.p_key) ≡ Some c.in-Some-partition_of.place =
     ap (place_with_base partitions) (sym c.base_of.ensures.value) ∙ sym c.in-Some-partition_of.ensures.value in
@@ -75,8 +75,8 @@ returns-clause-brings c own found =
     let mask = c.args.mask in
     let asked = c.args.asked.now in
     let guid = guid_of_found ports c.args.requester.guid own found in
-    let told = rw c.port.ensures at c.join_refusal.ensures in
-    let none = sym (asked_by (λ one. join_questions one mask asked) c.join_refusal.result c.kept_at.result.now.port own _ c.kept_at.ensures found told) ∙ c.in_default.is in
+    let reported = rw c.port.ensures at c.join_refusal.ensures in
+    let none = sym (asked_by (λ one. join_questions one mask asked) c.join_refusal.result c.kept_at.result.now.port own _ c.kept_at.ensures found reported) ∙ c.in_default.is in
     let join = c.join_asked-join.ensures own guid in
     let place : place_with_base partitions (base_of asked.p_key) ≡ Some c.in-Some-partition_of.place =
     ap (place_with_base partitions) (sym c.base_of.ensures.value) ∙ sym c.in-Some-partition_of.ensures.value in

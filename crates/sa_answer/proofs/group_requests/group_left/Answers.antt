@@ -16,9 +16,9 @@ returns-in-Some-clause-brings c own found =
     let asked = c.args.asked.now in
     let leave = c.leave_asked-leave.ensures own (guid_of_found ports c.args.requester.guid own found) in
     let takes = c.takes_some-takes.ensures ∙ ap (λ (one : Leave). takes_some one state.partitions) leave in
-    let told = rw c.port-own.ensures at c.leave_refusal.ensures in
+    let reported = rw c.port-own.ensures at c.leave_refusal.ensures in
     let questions : c.leave_refusal.result ≡ first_refusal (leave_questions own state mask asked) =
-    asked_by (λ one. leaving_by one mask asked c.takes_some-takes.result) c.leave_refusal.result c.kept_at.result.now.port own _ c.kept_at.ensures found told
+    asked_by (λ one. leaving_by one mask asked c.takes_some-takes.result) c.leave_refusal.result c.kept_at.result.now.port own _ c.kept_at.ensures found reported
     ∙ ap (λ (b : _). first_refusal (leaving_by own mask asked b)) takes in
     rw (leave_refused ports own state mask asked c.args.content.now c.in-Some.status (sym questions ∙ c.in-Some.is)) (refl, refl)
 
@@ -30,9 +30,9 @@ returns-clause-brings c own found =
     let asked = c.args.asked.now in
     let leave = c.leave_asked-leave.ensures own (guid_of_found ports c.args.requester.guid own found) in
     let takes = c.takes_some-takes.ensures ∙ ap (λ (one : Leave). takes_some one state.partitions) leave in
-    let told = rw c.port-own.ensures at c.leave_refusal.ensures in
+    let reported = rw c.port-own.ensures at c.leave_refusal.ensures in
     let questions : c.leave_refusal.result ≡ first_refusal (leave_questions own state mask asked) =
-    asked_by (λ one. leaving_by one mask asked c.takes_some-takes.result) c.leave_refusal.result c.kept_at.result.now.port own _ c.kept_at.ensures found told
+    asked_by (λ one. leaving_by one mask asked c.takes_some-takes.result) c.leave_refusal.result c.kept_at.result.now.port own _ c.kept_at.ensures found reported
     ∙ ap (λ (b : _). first_refusal (leaving_by own mask asked b)) takes in
     let next = c.leave-numbers.ensures.next ∙ ap (λ (one : Leave). with_partitions (left ports one state.partitions) c.args.store.now) leave in
     rw (leave_is_done ports own state mask asked c.args.content.now (sym questions ∙ c.in_default.is))

@@ -7,9 +7,9 @@ use Rattle.sa_answer.proofs.mc_member.group_record.Goals as goal
 
 pub returns-clause-fits : goal.returns-clause-fits
 returns-clause-fits c =
-    let told = c.parameters-parameters in
-    let fit = narrow (parameters_of told.result) (subst (λ (some : GroupParameters). is_fit_group some ≡ true) (sym told.ensures.value) told.ensures.fit) in
-    let key : SFits w32 told.result.q_key = search rules in
-    let traffic : SFits w8 told.result.traffic_class = search rules in
-    let hop : SFits w8 told.result.hop_limit = search rules in
+    let reported = c.parameters-parameters in
+    let fit = narrow (parameters_of reported.result) (subst (λ (some : GroupParameters). is_fit_group some ≡ true) (sym reported.ensures.value) reported.ensures.fit) in
+    let key : SFits w32 reported.result.q_key = search rules in
+    let traffic : SFits w8 reported.result.traffic_class = search rules in
+    let hop : SFits w8 reported.result.hop_limit = search rules in
     (c.mgid.type_inv, (omega arith, (key.fits, (c.ranges.mlid.fits, (omega arith, (fit.mtu, (traffic.fits, (c.key_of.type_inv, (omega arith, (fit.rate, (omega arith, (fit.life, (fit.level, (fit.flow, (hop.fits, (fit.scope, (omega arith, (omega arith, tt))))))))))))))))))

@@ -2,8 +2,8 @@ use Rattle.std.proofs.Common.{◌≡◌, ◌+◌, ◌∷◌, [], ◌∙◌, ap, 
 use Rattle.std.proofs.lemmas.Result.{err_from_is_err_and}
 use Rattle.std.proofs.lemmas.List.{drop_all}
 use Rattle.sa_groups.specs.Groups.{first_mlid}
-use Rattle.sa_answer.specs.Groups.{group_bytes, groups_agreeing, groups_told}
-use Rattle.sa_answer.proofs.GroupLemmas.{not_named, not_searched, nothing_told, searched, slot_next}
+use Rattle.sa_answer.specs.Groups.{group_bytes, groups_agreeing, groups_reported}
+use Rattle.sa_answer.proofs.GroupLemmas.{not_named, not_searched, nothing_reported, searched, slot_next}
 use Rattle.sa_answer.proofs.TakenLemmas.{all_taken, at_first, leads_as, leads_on, none_taken, stops_here}
 use Rattle.sa_answer.proofs.mc_member.walk_partition.Goals.{then-is_named+in-Some+in_ok-take, then-is_named+in_default, else-is_named}
 use Rattle.sa_answer.proofs.mc_member.walk_partition.Goals as goal
@@ -16,11 +16,11 @@ returns-then-not-is_searched c =
 
 pub loop-place-init : goal.loop-place-init
 loop-place-init c =
-    let told = groups_told c.args.own.now c.args.mask c.args.asked.now c.args.partition.now in
+    let reported = groups_reported c.args.own.now c.args.mask c.args.asked.now c.args.partition.now in
     let shown = searched c.args.own.now c.args.mask c.args.asked.now c.args.partition.now c.as_slice-slots.result.now c.as_slice-slots.ensures.value (sym c.is_searched.ensures ∙ c.if-not-is_searched.false) in
     let first : first_mlid c.args.partition.now.number ≡ first_mlid c.args.partition.now.number + 0 = omega arith in
-    leads_as told told _ c.args.taken.now c.args.taken.now
-    (ap (map group_bytes) (shown ∙ ap (λ (mlid : ℕ). groups_agreeing c.args.mask c.args.asked.now c.args.partition.now.base mlid c.as_slice-slots.result.now) first)) (at_first told c.args.taken.now)
+    leads_as reported reported _ c.args.taken.now c.args.taken.now
+    (ap (map group_bytes) (shown ∙ ap (λ (mlid : ℕ). groups_agreeing c.args.mask c.args.asked.now c.args.partition.now.base mlid c.as_slice-slots.result.now) first)) (at_first reported c.args.taken.now)
 
 pub returns-in_err-take : goal.returns-in_err-take
 returns-in_err-take c =
@@ -31,8 +31,8 @@ returns-in_err-take c =
     let slots = c.as_slice-slots.result.now in
     let i = c.loop-place.place in
     let slot = c.index-slots-place.result in
-    let told : c.in-Some.shown ∷ [] ≡ map group_bytes (groups_agreeing mask asked base (first + i) (slot ∷ [])) = rw (c.base.ensures.value, c.mlid_of-mlid.ensures) at c.in-Some.ensures in
-    let split = slot_next mask asked base first slots i slot (c.in-Some.shown ∷ []) c.loop-place-test.true c.index-slots-place.is (sym told) in
+    let reported : c.in-Some.shown ∷ [] ≡ map group_bytes (groups_agreeing mask asked base (first + i) (slot ∷ [])) = rw (c.base.ensures.value, c.mlid_of-mlid.ensures) at c.in-Some.ensures in
+    let split = slot_next mask asked base first slots i slot (c.in-Some.shown ∷ []) c.loop-place-test.true c.index-slots-place.is (sym reported) in
     let out = err_from_is_err_and c.from_residual.result c.from_residual.ensures.1 in
     rw out.1 (stops_here _ _ (c.in-Some.shown ∷ []) _ c.args.taken.now c.loop-place.taken split c.in_err-take.ensures c.loop-place.invariant)
 
@@ -49,11 +49,11 @@ loop-place-preserved c =
     let is = c.index-slots-place.is in
     elim c.if-is_named.branch [
       | then-is_named+in-Some+in_ok-take w ↦
-          let told : w.in-Some.shown ∷ [] ≡ map group_bytes (groups_agreeing mask asked base (first + i) (slot ∷ [])) = rw (w.base.ensures.value, c.mlid_of-mlid.ensures) at w.in-Some.ensures in
-          let split = slot_next mask asked base first slots i slot (w.in-Some.shown ∷ []) within is (sym told) in
+          let reported : w.in-Some.shown ∷ [] ≡ map group_bytes (groups_agreeing mask asked base (first + i) (slot ∷ [])) = rw (w.base.ensures.value, c.mlid_of-mlid.ensures) at w.in-Some.ensures in
+          let split = slot_next mask asked base first slots i slot (w.in-Some.shown ∷ []) within is (sym reported) in
           rw w.taken-is (leads_on _ _ (w.in-Some.shown ∷ []) _ c.args.taken.now c.loop-place.taken w.take.new.self split w.in_ok-take.ensures c.loop-place.invariant)
       | then-is_named+in_default w ↦
-          let none = nothing_told (groups_agreeing mask asked base (first + i) (slot ∷ [])) (rw (w.base.ensures.value, c.mlid_of-mlid.ensures) at w.in_default.ensures) in
+          let none = nothing_reported (groups_agreeing mask asked base (first + i) (slot ∷ [])) (rw (w.base.ensures.value, c.mlid_of-mlid.ensures) at w.in_default.ensures) in
           let split = slot_next mask asked base first slots i slot [] within is (ap (map group_bytes) none) in
           rw w.taken-is (leads_as _ _ _ c.args.taken.now c.loop-place.taken split c.loop-place.invariant)
       | else-is_named w ↦

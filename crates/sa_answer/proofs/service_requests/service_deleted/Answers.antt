@@ -12,8 +12,8 @@ use Rattle.sa_answer.proofs.service_requests.service_deleted.Goals as goal
 
 pub delete_service-requires-clause-member : goal.delete_service-requires-clause-member
 delete_service-requires-clause-member c own found =
-    let told = rw c.port.ensures at c.owner_refusal.ensures in
-    let none = may c.owner_refusal.result c.kept_at.result.now.port own _ c.args.mask c.args.asked.now c.kept_at.ensures found told c.in_default.is in
+    let reported = rw c.port.ensures at c.owner_refusal.ensures in
+    let none = may c.owner_refusal.result c.kept_at.result.now.port own _ c.args.mask c.args.asked.now c.kept_at.ensures found reported c.in_default.is in
     holds_base own c.base_of-base.result c.base_of-base.ensures.within
     (ap (is_in own) c.base_of-base.ensures.value ∙ is_member own c.args.mask c.args.asked.now none)
 
@@ -21,8 +21,8 @@ pub returns-then-not-delete_service-clause-brings : goal.returns-then-not-delete
 returns-then-not-delete_service-clause-brings c own found =
     let state = c.args.store.now.administration.remembered in
     let asked = c.args.asked.now in
-    let told = rw c.port.ensures at c.owner_refusal.ensures in
-    let none = may c.owner_refusal.result c.kept_at.result.now.port own _ c.args.mask c.args.asked.now c.kept_at.ensures found told c.in_default.is in
+    let reported = rw c.port.ensures at c.owner_refusal.ensures in
+    let none = may c.owner_refusal.result c.kept_at.result.now.port own _ c.args.mask c.args.asked.now c.kept_at.ensures found reported c.in_default.is in
     let guid : own.guid ≡ c.args.requester.guid = guid_of_found _ c.args.requester.guid own found in
     let change : deleted_by c.args.requester.guid c.base_of-base.result asked.service_id ≡ change_asked own asked (Deed.deletes asked.service_id) =
     λ i. record { port = sym guid i; base = c.base_of-base.ensures.value i; deed = Deed.deletes asked.service_id } in
@@ -35,8 +35,8 @@ pub returns-clause-brings : goal.returns-clause-brings
 returns-clause-brings c own found =
     let state = c.args.store.now.administration.remembered in
     let asked = c.args.asked.now in
-    let told = rw c.port.ensures at c.owner_refusal.ensures in
-    let none = may c.owner_refusal.result c.kept_at.result.now.port own _ c.args.mask c.args.asked.now c.kept_at.ensures found told c.in_default.is in
+    let reported = rw c.port.ensures at c.owner_refusal.ensures in
+    let none = may c.owner_refusal.result c.kept_at.result.now.port own _ c.args.mask c.args.asked.now c.kept_at.ensures found reported c.in_default.is in
     let guid : own.guid ≡ c.args.requester.guid = guid_of_found _ c.args.requester.guid own found in
     let change : deleted_by c.args.requester.guid c.base_of-base.result asked.service_id ≡ change_asked own asked (Deed.deletes asked.service_id) =
     λ i. record { port = sym guid i; base = c.base_of-base.ensures.value i; deed = Deed.deletes asked.service_id } in

@@ -12,8 +12,8 @@ use Rattle.sa_answer.proofs.service_requests.service_set.Goals as goal
 
 pub set_service-requires-clause-member : goal.set_service-requires-clause-member
 set_service-requires-clause-member c own found =
-    let told = rw c.port.ensures at c.owner_refusal.ensures in
-    let none = may c.owner_refusal.result c.kept_at.result.now.port own _ c.args.mask c.args.asked.now c.kept_at.ensures found told c.in_default.is in
+    let reported = rw c.port.ensures at c.owner_refusal.ensures in
+    let none = may c.owner_refusal.result c.kept_at.result.now.port own _ c.args.mask c.args.asked.now c.kept_at.ensures found reported c.in_default.is in
     holds_base own c.base_of-base.result c.base_of-base.ensures.within
     (ap (is_in own) c.base_of-base.ensures.value ∙ is_member own c.args.mask c.args.asked.now none)
 
@@ -22,8 +22,8 @@ returns-then-not-branch-clause-brings c own found =
     let state = c.args.store.now.administration.remembered in
     let asked = c.args.asked.now in
     let service = service_asked c.args.mask asked in
-    let told = rw c.port.ensures at c.owner_refusal.ensures in
-    let none = may c.owner_refusal.result c.kept_at.result.now.port own _ c.args.mask c.args.asked.now c.kept_at.ensures found told c.in_default.is in
+    let reported = rw c.port.ensures at c.owner_refusal.ensures in
+    let none = may c.owner_refusal.result c.kept_at.result.now.port own _ c.args.mask c.args.asked.now c.kept_at.ensures found reported c.in_default.is in
     let guid : own.guid ≡ c.args.requester.guid = guid_of_found _ c.args.requester.guid own found in
     let change : set_by c.args.requester.guid c.base_of-base.result c.service_asked-service.result ≡ change_asked own asked (Deed.sets service) =
     λ i. record { port = sym guid i; base = c.base_of-base.ensures.value i; deed = Deed.sets (c.service_asked-service.ensures.value i) } in
@@ -37,8 +37,8 @@ returns-clause-brings c own found =
     let state = c.args.store.now.administration.remembered in
     let asked = c.args.asked.now in
     let service = service_asked c.args.mask asked in
-    let told = rw c.port.ensures at c.owner_refusal.ensures in
-    let none = may c.owner_refusal.result c.kept_at.result.now.port own _ c.args.mask c.args.asked.now c.kept_at.ensures found told c.in_default.is in
+    let reported = rw c.port.ensures at c.owner_refusal.ensures in
+    let none = may c.owner_refusal.result c.kept_at.result.now.port own _ c.args.mask c.args.asked.now c.kept_at.ensures found reported c.in_default.is in
     let guid : own.guid ≡ c.args.requester.guid = guid_of_found _ c.args.requester.guid own found in
     let change : set_by c.args.requester.guid c.base_of-base.result c.service_asked-service.result ≡ change_asked own asked (Deed.sets service) =
     λ i. record { port = sym guid i; base = c.base_of-base.ensures.value i; deed = Deed.sets (c.service_asked-service.ensures.value i) } in

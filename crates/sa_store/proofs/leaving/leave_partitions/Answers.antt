@@ -34,21 +34,21 @@ loop-partition-preserved c =
       | then-leave_partition w ↦
           let number : w.number.result ≡ (get_or all i one).number = w.number.ensures ∙ ap (λ (partition : PartitionGroups). partition.number) new in
           let long = length-append c.loop-partition.changed.items (w.number.result ∷ []) in
-          let told : c.loop-partition.changed.items ++ w.number.result ∷ [] ≡ numbers_changed ports (take (i + 1) all) (map f (take (i + 1) all)) =
+          let reported : c.loop-partition.changed.items ++ w.number.result ∷ [] ≡ numbers_changed ports (take (i + 1) all) (map f (take (i + 1) all)) =
           ap (λ (some : List ℕ). some ++ w.number.result ∷ []) c.loop-partition.invariant.numbers
           ∙ ap (λ (n : ℕ). numbers_changed ports (take i all) (map f (take i all)) ++ n ∷ []) number
           ∙ sym (changed_more ports f all i one within (sym changed ∙ w.if-leave_partition.true)) in
           record {
             next = w.partitions-is ∙ next;
-            numbers = rw (w.changed-is, w.push.ensures.items) told;
+            numbers = rw (w.changed-is, w.push.ensures.items) reported;
             few = rw (w.changed-is, w.push.ensures.items) (omega (arith, long, c.loop-partition.invariant.few));
           }
       | else-leave_partition w ↦
-          let told : c.loop-partition.changed.items ≡ numbers_changed ports (take (i + 1) all) (map f (take (i + 1) all)) =
+          let reported : c.loop-partition.changed.items ≡ numbers_changed ports (take (i + 1) all) (map f (take (i + 1) all)) =
           c.loop-partition.invariant.numbers ∙ sym (unchanged_more ports f all i one within (sym changed ∙ w.if-leave_partition.false)) in
           record {
             next = w.partitions-is ∙ next;
-            numbers = rw w.changed-is told;
+            numbers = rw w.changed-is reported;
             few = rw w.changed-is (omega (arith, c.loop-partition.invariant.few));
           }
     ]

@@ -18,14 +18,14 @@ loop-one-preserved c =
     let before = group_receivers (ports_of (take i kept)) group in
     let after = group_receivers (ports_of (take (i + 1) kept)) group in
     let own : GroupReceiver = record { mlid = c.args.mlid; lid = one.port.lid } in
-    let told : c.receives_group.result ≡ receives_group group one.port = c.receives_group.ensures c.args.mlid ∙ ap (receives_group group) c.port-port.ensures in
+    let reported : c.receives_group.result ≡ receives_group group one.port = c.receives_group.ensures c.args.mlid ∙ ap (receives_group group) c.port-port.ensures in
     elim c.if-receives_group.branch [
       | then-receives_group+in_ok-push w ↦
-          let more : after ≡ before ++ own ∷ [] = port_receives group kept i one c.loop-one-test.true c.one-item.is (sym told ∙ w.if-receives_group.true) in
+          let more : after ≡ before ++ own ∷ [] = port_receives group kept i one c.loop-one-test.true c.one-item.is (sym reported ∙ w.if-receives_group.true) in
           rw (w.receivers-is, w.in_ok-push.ensures.items)
           (ap (λ (port : SubnetPort). c.loop-one.receivers.items ++ (record { mlid = c.args.mlid; lid = port.lid }) ∷ []) c.port-port.ensures
           ∙ pushed first c.loop-one.receivers.items before (own ∷ []) after c.loop-one.invariant more)
       | else-receives_group w ↦
-          let same : after ≡ before = port_is_deaf group kept i one c.loop-one-test.true c.one-item.is (sym told ∙ w.if-receives_group.false) in
+          let same : after ≡ before = port_is_deaf group kept i one c.loop-one-test.true c.one-item.is (sym reported ∙ w.if-receives_group.false) in
           rw w.receivers-is (c.loop-one.invariant ∙ ap (λ (some : List GroupReceiver). first ++ some) (sym same))
     ]

@@ -1,10 +1,10 @@
-use Rattle.smp_wire.proofs.AskLemmas.{set_good, set_left, set_shape, set_shown, set_told}
+use Rattle.smp_wire.proofs.AskLemmas.{set_good, set_left, set_shape, set_shown, set_reported}
 use Rattle.smp_wire.proofs.asking.set_attribute.Goals as goal
 
-pub returns-clause-told : goal.returns-clause-told
-returns-clause-told g c =
-    set_told _ c.args.attribute c.args.modifier c.args.path.now c.args.wanted.now c.set_request-request.result _
-    c.set_request-request.ensures.asks c.ask.ensures.told
+pub returns-clause-reported : goal.returns-clause-reported
+returns-clause-reported g c =
+    set_reported _ c.args.attribute c.args.modifier c.args.path.now c.args.wanted.now c.set_request-request.result _
+    c.set_request-request.ensures.asks c.ask.ensures.reported
 
 pub returns-clause-left : goal.returns-clause-left
 returns-clause-left g c =
@@ -14,7 +14,7 @@ returns-clause-left g c =
 pub returns-clause-taken : goal.returns-clause-taken
 returns-clause-taken g c =
     set_shown _ c.args.attribute c.args.modifier c.args.path.now c.args.wanted.now c.set_request-request.result _
-    c.set_request-request.ensures.asks c.ask.ensures.told
+    c.set_request-request.ensures.asks c.ask.ensures.reported
 
 pub returns-clause-good : goal.returns-clause-good
 returns-clause-good g c =

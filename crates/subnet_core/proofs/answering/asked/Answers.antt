@@ -12,7 +12,7 @@ drop_next acks i within =
 
 pub loop-ack-init : goal.loop-ack-init
 loop-ack-init c =
-    starts_acknowledging c.args.roster.now c.args.routes.now c.args.command.now c.deref-ack-items.result.now c.in_ok-first.first.events.items
+    starts_acknowledging c.args.inventory.now c.args.routes.now c.args.command.now c.deref-ack-items.result.now c.in_ok-first.first.events.items
     c.asked_once.new.administrator c.asked_once.new.fabric c.in_ok-first.ensures.once.stands
 
 pub loop-ack-preserved : goal.loop-ack-preserved
@@ -20,10 +20,10 @@ loop-ack-preserved c =
     let acks = c.deref-ack-items.result.now in
     let i = c.loop-ack.ack-index in
     subst (λ (events : List Event).
-    Acknowledges c.args.roster.now c.args.routes.now c.args.command.now acks c.in_ok-first.first.events.items c.asked_once.new.administrator
+    Acknowledges c.args.inventory.now c.args.routes.now c.args.command.now acks c.in_ok-first.first.events.items c.asked_once.new.administrator
     c.asked_once.new.fabric (drop (i + 1) acks) events c.asked_once-in-loop-ack.new.administrator c.asked_once-in-loop-ack.new.fabric)
     (sym c.in_ok-append.ensures.items)
-    (acknowledges_more c.args.roster.now c.args.routes.now c.args.command.now acks c.in_ok-first.first.events.items c.asked_once.new.administrator
+    (acknowledges_more c.args.inventory.now c.args.routes.now c.args.command.now acks c.in_ok-first.first.events.items c.asked_once.new.administrator
     c.asked_once.new.fabric (drop i acks) (get_or acks i []) (drop (i + 1) acks) (drop_next acks i c.loop-ack-test.true)
     c.loop-ack.events.items c.loop-ack.administrator c.asked_once-in-loop-ack.new.administrator c.loop-ack.fabric c.asked_once-in-loop-ack.new.fabric
     c.in_ok-more.more c.loop-ack.invariant c.in_ok-more.ensures.once)
@@ -33,9 +33,9 @@ returns-clause-steps c =
     let acks : acknowledgements c.in_ok-first.first.mads.items ≡ c.deref-ack-items.result.now =
     sym (c.deref-ack-items.ensures.value ∙ c.in_ok-acks.ensures ∙ ap acknowledgements c.deref.ensures.value) in
     let way = c.loop-ack.invariant.way c.args.administrator.now c.args.fabric.now c.in_ok-first.first acks refl c.in_ok-first.ensures.once in
-    ends c.args.roster.now c.args.routes.now c.args.administrator.now c.args.fabric.now c.args.command.now c.loop-ack.events.items c.loop-ack.administrator
+    ends c.args.inventory.now c.args.routes.now c.args.administrator.now c.args.fabric.now c.args.command.now c.loop-ack.events.items c.loop-ack.administrator
     c.loop-ack.fabric
     (subst (λ (left : List (List ℕ)).
-    OnTheWay c.args.roster.now c.args.routes.now c.args.administrator.now c.args.fabric.now c.args.command.now left c.loop-ack.events.items c.loop-ack.administrator
+    OnTheWay c.args.inventory.now c.args.routes.now c.args.administrator.now c.args.fabric.now c.args.command.now left c.loop-ack.events.items c.loop-ack.administrator
     c.loop-ack.fabric)
     (drop_all c.loop-ack.ack-index c.deref-ack-items.result.now c.loop-ack-test.false) way)

@@ -7,7 +7,7 @@ use Rattle.subnet_core.proofs.answering.recabled.Goals as goal
 
 pub recable-requires-clause-served : goal.recable-requires-clause-served
 recable-requires-clause-served c =
-    rw c.topology.ensures (serves c.args.roster.now c.args.routes.now c.args.administrator.now c.args.fabric.now c.requires)
+    rw c.topology.ensures (serves c.args.inventory.now c.args.routes.now c.args.administrator.now c.args.fabric.now c.requires)
 
 pub recable-requires-clause-keys : goal.recable-requires-clause-keys
 recable-requires-clause-keys c =
@@ -16,6 +16,6 @@ recable-requires-clause-keys c =
 
 pub returns-clause-steps : goal.returns-clause-steps
 returns-clause-steps c =
-    steps_by_cable c.args.roster.now c.args.routes.now c.args.administrator.now c.args.fabric.now c.requires c.recable.new.routes c.recable.new.fabric
+    steps_by_cable c.args.inventory.now c.args.routes.now c.args.administrator.now c.args.fabric.now c.requires c.recable.new.routes c.recable.new.fabric
     (rw c.topology.ensures at c.in_ok-recable.ensures.serves) c.args.command.now c.new.result.items c.new.ensures.items
-    (rw c.topology.ensures at c.in_ok-recable.ensures.cabling)
+    (rw c.topology.ensures at c.in_ok-recable.ensures.cabling) c.in_ok-recable.ensures.kept

@@ -1,8 +1,8 @@
 use Rattle.std.specs.Option.{option_copied}
 use Rattle.std.proofs.lemmas.Result.{err_from_is_err_and}
-use Rattle.subnet_core.proofs.BringUpLemmas.{same_roster}
+use Rattle.subnet_core.proofs.BringUpLemmas.{same_inventory}
 use Rattle.subnet_core.proofs.ComparisonLemmas.{runs_again}
-use Rattle.subnet_core.specs.Roster.{roster_of}
+use Rattle.subnet_core.specs.Inventory.{inventory_of}
 use Rattle.subnet_core.proofs.comparing.run_again.Goals as goal
 
 pub returns-in_err-subnet : goal.returns-in_err-subnet
@@ -13,10 +13,10 @@ returns-in_err-subnet c =
 pub port_run-requires-clause-senders : goal.port_run-requires-clause-senders
 port_run-requires-clause-senders c =
     let up = c.in_ok-subnet.ensures.exact in
-    c.requires c.in_ok-subnet.subnet.roster
-    (same_roster (roster_of c.args.topology.now (option_copied c.args.partitions)) up.stop c.in_ok-subnet.subnet.roster up.is)
+    c.requires c.in_ok-subnet.subnet.inventory
+    (same_inventory (inventory_of c.args.topology.now (option_copied c.args.partitions)) up.stop c.in_ok-subnet.subnet.inventory up.is)
 
 pub returns : goal.returns
 returns c =
-    runs_again (roster_of c.args.topology.now (option_copied c.args.partitions)) c.in_ok-subnet.subnet.roster c.args.port c.args.commands.items
+    runs_again (inventory_of c.args.topology.now (option_copied c.args.partitions)) c.in_ok-subnet.subnet.inventory c.args.port c.args.commands.items
     c.port_run.result c.in_ok-subnet.ensures.exact c.port_run.ensures.run c.port_run.ensures.fault

@@ -6,7 +6,7 @@ use Rattle.subnet_core.proofs.SenderLemmas.{commands_name_senders}
 use Rattle.subnet_core.specs.After.{IsThrough}
 use Rattle.subnet_core.specs.BringUp.{StaysUp}
 use Rattle.script_lines.specs.Script.{commands_in}
-use Rattle.subnet_core.specs.Roster.{RosterState}
+use Rattle.subnet_core.specs.Inventory.{InventoryState}
 use Rattle.subnet_core.specs.declared.fault.RunFault.TheVariants.{Script}
 use Rattle.subnet_model.specs.declared.command.Command.{Command}
 use Rattle.subnet_core.proofs.leaving.after.Goals as goal
@@ -19,7 +19,7 @@ returns-in_err-commands-clause-fault c =
 pub run_through-requires : goal.run_through-requires
 run_through-requires c =
     rw c.deref.ensures.value
-    (commands_name_senders c.args.subnet.roster (rw c.roster.ensures at c.known_listed.ensures) c.args.script.now c.in_ok-commands.commands.items
+    (commands_name_senders c.args.subnet.inventory (rw c.inventory.ensures at c.known_listed.ensures) c.args.script.now c.in_ok-commands.commands.items
     (text_is_good Script _ _ c.in_ok-commands.ensures))
 
 pub returns-in_err-run_through-clause-fault : goal.returns-in_err-run_through-clause-fault
@@ -32,7 +32,7 @@ returns-clause-left c =
     let through = subst (λ (commands : List Command). IsThrough commands c.args.subnet c.run_through.new.self) c.deref.ensures.value c.in_ok-run_through.ensures in
     let stays : StaysUp c.run_through.new.self = c.fabric.ensures.up in (
       c.in_ok-commands.commands.items,
-      subst (λ (roster : RosterState). commands_in roster.plan c.args.script.now ≡ Ok c.in_ok-commands.commands.items) (sym through.roster)
+      subst (λ (inventory : InventoryState). commands_in inventory.plan c.args.script.now ≡ Ok c.in_ok-commands.commands.items) (sym through.inventory)
           (text_is_good Script _ _ c.in_ok-commands.ensures),
       left_from_start c.args.subnet c.run_through.new.self c.in_ok-commands.commands.items c.requires through stays,
     )

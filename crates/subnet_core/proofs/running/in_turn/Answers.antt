@@ -1,7 +1,7 @@
 use Rattle.std.specs.Option.{option_copied}
 use Rattle.std.proofs.lemmas.Result.{err_from_is_err_and}
 use Rattle.subnet_core.proofs.CommandLemmas.{text_is_good}
-use Rattle.subnet_core.proofs.RunLemmas.{rosters_given, run_stops, run_tells, script_fails}
+use Rattle.subnet_core.proofs.RunLemmas.{inventories_given, run_stops, run_reports, script_fails}
 use Rattle.subnet_core.proofs.SenderLemmas.{commands_name_senders}
 use Rattle.subnet_core.specs.declared.fault.RunFault.TheVariants.{Script}
 use Rattle.subnet_core.proofs.running.in_turn.Goals as goal
@@ -20,13 +20,13 @@ returns-in_err-commands-clause-exact c =
 pub report-requires-clause-senders : goal.report-requires-clause-senders
 report-requires-clause-senders c =
     rw c.deref.ensures.value
-    (commands_name_senders c.in_ok-subnet.subnet.roster (rw c.roster.ensures at c.known_listed.ensures) c.args.script.now c.in_ok-commands.commands.items (text_is_good Script _ _ c.in_ok-commands.ensures))
+    (commands_name_senders c.in_ok-subnet.subnet.inventory (rw c.inventory.ensures at c.known_listed.ensures) c.args.script.now c.in_ok-commands.commands.items (text_is_good Script _ _ c.in_ok-commands.ensures))
 
 pub returns-clause-exact : goal.returns-clause-exact
 returns-clause-exact c =
     rw (c.in_ok-report.ensures, c.deref.ensures.value)
-    (run_tells c.args.topology.now (option_copied c.args.partitions) c.args.script.now _ _ c.in_ok-subnet.ensures.exact c.in_ok-commands.ensures)
+    (run_reports c.args.topology.now (option_copied c.args.partitions) c.args.script.now _ _ c.in_ok-subnet.ensures.exact c.in_ok-commands.ensures)
 
-pub returns-clause-rosters : goal.returns-clause-rosters
-returns-clause-rosters c =
-    rosters_given c.args.topology.now (option_copied c.args.partitions) _ c.in_ok-subnet.ensures.exact (rw c.roster.ensures at c.known_listed.ensures)
+pub returns-clause-inventories : goal.returns-clause-inventories
+returns-clause-inventories c =
+    inventories_given c.args.topology.now (option_copied c.args.partitions) _ c.in_ok-subnet.ensures.exact (rw c.inventory.ensures at c.known_listed.ensures)

@@ -20,7 +20,7 @@ returns-in_err-stream-clause-exact g c =
     rw (p.1, p.2) (inl (tt, refl, refl))
 
 pub returns-clause-exact : goal.returns-clause-exact
-returns-clause-exact g c = inr (c.in_ok-subnet.subnet.roster, c.in_ok-subnet.ensures.rostered, c.in_ok-subnet.ensures.exact, rw c.in_ok-stream.ensures at c.run.ensures.exact)
+returns-clause-exact g c = inr (c.in_ok-subnet.subnet.inventory, c.in_ok-subnet.ensures.inventoried, c.in_ok-subnet.ensures.exact, rw c.in_ok-stream.ensures at c.run.ensures.exact)
 
 pub returns-in_err-subnet-clause-in_time : goal.returns-in_err-subnet-clause-in_time
 returns-in_err-subnet-clause-in_time g c waits = none_read (c.args.topology.now) (option_copied c.args.partitions) _ _ _
@@ -30,4 +30,4 @@ returns-in_err-stream-clause-in_time g c waits = none_read (c.args.topology.now)
 
 pub returns-clause-in_time : goal.returns-clause-in_time
 returns-clause-in_time g c waits =
-    all_read (c.args.topology.now) (option_copied c.args.partitions) c.in_ok-subnet.subnet.roster c.in_ok-subnet.ensures.exact _ _ _ _ (rw c.in_ok-stream.ensures at c.run.ensures.in_time waits)
+    all_read (c.args.topology.now) (option_copied c.args.partitions) c.in_ok-subnet.subnet.inventory c.in_ok-subnet.ensures.exact _ _ _ _ (rw c.in_ok-stream.ensures at c.run.ensures.in_time waits)

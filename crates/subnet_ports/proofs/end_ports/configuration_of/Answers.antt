@@ -1,7 +1,7 @@
 use Rattle.std.proofs.Common.{◌≡◌, List, map, refl, sym, subst, ap, ◌∙◌}
 use Rattle.partition_file.specs.declared.heading.Heading.{Heading}
 use Rattle.partition_file.specs.Members.{AreSoundHeadings, heading_of}
-use Rattle.subnet_ports.specs.Ports.{end_ports, in_order, ports_of, seats}
+use Rattle.subnet_ports.specs.Ports.{end_ports, in_order, ports_of, end_places}
 use Rattle.subnet_model.specs.Configuration.{ConfigurationState}
 use Rattle.subnet_model.specs.Configured.{IsConfigured}
 use Rattle.subnet_ports.specs.EndPorts.{AreEndPorts}
@@ -14,8 +14,8 @@ pub returns-clause-value : goal.returns-clause-value
 returns-clause-value c =
     let plan = c.args.topology.now in
     let ports : c.in_ok-ports.ports.items ≡ ports_of c.args.partitions.now plan =
-    rw (c.in_ok-ports.ensures, c.nodes.ensures.value, c.deref-3.ensures.value, c.deref-4.ensures.value, c.into_parts-headings.ensures.keys, c.in_ok-members.ensures, c.deref-2.ensures.value, c.in_ok-all.ensures, c.deref.ensures.value, c.in_ok-seats.ensures.value)
-    (ap (in_order plan.nodes (end_ports (seats plan))) (zip_is_keyed c.args.partitions.now (seats plan))) in
+    rw (c.in_ok-ports.ensures, c.nodes.ensures.value, c.deref-3.ensures.value, c.deref-4.ensures.value, c.into_parts-headings.ensures.keys, c.in_ok-members.ensures, c.deref-2.ensures.value, c.in_ok-all.ensures, c.deref.ensures.value, c.in_ok-end_places.ensures.value)
+    (ap (in_order plan.nodes (end_ports (end_places plan))) (zip_is_keyed c.args.partitions.now (end_places plan))) in
     let headings : c.into_parts-headings.result.0.items ≡ map heading_of c.args.partitions.now =
     c.into_parts-headings.ensures.headings ∙ rw c.in_ok-members.ensures refl in
     rw (c.new.ensures, ports, headings) refl

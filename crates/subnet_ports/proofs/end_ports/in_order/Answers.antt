@@ -8,17 +8,17 @@ use Rattle.std.specs.Vec.Iter.{into_iter_items, into_iter_len}
 use Rattle.subnet_ports.proofs.PortLemmas.{one_taken, all_taken}
 use Rattle.subnet_ports.proofs.end_ports.in_order.Goals as goal
 
-pub loop-seat-init : goal.loop-seat-init
-loop-seat-init c =
-    let it = c.into_iter-seat-iterator.result in
-    let first : iter_rest (zip_first it) ≡ c.args.seats.now = rw (c.into_iter-seat-iterator.ensures.into_iter_gives, c.zip-seat-items.ensures.first) c.iter.ensures.rest in
-    let items : into_iter_items (zip_second it) ≡ c.args.keys.items = rw c.into_iter-seat-iterator.ensures.into_iter_gives c.zip-seat-items.ensures.second.0 in
-    let len : into_iter_len (zip_second it) ≡ length c.args.keys.items = rw c.into_iter-seat-iterator.ensures.into_iter_gives (c.zip-seat-items.ensures.second.1 ∙ c.args.keys.ok.0) in
-    record { left = zip c.args.seats.now c.args.keys.items; yields = (YieldsList-from_zip (YieldsList-from_slice c.args.seats.now first) (YieldsList-from_vec c.args.keys.items items len)).runs; same = rw c.new-ports.ensures.items refl }
+pub loop-end_place-init : goal.loop-end_place-init
+loop-end_place-init c =
+    let it = c.into_iter-end_place-iterator.result in
+    let first : iter_rest (zip_first it) ≡ c.args.end_places.now = rw (c.into_iter-end_place-iterator.ensures.into_iter_gives, c.zip-end_place-items.ensures.first) c.iter.ensures.rest in
+    let items : into_iter_items (zip_second it) ≡ c.args.keys.items = rw c.into_iter-end_place-iterator.ensures.into_iter_gives c.zip-end_place-items.ensures.second.0 in
+    let len : into_iter_len (zip_second it) ≡ length c.args.keys.items = rw c.into_iter-end_place-iterator.ensures.into_iter_gives (c.zip-end_place-items.ensures.second.1 ∙ c.args.keys.ok.0) in
+    record { left = zip c.args.end_places.now c.args.keys.items; yields = (YieldsList-from_zip (YieldsList-from_slice c.args.end_places.now first) (YieldsList-from_vec c.args.keys.items items len)).runs; same = rw c.new-ports.ensures.items refl }
 
-pub loop-seat-preserved : goal.loop-seat-preserved
-loop-seat-preserved c =
-    rw (c.in_ok-insert_port.ensures, c.seated-port.ensures, c.lid_of.ensures) (one_taken _ _ _ _ _ _ _ _ (c.in-Some.seat, c.in-Some.held) c.loop-seat.invariant c.in-Some.ensures.steps)
+pub loop-end_place-preserved : goal.loop-end_place-preserved
+loop-end_place-preserved c =
+    rw (c.in_ok-insert_port.ensures, c.end_placed-port.ensures, c.lid_of.ensures) (one_taken _ _ _ _ _ _ _ _ (c.in-Some.end_place, c.in-Some.held) c.loop-end_place.invariant c.in-Some.ensures.steps)
 
 pub returns : goal.returns
-returns c = all_taken _ _ _ _ _ _ c.next.new.self _ c.loop-seat.invariant c.in-None.ensures.steps
+returns c = all_taken _ _ _ _ _ _ c.next.new.self _ c.loop-end_place.invariant c.in-None.ensures.steps

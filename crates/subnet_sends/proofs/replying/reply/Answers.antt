@@ -1,7 +1,7 @@
 use Rattle.std.proofs.Common.{ℕ, List, [], take, get_or, subst, sym}
 use Rattle.std.proofs.lemmas.List.{take_all, take_more}
 use Rattle.subnet_sends.specs.Replies.{ComeOfReplies}
-use Rattle.subnet_sends.proofs.ReplyLemmas.{one_more, replies_are_told}
+use Rattle.subnet_sends.proofs.ReplyLemmas.{one_more, replies_are_reported}
 use Rattle.subnet_sends.proofs.replying.reply.Goals as goal
 
 pub loop-mad-preserved : goal.loop-mad-preserved
@@ -19,6 +19,6 @@ returns-clause-comes c =
     subst (λ (some : List (List ℕ)). ComeOfReplies c.args.fabric.now c.args.request.now c.args.key some c.loop-mad.events.items)
     (take_all c.loop-mad.mad-index c.args.mads.now c.loop-mad-test.false) c.loop-mad.invariant
 
-pub returns-clause-told : goal.returns-clause-told
-returns-clause-told c =
-    replies_are_told c.args.fabric.now c.args.request.now c.args.key c.args.mads.now c.loop-mad.events.items (returns-clause-comes c)
+pub returns-clause-reported : goal.returns-clause-reported
+returns-clause-reported c =
+    replies_are_reported c.args.fabric.now c.args.request.now c.args.key c.args.mads.now c.loop-mad.events.items (returns-clause-comes c)

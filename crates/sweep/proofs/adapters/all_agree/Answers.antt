@@ -3,13 +3,13 @@ use Rattle.std.proofs.lemmas.List.{drop_all, take_more}
 use Rattle.indexmap.specs.IndexMap.{get}
 use Rattle.sweep.specs.Adapters.{is_count}
 use Rattle.sweep.specs.declared.graph.GraphPort.{GraphPort}
-use Rattle.sweep.proofs.AdapterLemmas.{agree_on, agree_whole, ends, goes_on, has, has_more, kept_agrees, no_port, not_new, tell, tell_more}
+use Rattle.sweep.proofs.AdapterLemmas.{agree_on, agree_whole, ends, goes_on, has, has_more, kept_agrees, no_port, not_new, report, report_more}
 use Rattle.sweep.proofs.adapters.all_agree.Goals as goal
 
 pub loop-port-init : goal.loop-port-init
 loop-port-init c = record {
   agree = agree_whole [] c.args.ports.now;
-  told = λ guid count. search rules;
+  reported = λ guid count. search rules;
   kept = λ key. search rules;
 }
 
@@ -19,7 +19,7 @@ returns-then-not-is_new c =
     let i = c.loop-port.port-index in
     let port = get_or ports i no_port in
     ends ports i no_port c.loop-port-test.true c.loop-port.invariant.agree
-    (kept_agrees (take i ports) port _ _ _ (c.loop-port.invariant.told port.node_guid port.num_ports)
+    (kept_agrees (take i ports) port _ _ _ (c.loop-port.invariant.reported port.node_guid port.num_ports)
     (c.loop-port.invariant.kept (record { guid = port.node_guid; number = port.number })) c.in_ok-is_new.ensures.added
     ∙ not_new _ _ c.if-not-is_new.true)
 
@@ -29,9 +29,9 @@ returns-then-not-is_count c =
     let i = c.loop-port.port-index in
     let port = get_or ports i no_port in
     ends ports i no_port c.loop-port-test.true c.loop-port.invariant.agree
-    (kept_agrees (take i ports) port _ _ _ (c.loop-port.invariant.told port.node_guid port.num_ports)
+    (kept_agrees (take i ports) port _ _ _ (c.loop-port.invariant.reported port.node_guid port.num_ports)
     (c.loop-port.invariant.kept (record { guid = port.node_guid; number = port.number })) c.in_ok-is_new.ensures.added
-    ∙ ap (λ (b : Bool). b && c.in_ok-is_new.is_new) (sym (ap (is_count port.num_ports) c.in_ok-told.ensures.old) ∙ sym c.is_count.ensures ∙ c.if-not-is_count.true))
+    ∙ ap (λ (b : Bool). b && c.in_ok-is_new.is_new) (sym (ap (is_count port.num_ports) c.in_ok-reported.ensures.old) ∙ sym c.is_count.ensures ∙ c.if-not-is_count.true))
 
 pub loop-port-preserved : goal.loop-port-preserved
 loop-port-preserved c =
@@ -39,15 +39,15 @@ loop-port-preserved c =
     let i = c.loop-port.port-index in
     let port = get_or ports i no_port in
     let more = take_more ports i no_port c.loop-port-test.true in
-    let same = sym (ap (is_count port.num_ports) c.in_ok-told.ensures.old) ∙ sym c.is_count.ensures ∙ c.if-not-is_count.false in
+    let same = sym (ap (is_count port.num_ports) c.in_ok-reported.ensures.old) ∙ sym c.is_count.ensures ∙ c.if-not-is_count.false in
     record {
       agree = goes_on ports i no_port c.loop-port-test.true c.loop-port.invariant.agree
-          (kept_agrees (take i ports) port _ _ _ (c.loop-port.invariant.told port.node_guid port.num_ports)
+          (kept_agrees (take i ports) port _ _ _ (c.loop-port.invariant.reported port.node_guid port.num_ports)
           (c.loop-port.invariant.kept (record { guid = port.node_guid; number = port.number })) c.in_ok-is_new.ensures.added
           ∙ ap (λ (b : Bool). b && c.in_ok-is_new.is_new) same ∙ c.if-not-is_new.false);
-      told = λ guid count. ap (λ (some : List GraphPort). tell some guid count) more
-          ∙ tell_more (take i ports) port (λ g. get (λ a b. a == b) c.loop-port.counts g) (λ g. get (λ a b. a == b) c.insert.new.self g)
-          c.loop-port.invariant.told c.in_ok-told.ensures.updates.0 same guid count;
+      reported = λ guid count. ap (λ (some : List GraphPort). report some guid count) more
+          ∙ report_more (take i ports) port (λ g. get (λ a b. a == b) c.loop-port.counts g) (λ g. get (λ a b. a == b) c.insert.new.self g)
+          c.loop-port.invariant.reported c.in_ok-reported.ensures.updates.0 same guid count;
       kept = λ key. has_more (take i ports) port key _ _ (c.loop-port.invariant.kept key) (c.in_ok-is_new.ensures.updates.0 key)
           ∙ ap (λ (some : List GraphPort). has some key) (sym more);
     }

@@ -10,7 +10,7 @@ use Rattle.sweep.proofs.discovery.sweep.Goals as goal
 
 pub returns-in-Err-visit_all-clause-found : goal.returns-in-Err-visit_all-clause-found
 returns-in-Err-visit_all-clause-found g c x stands sweepable =
-    let start = subst (Starts x) c.in-Ok.is (c.start.ensures.told x stands sweepable.good) in
+    let start = subst (Starts x) c.in-Ok.is (c.start.ensures.reported x stands sweepable.good) in
     let begun = begun_at x c.in-Ok.origin c.add_switch.new.self sweepable.good start
     (c.in-Ok-add_switch.ensures.ok ∙ ap (λ (s : SurveyState). record s { switches = s.switches ++ c.in-Ok.origin.switch ∷ [] }) c.new-survey.ensures) in
     subst (Comes x (λ _. IsAllAsked x (found_first x start.there) c.visit_all.new.survey)) c.in-Err-visit_all.is
@@ -18,7 +18,7 @@ returns-in-Err-visit_all-clause-found g c x stands sweepable =
 
 pub returns-in-Err-into_graph-clause-found : goal.returns-in-Err-into_graph-clause-found
 returns-in-Err-into_graph-clause-found g c x stands sweepable =
-    let start = subst (Starts x) c.in-Ok.is (c.start.ensures.told x stands sweepable.good) in
+    let start = subst (Starts x) c.in-Ok.is (c.start.ensures.reported x stands sweepable.good) in
     let begun = begun_at x c.in-Ok.origin c.add_switch.new.self sweepable.good start
     (c.in-Ok-add_switch.ensures.ok ∙ ap (λ (s : SurveyState). record s { switches = s.switches ++ c.in-Ok.origin.switch ∷ [] }) c.new-survey.ensures) in
     no_contradiction x (found_first x start.there) c.visit_all.new.survey c.in-Ok.origin.manager c.in-Err-into_graph.fault sweepable start.manager
@@ -28,7 +28,7 @@ returns-in-Err-into_graph-clause-found g c x stands sweepable =
 
 pub returns-then-not-is_joined-clause-found : goal.returns-then-not-is_joined-clause-found
 returns-then-not-is_joined-clause-found g c x stands sweepable =
-    let start = subst (Starts x) c.in-Ok.is (c.start.ensures.told x stands sweepable.good) in
+    let start = subst (Starts x) c.in-Ok.is (c.start.ensures.reported x stands sweepable.good) in
     let begun = begun_at x c.in-Ok.origin c.add_switch.new.self sweepable.good start
     (c.in-Ok-add_switch.ensures.ok ∙ ap (λ (s : SurveyState). record s { switches = s.switches ++ c.in-Ok.origin.switch ∷ [] }) c.new-survey.ensures) in
     always_joined x (found_first x start.there) c.visit_all.new.survey _ sweepable
@@ -38,7 +38,7 @@ returns-then-not-is_joined-clause-found g c x stands sweepable =
 
 pub returns-clause-found : goal.returns-clause-found
 returns-clause-found g c x stands sweepable =
-    let start = subst (Starts x) c.in-Ok.is (c.start.ensures.told x stands sweepable.good) in
+    let start = subst (Starts x) c.in-Ok.is (c.start.ensures.reported x stands sweepable.good) in
     let begun = begun_at x c.in-Ok.origin c.add_switch.new.self sweepable.good start
     (c.in-Ok-add_switch.ensures.ok ∙ ap (λ (s : SurveyState). record s { switches = s.switches ++ c.in-Ok.origin.switch ∷ [] }) c.new-survey.ensures) in
     finds x (found_first x start.there) c.visit_all.new.survey c.in-Ok.origin.manager _ sweepable start.manager

@@ -11,6 +11,6 @@ abbrev pub invariant-loop-before : goal.invariant-loop-before
 invariant-loop-before g l = record {
   left : (fabric : FabricState) → g.W.SmpWire.fabric l.fn.wire ≡ Some fabric → IsGood fabric → g.W.SmpWire.fabric l.wire ≡ Some fabric;
   went : (fabric : FabricState) → g.W.SmpWire.fabric l.fn.wire ≡ Some fabric → IsSweepable fabric → (found : List Found) (one : Found)
-      → l.fn.path ≡ one.path → l.fn.num_ports ≡ ports_at fabric one.node → StandsAt found l.fn.place one
-      → IsProgress fabric found l.fn.place 0 l.fn.survey [] → GoesOn fabric found l.fn.place l.before l.survey l.row;
+      → l.fn.switch.path ≡ one.path → l.fn.switch.num_ports ≡ ports_at fabric one.node → StandsAt found l.fn.switch.place one
+      → IsProgress fabric found l.fn.switch.place 0 l.fn.survey [] → GoesOn fabric found l.fn.switch.place l.before l.survey l.row;
 }

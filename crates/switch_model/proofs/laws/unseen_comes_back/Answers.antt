@@ -4,4 +4,4 @@ use Rattle.switch_model.proofs.laws.unseen_comes_back.Goals as goal
 
 pub returns : goal.returns
 unfolding agent_reply
-returns c = λ held in_port smp off len value put spelled. reply_passes (get in_port) set held smp off len value put spelled
+returns c = λ held in_port smp off len value put encoded. reply_passes (get in_port) set held smp off len value put encoded

@@ -8,7 +8,7 @@ use Rattle.table_push.specs.Nodes.{on_switch, with_switches}
 use Rattle.table_push.specs.Pushes.{Stands}
 use Rattle.table_push.proofs.ChangedLemmas.{blocks_stay, one_counted}
 use Rattle.table_push.proofs.LeadLemmas.{no_fault}
-use Rattle.table_push.proofs.SliceLemmas.{slice_begins, slice_ends, slice_more}
+use Rattle.table_push.proofs.MlidRangeLemmas.{slice_begins, slice_ends, mlid_range_more}
 use Rattle.table_push.proofs.changes.set_changed.Goals.{then-not-is_same+in-Ok, else-not-is_same}
 use Rattle.table_push.proofs.changes.set_changed.Goals as goal
 
@@ -21,7 +21,7 @@ loop-position-init g c = record {
 
 pub returns-in-Err-clause-pushed : goal.returns-in-Err-clause-pushed
 returns-in-Err-clause-pushed g c x stands guid good leads has =
-    absurd (no_fault c.in-Err.fault _ _ _ (slice_more _ _ _ x c.args.path.now guid c.loop-position.position c.args.partition c.args.after.now _ _
+    absurd (no_fault c.in-Err.fault _ _ _ (mlid_range_more _ _ _ x c.args.path.now guid c.loop-position.position c.args.partition c.args.after.now _ _
     c.loop-position-test.true c.requires.partition (slice_get-get_or c.args.after.now c.loop-position.position _ (omega (arith, c.told-after, c.loop-position-test.true)))
     c.in-Err.ensures.words refl leads (c.loop-position.invariant.stands x guid stands good leads has) c.in-Err.ensures.set))
 
@@ -36,7 +36,7 @@ loop-position-preserved g c =
         stands = λ fabric guid stands good leads has.
             subst (λ (stood : Option FabricState). Stands stood fabric (with_switches (on_switch guid (slice_to (position + 1) c.args.partition after)) fabric))
             (ap g.W.SmpWire.fabric (sym w.wire-is))
-            (slice_more _ _ _ fabric c.args.path.now guid position c.args.partition after _ _ c.loop-position-test.true c.requires.partition then_there
+            (mlid_range_more _ _ _ fabric c.args.path.now guid position c.args.partition after _ _ c.loop-position-test.true c.requires.partition then_there
             w.set_block.ensures.words refl leads (c.loop-position.invariant.stands fabric guid stands good leads has) w.set_block.ensures.set).stands;
         counted = w.count-is ∙ one_counted (is_changed before after) c.loop-position.count position _
             (ap not (sym c.is_same.ensures ∙ w.if-not-is_same.true)) c.loop-position.invariant.counted;

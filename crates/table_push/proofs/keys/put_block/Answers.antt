@@ -13,7 +13,7 @@ returns-in-Ok-true g c x stands guid number good leads =
     block_stands x _ c.args.path.now c.args.asked guid number c.args.block (block_of 32 c.args.block table) below
     (block_is c.args.block table below (table_of PARTITIONS table c.told-table c.fits-table))
     (c.is_there.ensures.left x stands good) good leads
-    (λ given is. c.in-Ok-true.ensures.told x stands given good is c.in-Ok-true.field-0-test ∙ c.block_at-wanted.ensures)
+    (λ given is. c.in-Ok-true.ensures.reported x stands given good is c.in-Ok-true.field-0-test ∙ c.block_at-wanted.ensures)
 
 pub returns-in-Ok-false : goal.returns-in-Ok-false
 returns-in-Ok-false g c x stands guid number good leads =
@@ -28,4 +28,4 @@ pub returns-in-Err : goal.returns-in-Err
 returns-in-Err g c x stands guid number good leads =
     let below = block_low c.args.block c.args.table.now c.told-table c.requires.block in
     let given = block_given x c.args.path.now c.args.asked guid number c.args.block below good leads in
-    absurd (c.in-Err.ensures.told x stands given.0 good given.1)
+    absurd (c.in-Err.ensures.reported x stands given.0 good given.1)

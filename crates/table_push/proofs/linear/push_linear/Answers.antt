@@ -1,4 +1,4 @@
-use Rattle.result_words.proofs.DistinctLemmas.{left_part}
+use Rattle.step_results.proofs.DistinctLemmas.{left_part}
 use Rattle.std.proofs.Common.{ℕ, ◌≡◌, ◌==◌, ◌+◌, ◌∙◌, ap, sym, subst, arith, List, map, length, slice_get, Some, Result}
 use Rattle.std.specs.List.{IsDistinct}
 use Rattle.std.proofs.lemmas.Option.{slice_get-get_or}

@@ -1,15 +1,15 @@
-use Rattle.result_words.proofs.DistinctLemmas.{left_part}
+use Rattle.step_results.proofs.DistinctLemmas.{left_part}
 use Rattle.std.proofs.Common.{ℕ, ◌≡◌, ◌==◌, ◌+◌, ◌<◌, ◌∙◌, ap, sym, subst, arith, List, map, length, slice_get, Some, Result}
 use Rattle.std.specs.List.{IsDistinct}
 use Rattle.std.proofs.lemmas.Option.{slice_get-get_or}
 use Rattle.sweep.specs.Graph.{GraphState, end_guids}
 use Rattle.sweep.specs.declared.graph.GraphSwitch.{GraphSwitch}
-use Rattle.table_push.specs.Masks.{masks_before, receives_of, wanted_slice}
+use Rattle.table_push.specs.Masks.{masks_before, receives_of, wanted_range}
 use Rattle.table_push.specs.Nodes.{with_switches}
 use Rattle.table_push.specs.Pushes.{LeadsToSwitch, Leaves}
 use Rattle.table_push.specs.declared.fault.PushFault.{PushFault}
 use Rattle.table_push.proofs.LeadLemmas.{graph_leads, no_fault}
-use Rattle.table_push.proofs.SliceLemmas.{push_begins, push_ends, push_more}
+use Rattle.table_push.proofs.MlidRangeLemmas.{push_begins, push_ends, push_more}
 use Rattle.table_push.proofs.multicast.push_multicast.Goals as goal
 
 pub loop-place-init : goal.loop-place-init
@@ -28,13 +28,13 @@ returns-in-Err g c x stands of good =
     let own : IsDistinct (λ a b. a == b) (map (λ one. one.guid) c.args.routes.now.graph.switches) =
     left_part (λ a b. a == b) _ _ (subst (λ (graph : GraphState). IsDistinct (λ a b. a == b) (end_guids graph.switches graph.ports)) c.graph-graph.ensures c.known_graph.ensures.guids) in
     let less : c.loop-place.place < length c.args.routes.now.graph.switches = omega (arith, c.loop-place-test.true, long) in
-    let right : c.blocks_of-blocks.result ≡ wanted_slice c.args.routes.now c.args.partition (receives_of c.args.receivers.now) c.loop-place.place =
-    c.blocks_of-blocks.ensures ∙ c.put_slice.ensures c.loop-place.place less in
-    absurd (no_fault c.in-Err.fault _ x _ (subst (λ (result : Result (Unit {0}) PushFault). Leaves result (g.W.SmpWire.fabric c.set_slice.new.wire) x (with_switches (masks_before c.args.routes.now c.args.partition (receives_of c.args.receivers.now) (c.loop-place.place + 1)) x)) c.in-Err.is
+    let right : c.blocks_of-blocks.result ≡ wanted_range c.args.routes.now c.args.partition (receives_of c.args.receivers.now) c.loop-place.place =
+    c.blocks_of-blocks.ensures ∙ c.put_range.ensures c.loop-place.place less in
+    absurd (no_fault c.in-Err.fault _ x _ (subst (λ (result : Result (Unit {0}) PushFault). Leaves result (g.W.SmpWire.fabric c.set_range.new.wire) x (with_switches (masks_before c.args.routes.now c.args.partition (receives_of c.args.receivers.now) (c.loop-place.place + 1)) x)) c.in-Err.is
     (push_more _ _ _ x c.args.routes.now c.args.partition (receives_of c.args.receivers.now) c.loop-place.place switch c.blocks_of-blocks.result
     less there own right
     (graph_leads x c.args.routes.now.graph c.loop-place.place switch of there) (c.loop-place.invariant x stands of good)
-    (λ fabric is guid well leads. c.set_slice.ensures fabric is guid well (subst (λ (some : List ℕ). LeadsToSwitch fabric some guid) (sym path) leads)))))
+    (λ fabric is guid well leads. c.set_range.ensures fabric is guid well (subst (λ (some : List ℕ). LeadsToSwitch fabric some guid) (sym path) leads)))))
 
 pub loop-place-preserved : goal.loop-place-preserved
 loop-place-preserved g c x stands of good =
@@ -49,12 +49,12 @@ loop-place-preserved g c x stands of good =
     let own : IsDistinct (λ a b. a == b) (map (λ one. one.guid) c.args.routes.now.graph.switches) =
     left_part (λ a b. a == b) _ _ (subst (λ (graph : GraphState). IsDistinct (λ a b. a == b) (end_guids graph.switches graph.ports)) c.graph-graph.ensures c.known_graph.ensures.guids) in
     let less : c.loop-place.place < length c.args.routes.now.graph.switches = omega (arith, c.loop-place-test.true, long) in
-    let right : c.blocks_of-blocks.result ≡ wanted_slice c.args.routes.now c.args.partition (receives_of c.args.receivers.now) c.loop-place.place =
-    c.blocks_of-blocks.ensures ∙ c.put_slice.ensures c.loop-place.place less in
+    let right : c.blocks_of-blocks.result ≡ wanted_range c.args.routes.now c.args.partition (receives_of c.args.receivers.now) c.loop-place.place =
+    c.blocks_of-blocks.ensures ∙ c.put_range.ensures c.loop-place.place less in
     (push_more _ _ _ x c.args.routes.now c.args.partition (receives_of c.args.receivers.now) c.loop-place.place switch c.blocks_of-blocks.result
     less there own right
     (graph_leads x c.args.routes.now.graph c.loop-place.place switch of there) (c.loop-place.invariant x stands of good)
-    (λ fabric is guid well leads. c.set_slice.ensures fabric is guid well (subst (λ (some : List ℕ). LeadsToSwitch fabric some guid) (sym path) leads))).stands
+    (λ fabric is guid well leads. c.set_range.ensures fabric is guid well (subst (λ (some : List ℕ). LeadsToSwitch fabric some guid) (sym path) leads))).stands
 
 pub returns : goal.returns
 returns g c x stands of good =

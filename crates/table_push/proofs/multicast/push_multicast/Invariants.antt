@@ -7,7 +7,7 @@ use Rattle.table_push.specs.Nodes.{with_switches}
 use Rattle.table_push.specs.Pushes.{Stands}
 use Rattle.table_push.proofs.multicast.push_multicast.Given as goal
 
--- the slices of the first switches are written
+-- the MLID ranges of the first switches are written
 abbrev pub invariant-loop-place : goal.invariant-loop-place
 invariant-loop-place g l =
     (fabric : FabricState) → g.W.SmpWire.fabric l.fn.wire ≡ Some fabric → IsGraphOf l.fn.routes.graph fabric → IsGood fabric

@@ -1,6 +1,6 @@
 use Rattle.std.proofs.Common.{◌≡◌, ◌+◌, ◌∙◌, ap, sym, subst, arith, Some, slice_get}
 use Rattle.std.proofs.lemmas.Option.{slice_get_within}
-use Rattle.table_push.specs.MaskSteps.{hangs_on}
+use Rattle.table_push.specs.MaskSteps.{is_attached_to}
 use Rattle.table_push.specs.PlaceSteps.{IsNext}
 use Rattle.table_push.proofs.PlaceLemmas.{both_more, come_more, gone_more, none_there, same_as, same_to_the_end}
 use Rattle.table_push.proofs.places.homes_that_change.Goals.{in-Both, in-Gone, in-Come}
@@ -37,7 +37,7 @@ loop-turn-preserved c =
             far = omega (arith, w.gone-is, w.come-is, c.loop-turn.invariant.far);
             same = same_as homes before after (gone + 1) come _ _ _ _ w.gone-is w.come-is w.places-is
                 (gone_more homes before after gone come c.loop-turn.places w.home_bit-places.result next.0
-                (λ s low. w.home_bit-places.ensures s low ∙ ap (λ lid. hangs_on homes lid s) (sym next.2)) c.loop-turn.invariant.same there);
+                (λ s low. w.home_bit-places.ensures s low ∙ ap (λ lid. is_attached_to homes lid s) (sym next.2)) c.loop-turn.invariant.same there);
           }
       | in-Come w ↦
           let next = subst (IsNext c.receiver_at.result c.receiver_at-in-loop-turn.result) w.in-Come.is c.next_of.ensures in
@@ -49,7 +49,7 @@ loop-turn-preserved c =
             far = omega (arith, w.gone-is, w.come-is, c.loop-turn.invariant.far);
             same = same_as homes before after gone (come + 1) _ _ _ _ w.gone-is w.come-is w.places-is
                 (come_more homes before after gone come c.loop-turn.places w.home_bit-places-in-Come.result next.0
-                (λ s low. w.home_bit-places-in-Come.ensures s low ∙ ap (λ lid. hangs_on homes lid s) (sym next.2)) c.loop-turn.invariant.same there);
+                (λ s low. w.home_bit-places-in-Come.ensures s low ∙ ap (λ lid. is_attached_to homes lid s) (sym next.2)) c.loop-turn.invariant.same there);
           }
     ]
 

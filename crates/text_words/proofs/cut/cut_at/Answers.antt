@@ -2,7 +2,7 @@ use Rattle.std.proofs.Common.{◌≡◌, ◌+◌, true, ◌==◌, length, nat_lt
 use Rattle.std.specs.List.{position_or_len}
 use Rattle.std.proofs.lemmas.Bool.{lt-ltb}
 use Rattle.std.proofs.lemmas.List.{take_rest}
-use Rattle.result_words.proofs.PlaceLemmas.{list_any_place}
+use Rattle.step_results.proofs.PlaceLemmas.{list_any_place}
 use Rattle.text_words.proofs.cut.cut_at.Goals as goal
 
 pub returns : goal.returns

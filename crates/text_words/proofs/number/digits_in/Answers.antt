@@ -1,5 +1,5 @@
 use Rattle.std.proofs.Common.{◌<◌, length, arith, sym, ◌∙◌}
-use Rattle.text_words.proofs.NumberLemmas.{starts, spells_more, stops, all_spelt}
+use Rattle.text_words.proofs.NumberLemmas.{starts, encodes_more, stops, all_encoded}
 use Rattle.text_words.proofs.number.digits_in.Goals as goal
 
 pub loop-byte-init : goal.loop-byte-init
@@ -7,7 +7,7 @@ loop-byte-init c = starts c.args.radix c.args.digits.now
 
 pub loop-byte-preserved : goal.loop-byte-preserved
 loop-byte-preserved c =
-    spells_more c.args.radix c.loop-byte.value c.loop-byte.byte-index c.in_ok-value.value c.args.digits.now c.loop-byte-test.true c.loop-byte.invariant (sym c.in_ok-value.ensures)
+    encodes_more c.args.radix c.loop-byte.value c.loop-byte.byte-index c.in_ok-value.value c.args.digits.now c.loop-byte-test.true c.loop-byte.invariant (sym c.in_ok-value.ensures)
 
 pub returns-in_err-value : goal.returns-in_err-value
 returns-in_err-value c =
@@ -17,4 +17,4 @@ returns-in_err-value c =
 pub returns : goal.returns
 returns c =
     let some : 0 < length c.args.digits.now = grind arith in
-    sym (all_spelt c.args.radix c.loop-byte.value c.loop-byte.byte-index c.args.digits.now some c.loop-byte-test.false c.loop-byte.invariant)
+    sym (all_encoded c.args.radix c.loop-byte.value c.loop-byte.byte-index c.args.digits.now some c.loop-byte-test.false c.loop-byte.invariant)

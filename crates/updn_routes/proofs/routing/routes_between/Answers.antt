@@ -1,4 +1,4 @@
-use Rattle.updn_routes.proofs.GraphLemmas.{all_hang_there, graph_is_fabric, graph_is_small}
+use Rattle.updn_routes.proofs.GraphLemmas.{all_attached_there, graph_is_fabric, graph_is_small}
 use Rattle.updn_routes.proofs.routing.routes_between.Goals as goal
 
 pub routes_over-requires-clause-fabric : goal.routes_over-requires-clause-fabric
@@ -10,7 +10,7 @@ routes_over-requires-clause-few c = rw c.in_ok-rows.ensures (graph_is_small c.ar
 
 pub routes_over-requires-clause-hang : goal.routes_over-requires-clause-hang
 routes_over-requires-clause-hang c =
-    rw (c.in_ok-homes.ensures, c.in_ok-rows.ensures) (all_hang_there c.args.graph.now c.known_graph.ensures c.args.lids.now)
+    rw (c.in_ok-homes.ensures, c.in_ok-rows.ensures) (all_attached_there c.args.graph.now c.known_graph.ensures c.args.lids.now)
 
 pub returns-clause-reached : goal.returns-clause-reached
 returns-clause-reached c = rw (← c.in_ok-homes.ensures, ← c.in_ok-rows.ensures) c.routes_over.ensures.reached

@@ -1,14 +1,14 @@
 use Rattle.std.proofs.Common.{ℕ, List, sym, subst, refl}
-use Rattle.mad_layout.specs.Layout.{Spells}
-use Rattle.mad_layout.proofs.LayoutLemmas.{spells_put_all}
+use Rattle.mad_layout.specs.Layout.{Encodes}
+use Rattle.mad_layout.proofs.LayoutLemmas.{encodes_put_all}
 use Rattle.attr_tables.specs.NodeInfo.{node_info, node_info_bytes}
 use Rattle.attr_tables.proofs.node_info.NodeInfo.write.Goals as goal
 
-pub returns-clause-spells : goal.returns-clause-spells
-returns-clause-spells c =
+pub returns-clause-encodes : goal.returns-clause-encodes
+returns-clause-encodes c =
     let layout = node_info c.args.self.now in
-    let P : List ℕ → Type 0 = λ bytes. Spells bytes layout in
-    subst P (sym c.put_over_zeros.ensures.fields) (spells_put_all layout 64 refl c.put_over_zeros.ensures.fits)
+    let P : List ℕ → Type 0 = λ bytes. Encodes bytes layout in
+    subst P (sym c.put_over_zeros.ensures.fields) (encodes_put_all layout 64 refl c.put_over_zeros.ensures.fits)
 
 pub returns-clause-bytes : goal.returns-clause-bytes
 unfolding node_info_bytes

@@ -1,6 +1,6 @@
 use Rattle.std.proofs.Common.{◌==◌, ap, ◌∙◌}
 use Rattle.dump_file.specs.Table.{place_of}
-use Rattle.dump_file.proofs.IndexLemmas.{place_by_key}
+use Rattle.step_results.proofs.PlaceLemmas.{place_by_key}
 use Rattle.dump_file.proofs.table.TableList.place_of.Goals as goal
 
 pub returns : goal.returns

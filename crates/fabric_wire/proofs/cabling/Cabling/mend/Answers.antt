@@ -4,7 +4,7 @@ use Rattle.std.proofs.lemmas.List.{append-nil}
 use Rattle.std.proofs.lemmas.List.Quantifiers.{position-Some}
 use Rattle.fabric_parts.specs.declared.cable.Cable.{Cable}
 use Rattle.fabric_wire.specs.Cabling.{CablingState, IsOnce, has_place, is_between}
-use Rattle.result_words.proofs.PlaceLemmas.{not_there}
+use Rattle.step_results.proofs.PlaceLemmas.{not_there}
 use Rattle.fabric_wire.proofs.CutLemmas.{ends_are, from_place, is_mended, looks_up, mended_named, none_there, place_behind}
 use Rattle.fabric_wire.proofs.cabling.Cabling.mend.Goals as goal
 

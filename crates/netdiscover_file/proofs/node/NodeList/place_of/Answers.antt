@@ -1,6 +1,6 @@
 use Rattle.std.proofs.Common.{◌==◌, ap, ◌∙◌}
 use Rattle.netdiscover_file.specs.Node.{place_of}
-use Rattle.netdiscover_file.proofs.IndexLemmas.{place_by_key}
+use Rattle.step_results.proofs.PlaceLemmas.{place_by_key}
 use Rattle.netdiscover_file.proofs.node.NodeList.place_of.Goals as goal
 
 pub returns : goal.returns

@@ -1,6 +1,6 @@
 use Rattle.std.proofs.Common.{◌≡◌, None, nat_eq, refl}
 use Rattle.netdiscover_file.specs.Node.{place_of}
-use Rattle.netdiscover_file.proofs.IndexLemmas.{keys_grow}
+use Rattle.step_results.proofs.PlaceLemmas.{keys_grow}
 use Rattle.netdiscover_file.proofs.node.NodeList.push.Goals as goal
 
 pub invariant_of-self-2 : goal.invariant_of-self-2

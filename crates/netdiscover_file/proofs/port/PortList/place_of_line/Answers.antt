@@ -1,7 +1,7 @@
 use Rattle.std.proofs.Common.{ap, ◌∙◌}
 use Rattle.fabric_parts.specs.Cable.{is_same_port}
 use Rattle.netdiscover_file.specs.Port.{place_of_line}
-use Rattle.netdiscover_file.proofs.IndexLemmas.{place_by_key}
+use Rattle.step_results.proofs.PlaceLemmas.{place_by_key}
 use Rattle.netdiscover_file.proofs.port.PortList.place_of_line.Goals as goal
 
 pub returns : goal.returns

@@ -1,7 +1,7 @@
 use Rattle.std.proofs.Common.{◌≡◌, None, refl}
 use Rattle.fabric_parts.specs.Cable.{is_same_port}
 use Rattle.netdiscover_file.specs.Port.{place_of_line}
-use Rattle.netdiscover_file.proofs.IndexLemmas.{keys_grow}
+use Rattle.step_results.proofs.PlaceLemmas.{keys_grow}
 use Rattle.netdiscover_file.proofs.port.PortList.push.Goals as goal
 
 pub invariant_of-self-2 : goal.invariant_of-self-2

@@ -1,5 +1,5 @@
 use Rattle.pkey_rules.proofs.key_table.KeyTable.new.Goals as goal
-use Rattle.result_words.proofs.ListLemmas.{IsDistinct-nil}
+use Rattle.step_results.proofs.ListLemmas.{IsDistinct-nil}
 use Rattle.pkey_rules.specs.KeyTable.{same_base}
 
 pub invariant_of-result : goal.invariant_of-result

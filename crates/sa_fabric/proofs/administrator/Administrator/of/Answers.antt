@@ -1,5 +1,5 @@
 use Rattle.std.proofs.Common.{◌≡◌, ◌∙◌, ap, sym, []}
-use Rattle.result_words.proofs.ListLemmas.{all_have}
+use Rattle.step_results.proofs.ListLemmas.{all_have}
 use Rattle.sa_store.specs.Registry.{RegistryState}
 use Rattle.table_push.specs.Masks.{receives_of}
 use Rattle.sa_fabric.proofs.StartLemmas.{nobody_receives}

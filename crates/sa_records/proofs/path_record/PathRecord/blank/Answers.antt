@@ -1,7 +1,7 @@
-use Rattle.mad_layout.proofs.ReadLemmas.{zeros_spelled}
+use Rattle.mad_layout.proofs.ReadLemmas.{zeros_encoded}
 use Rattle.sa_records.specs.PathRecord.{path_record, path_record_bytes}
 use Rattle.sa_records.proofs.path_record.PathRecord.blank.Goals as goal
 
 pub returns-clause-zeros : goal.returns-clause-zeros
 unfolding path_record_bytes
-returns-clause-zeros c = zeros_spelled 64 200 (path_record c.read.result) c.read.ensures.fields
+returns-clause-zeros c = zeros_encoded 64 200 (path_record c.read.result) c.read.ensures.fields

@@ -1,7 +1,7 @@
-use Rattle.mad_layout.proofs.ReadLemmas.{zeros_spelled}
+use Rattle.mad_layout.proofs.ReadLemmas.{zeros_encoded}
 use Rattle.sa_records.specs.ServiceRecord.{service_record, service_record_bytes}
 use Rattle.sa_records.proofs.service_record.ServiceRecord.blank.Goals as goal
 
 pub returns : goal.returns
 unfolding service_record_bytes
-returns c = zeros_spelled 176 200 (service_record c.read.result) c.read.ensures.fields
+returns c = zeros_encoded 176 200 (service_record c.read.result) c.read.ensures.fields

@@ -74,9 +74,9 @@ returns-then-is_joined-clause-next c =
     let one : e ≡ get_or items (place_for leave.port items) e = rw (same, place) at c.index-2.ensures in
     let rest : join_state_of c.without-rest.result.0 ≡ without_bits leave.join_state e.join_state =
     c.without-rest.ensures ∙ ap (λ (less : JoinState). without_bits less e.join_state) less in
-    let told = own_less leave items d e (join_state_of c.without-rest.result.0) there item one rest in
-    let stays : takes_part (own_of leave items e) ≡ true = sym told.1 ∙ sym c.is_joined.ensures ∙ c.if-is_joined.true in
-    let new : c.set.new.self ≡ own_of leave items e = c.set.ensures ∙ told.0 in
+    let reported = own_less leave items d e (join_state_of c.without-rest.result.0) there item one rest in
+    let stays : takes_part (own_of leave items e) ≡ true = sym reported.1 ∙ sym c.is_joined.ensures ∙ c.if-is_joined.true in
+    let new : c.set.new.self ≡ own_of leave items e = c.set.ensures ∙ reported.0 in
     let all : set c.self.inside.memberships.items c.place_for-place.result c.set.new.self ≡ rest_of leave items =
     rw (same, place, new) (set_less leave items e c.requires there stays) in
     rw all (ap (λ (group : SlotGroup). record group { memberships = rest_of leave items }) c.self.view_is)
@@ -95,8 +95,8 @@ returns-else-is_joined-clause-next c =
     let one : e ≡ get_or items (place_for leave.port items) e = rw (same, place) at c.index-2.ensures in
     let rest : join_state_of c.without-rest.result.0 ≡ without_bits leave.join_state e.join_state =
     c.without-rest.ensures ∙ ap (λ (less : JoinState). without_bits less e.join_state) less in
-    let told = own_less leave items e e (join_state_of c.without-rest.result.0) there one one rest in
-    let goes : takes_part (own_of leave items e) ≡ false = sym told.1 ∙ sym c.is_joined.ensures ∙ c.if-is_joined.false in
+    let reported = own_less leave items e e (join_state_of c.without-rest.result.0) there one one rest in
+    let goes : takes_part (own_of leave items e) ≡ false = sym reported.1 ∙ sym c.is_joined.ensures ∙ c.if-is_joined.false in
     let gone : remove c.self.inside.memberships.items c.place_for-place.result ≡ rest_of leave items =
     rw (same, place) (removed_less leave items e c.requires there goes) in
     let all : c.remove.new.self.items ≡ rest_of leave items = c.remove.ensures.items ∙ gone in

@@ -12,7 +12,7 @@ returns-then-self-leave c =
     let held : join_state_of c.self.inside.join_state.0 ≡ c.args.self.now.join_state = ap (λ (one : Membership). one.join_state) c.self.view_is in
     let asked : join_state_of c.leave.inside.join_state.0 ≡ c.args.leave.now.join_state = ap (λ (leave : Leave). leave.join_state) c.leave.view_is in
     let same : (c.args.self.now.port == c.args.leave.now.port) ≡ true = eq-eqb c.args.self.now.port c.args.leave.now.port (sym port ∙ c.if-self-leave.true ∙ asked_port) in
-    let told : c.is_joined.result ≡ has_bit_of c.args.leave.now.join_state c.args.self.now.join_state =
+    let reported : c.is_joined.result ≡ has_bit_of c.args.leave.now.join_state c.args.self.now.join_state =
     c.is_joined.ensures ∙ common_bits c.self.inside.join_state.0 c.leave.inside.join_state.0 ∙ ap (has_bit_of (join_state_of c.leave.inside.join_state.0)) held
     ∙ ap (λ state. has_bit_of state c.args.self.now.join_state) asked in
-    rw same told
+    rw same reported

@@ -67,6 +67,6 @@ invariant_of-self c =
     record {
       keys_stand = c.self.invariant.keys_stand;
       node = c.self.invariant.node;
-      spelt = c.self.invariant.spelt;
+      encoded = c.self.invariant.encoded;
       places_stand = bases_stay c.self.inside.services.items c.in-Some.place c.index_mut.result.now c.delete.new.self within base ∙ c.self.invariant.places_stand;
     }

@@ -26,7 +26,7 @@ invariant_of-self c =
       numbered = c.self.invariant.numbered;
       based = c.self.invariant.based;
       all = length-set slots c.in-Some.place c.enter_slot.new.slot ∙ c.self.invariant.all;
-      told = c.self.invariant.told ∙ sym (free_stays slots c.in-Some.place c.index_mut.result.now c.enter_slot.new.slot at.0 full);
+      reported = c.self.invariant.reported ∙ sym (free_stays slots c.in-Some.place c.index_mut.result.now c.enter_slot.new.slot at.0 full);
     }
 
 pub returns-in-Some-clause-next : goal.returns-in-Some-clause-next

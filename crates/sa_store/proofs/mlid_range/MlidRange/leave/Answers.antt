@@ -12,16 +12,16 @@ use Rattle.sa_store.proofs.SlotLemmas.{free_stays}
 use Rattle.sa_store.proofs.mlid_range.MlidRange.leave.Goals as goal
 
 pub returns-then-not-names_base-clause-next : goal.returns-then-not-names_base-clause-next
-returns-then-not-names_base-clause-next g c ports tells kept =
+returns-then-not-names_base-clause-next g c ports reports kept =
     let leave = c.args.leave.now in
     let other : names_base leave.base c.args.self.now.base ≡ false = rw c.base.ensures.value at (sym c.names_base.ensures ∙ c.if-not-names_base.true) in
     not_named ports leave c.args.self.now other (record { own = c.requires.own; settled = c.requires.settled; kept = kept })
 
 pub returns-then-not-names_base-clause-changed : goal.returns-then-not-names_base-clause-changed
-returns-then-not-names_base-clause-changed g c ports tells adapters lids own = sym (unchanged ports c.args.self.now)
+returns-then-not-names_base-clause-changed g c ports reports adapters lids own = sym (unchanged ports c.args.self.now)
 
 pub returns-in_default-clause-next : goal.returns-in_default-clause-next
-returns-in_default-clause-next g c ports tells kept =
+returns-in_default-clause-next g c ports reports kept =
     let leave = c.args.leave.now in
     let mgid = ap (λ (leave : Leave). leave.mgid) c.leave.view_is in
     let none : position (holds_mgid leave.mgid) c.self.inside.slots.items ≡ None = rw (c.deref.ensures.value, mgid) at (sym c.place_of.ensures ∙ c.in_default.is) in
@@ -29,7 +29,7 @@ returns-in_default-clause-next g c ports tells kept =
     (record { own = c.requires.own; settled = c.requires.settled; kept = kept })
 
 pub returns-in_default-clause-changed : goal.returns-in_default-clause-changed
-returns-in_default-clause-changed g c ports tells adapters lids own = sym (unchanged ports c.args.self.now)
+returns-in_default-clause-changed g c ports reports adapters lids own = sym (unchanged ports c.args.self.now)
 
 pub leave_slot-changes-requires-clause-settled : goal.leave_slot-changes-requires-clause-settled
 leave_slot-changes-requires-clause-settled g c =
@@ -48,12 +48,12 @@ invariant_of-self g c =
     let place : position (holds_mgid c.leave.inside.mgid) slots ≡ Some i = rw c.deref.ensures.value at (sym c.in-Some.ensures) in
     let at = position-Some (holds_mgid c.leave.inside.mgid) slots i d place in
     let none : is_some new ≡ false = written slots i new c.index.result.now at.0 c.index.ensures ∙ c.is_none.ensures ∙ ap not c.if-is_none.true in
-    let told = c.self.invariant.told in
+    let reported = c.self.invariant.reported in
     record {
       numbered = c.self.invariant.numbered;
       based = c.self.invariant.based;
       all = length-set slots i new ∙ c.self.invariant.all;
-      told = rw told (bit_freed slots i d new c.self.invariant.all at.0 (holds_some c.leave.inside.mgid (get_or slots i d) at.1) none);
+      reported = rw reported (bit_freed slots i d new c.self.invariant.all at.0 (holds_some c.leave.inside.mgid (get_or slots i d) at.1) none);
     }
 
 pub invariant_of-self-else-is_none : goal.invariant_of-self-else-is_none
@@ -69,11 +69,11 @@ invariant_of-self-else-is_none g c =
       numbered = c.self.invariant.numbered;
       based = c.self.invariant.based;
       all = length-set slots i new ∙ c.self.invariant.all;
-      told = c.self.invariant.told ∙ sym (free_stays slots i d new at.0 (full ∙ sym (holds_some c.leave.inside.mgid (get_or slots i d) at.1)));
+      reported = c.self.invariant.reported ∙ sym (free_stays slots i d new at.0 (full ∙ sym (holds_some c.leave.inside.mgid (get_or slots i d) at.1)));
     }
 
 pub returns-then-is_none-clause-next : goal.returns-then-is_none-clause-next
-returns-then-is_none-clause-next g c ports tells kept =
+returns-then-is_none-clause-next g c ports reports kept =
     let leave = c.args.leave.now in
     let slots = c.self.inside.slots.items in
     let i = c.in-Some.place in
@@ -84,13 +84,13 @@ returns-then-is_none-clause-next g c ports tells kept =
     let named : names_base leave.base c.self.inside.base ≡ true =
     ap (names_base leave.base) base ∙ rw c.base.ensures.value at (sym c.names_base.ensures ∙ c.if-not-names_base.false) in
     let new : c.leave_slot-changes.new.slot ≡ left_slot ports c.self.inside.base leave (get_or slots i d) =
-    c.leave_slot-changes.ensures.next ports c.args.self.now.base tells ∙ ap (left_slot ports c.args.self.now.base leave) c.index_mut.ensures.value
+    c.leave_slot-changes.ensures.next ports c.args.self.now.base reports ∙ ap (left_slot ports c.args.self.now.base leave) c.index_mut.ensures.value
     ∙ ap (λ (base : ℕ). left_slot ports base leave (get_or slots i d)) (sym base) in
     rw new (partition_left ports leave c.self.inside.number c.self.inside.base slots i d c.args.self.now c.self.view_is place named
     (record { own = c.requires.own; settled = c.requires.settled; kept = kept }))
 
 pub returns-then-is_none-clause-changed : goal.returns-then-is_none-clause-changed
-returns-then-is_none-clause-changed g c ports tells adapters lids own =
+returns-then-is_none-clause-changed g c ports reports adapters lids own =
     let leave = c.args.leave.now in
     let slots = c.self.inside.slots.items in
     let i = c.in-Some.place in
@@ -99,16 +99,16 @@ returns-then-is_none-clause-changed g c ports tells adapters lids own =
     let base = ap (λ (partition : PartitionGroups). partition.base) c.self.view_is in
     let place : position (holds_mgid leave.mgid) slots ≡ Some i = rw (c.deref.ensures.value, mgid) at (sym c.in-Some.ensures) in
     let new : c.leave_slot-changes.new.slot ≡ left_slot ports c.self.inside.base leave (get_or slots i d) =
-    c.leave_slot-changes.ensures.next ports c.args.self.now.base tells ∙ ap (left_slot ports c.args.self.now.base leave) c.index_mut.ensures.value
+    c.leave_slot-changes.ensures.next ports c.args.self.now.base reports ∙ ap (left_slot ports c.args.self.now.base leave) c.index_mut.ensures.value
     ∙ ap (λ (base : ℕ). left_slot ports base leave (get_or slots i d)) (sym base) in
-    let told : c.leave_slot-changes.result ≡ slot_changes ports c.self.inside.base leave (get_or slots i d) =
-    c.leave_slot-changes.ensures.changed ports c.args.self.now.base tells adapters
+    let reported : c.leave_slot-changes.result ≡ slot_changes ports c.self.inside.base leave (get_or slots i d) =
+    c.leave_slot-changes.ensures.changed ports c.args.self.now.base reports adapters
     ∙ ap (slot_changes ports c.args.self.now.base leave) c.index_mut.ensures.value
     ∙ ap (λ (base : ℕ). slot_changes ports base leave (get_or slots i d)) (sym base) in
-    rw new (told ∙ partition_changed ports c.self.inside.number c.self.inside.base leave slots i d c.args.self.now c.self.view_is place c.requires.settled lids own)
+    rw new (reported ∙ partition_changed ports c.self.inside.number c.self.inside.base leave slots i d c.args.self.now c.self.view_is place c.requires.settled lids own)
 
 pub returns-else-is_none-clause-next : goal.returns-else-is_none-clause-next
-returns-else-is_none-clause-next g c ports tells kept =
+returns-else-is_none-clause-next g c ports reports kept =
     let leave = c.args.leave.now in
     let slots = c.self.inside.slots.items in
     let i = c.in-Some.place in
@@ -119,13 +119,13 @@ returns-else-is_none-clause-next g c ports tells kept =
     let named : names_base leave.base c.self.inside.base ≡ true =
     ap (names_base leave.base) base ∙ rw c.base.ensures.value at (sym c.names_base.ensures ∙ c.if-not-names_base.false) in
     let new : c.leave_slot-changes.new.slot ≡ left_slot ports c.self.inside.base leave (get_or slots i d) =
-    c.leave_slot-changes.ensures.next ports c.args.self.now.base tells ∙ ap (left_slot ports c.args.self.now.base leave) c.index_mut.ensures.value
+    c.leave_slot-changes.ensures.next ports c.args.self.now.base reports ∙ ap (left_slot ports c.args.self.now.base leave) c.index_mut.ensures.value
     ∙ ap (λ (base : ℕ). left_slot ports base leave (get_or slots i d)) (sym base) in
     rw new (partition_left ports leave c.self.inside.number c.self.inside.base slots i d c.args.self.now c.self.view_is place named
     (record { own = c.requires.own; settled = c.requires.settled; kept = kept }))
 
 pub returns-else-is_none-clause-changed : goal.returns-else-is_none-clause-changed
-returns-else-is_none-clause-changed g c ports tells adapters lids own =
+returns-else-is_none-clause-changed g c ports reports adapters lids own =
     let leave = c.args.leave.now in
     let slots = c.self.inside.slots.items in
     let i = c.in-Some.place in
@@ -134,10 +134,10 @@ returns-else-is_none-clause-changed g c ports tells adapters lids own =
     let base = ap (λ (partition : PartitionGroups). partition.base) c.self.view_is in
     let place : position (holds_mgid leave.mgid) slots ≡ Some i = rw (c.deref.ensures.value, mgid) at (sym c.in-Some.ensures) in
     let new : c.leave_slot-changes.new.slot ≡ left_slot ports c.self.inside.base leave (get_or slots i d) =
-    c.leave_slot-changes.ensures.next ports c.args.self.now.base tells ∙ ap (left_slot ports c.args.self.now.base leave) c.index_mut.ensures.value
+    c.leave_slot-changes.ensures.next ports c.args.self.now.base reports ∙ ap (left_slot ports c.args.self.now.base leave) c.index_mut.ensures.value
     ∙ ap (λ (base : ℕ). left_slot ports base leave (get_or slots i d)) (sym base) in
-    let told : c.leave_slot-changes.result ≡ slot_changes ports c.self.inside.base leave (get_or slots i d) =
-    c.leave_slot-changes.ensures.changed ports c.args.self.now.base tells adapters
+    let reported : c.leave_slot-changes.result ≡ slot_changes ports c.self.inside.base leave (get_or slots i d) =
+    c.leave_slot-changes.ensures.changed ports c.args.self.now.base reports adapters
     ∙ ap (slot_changes ports c.args.self.now.base leave) c.index_mut.ensures.value
     ∙ ap (λ (base : ℕ). slot_changes ports base leave (get_or slots i d)) (sym base) in
-    rw new (told ∙ partition_changed ports c.self.inside.number c.self.inside.base leave slots i d c.args.self.now c.self.view_is place c.requires.settled lids own)
+    rw new (reported ∙ partition_changed ports c.self.inside.number c.self.inside.base leave slots i d c.args.self.now c.self.view_is place c.requires.settled lids own)

@@ -29,12 +29,12 @@ returns-in_err-catch_up-clause-reads g c =
     rw (p.1, p.2)
     (faulty_reads (Unit {0}) _ _ before.read before.consumed c.args.self.now c.catch_up.new.self _ _ c.in_err-catch_up.field-0.0
     (stops_unwritten (lines_behind [] before.read) c.args.self.now c.loop-turn.self c.catch_up.new.self _ _ _ before.carries (Unit {0}) (Unit {0}) c.in_err-catch_up.field-0.0
-    c.in_err-catch_up.ensures.tells))
+    c.in_err-catch_up.ensures.reports))
 
 pub returns-in-Ok-eq0-clause-reads : goal.returns-in-Ok-eq0-clause-reads
 returns-in-Ok-eq0-clause-reads g c =
     let before = c.loop-turn.invariant in
-    let still = carries_written (lines_behind [] before.read) c.args.self.now c.loop-turn.self c.catch_up.new.self _ _ _ before.carries c.in_ok-catch_up.ensures.tells in
+    let still = carries_written (lines_behind [] before.read) c.args.self.now c.loop-turn.self c.catch_up.new.self _ _ _ before.carries c.in_ok-catch_up.ensures.reports in
     let bytes = rw c.in-Ok-eq0.is at c.next_piece.ensures.bytes in
     let room = c.next_piece.auto.piece in
     all_reads (Unit {0}) _ _ before.read (consumes_none _ _ _ before.read c.next_piece.new.piece c.in-Ok-eq0.field-0 c.in-Ok-eq0.field-0-test before.consumed bytes.0) c.args.self.now c.take_last.new.self _ _ c.take_last.result
@@ -43,7 +43,7 @@ returns-in-Ok-eq0-clause-reads g c =
 pub returns-in_err-take_piece-in-Ok-clause-reads : goal.returns-in_err-take_piece-in-Ok-clause-reads
 returns-in_err-take_piece-in-Ok-clause-reads g c =
     let before = c.loop-turn.invariant in
-    let still = carries_written (lines_behind [] before.read) c.args.self.now c.loop-turn.self c.catch_up.new.self _ _ _ before.carries c.in_ok-catch_up.ensures.tells in
+    let still = carries_written (lines_behind [] before.read) c.args.self.now c.loop-turn.self c.catch_up.new.self _ _ _ before.carries c.in_ok-catch_up.ensures.reports in
     let p = err_from_is_err_and c.from_residual-in_err-take_piece-in-Ok.result c.from_residual-in_err-take_piece-in-Ok.ensures.1 in
     rw (p.1, p.2)
     (faulty_reads (Unit {0}) _ _ _ (consumes_more _ _ _ before.read _ before.consumed c.in-Ok.ensures.bytes.0) c.args.self.now c.take_piece.new.self _ _ c.in_err-take_piece-in-Ok.field-0.0
@@ -53,13 +53,13 @@ returns-in_err-take_piece-in-Ok-clause-reads g c =
 pub returns-in-Err-2-clause-reads : goal.returns-in-Err-2-clause-reads
 returns-in-Err-2-clause-reads g c =
     let before = c.loop-turn.invariant in
-    let still = carries_written (lines_behind [] before.read) c.args.self.now c.loop-turn.self c.catch_up.new.self _ _ _ before.carries c.in_ok-catch_up.ensures.tells in
+    let still = carries_written (lines_behind [] before.read) c.args.self.now c.loop-turn.self c.catch_up.new.self _ _ _ before.carries c.in_ok-catch_up.ensures.reports in
     unread_reads (Unit {0}) _ _ before.read (consumes_still _ _ _ before.read before.consumed c.in-Err-2.ensures.bytes) c.args.self.now c.catch_up.new.self _ _ still
 
 pub loop-turn-preserved : goal.loop-turn-preserved
 loop-turn-preserved g c =
     let before = c.loop-turn.invariant in
-    let still = carries_written (lines_behind [] before.read) c.args.self.now c.loop-turn.self c.catch_up.new.self _ _ _ before.carries c.in_ok-catch_up.ensures.tells in
+    let still = carries_written (lines_behind [] before.read) c.args.self.now c.loop-turn.self c.catch_up.new.self _ _ _ before.carries c.in_ok-catch_up.ensures.reports in
     let in_time = λ (waits : g.R.Reader.waits c.args.reader.now ≡ true). more_reads c.args.self.now c.requires.text c.requires.taken c.requires.fresh before.read c.catch_up.new.self _ _ _ _ _ _ _ (before.in_time waits) (c.in_ok-catch_up.ensures.written (before.waits ∙ waits)) before.consumed still c.next_piece.ensures.noted in
     elim c.match-next_piece.branch [
       | in-Ok+in_ok-take_piece-in-Ok w ↦
@@ -72,7 +72,7 @@ loop-turn-preserved g c =
             begun = rw w.begun-is (begun_more before.read piece c.loop-turn.begun.items before.begun _ taken.begun);
             few =
                 let few = before.few in
-                let same = c.in_ok-catch_up.ensures.tells.2 in
+                let same = c.in_ok-catch_up.ensures.reports.2 in
                 let more = taken.few in
                 let most = short w.in-Ok.count c.next_piece.new.piece in
                 let room = c.next_piece.auto.piece in
@@ -94,7 +94,7 @@ loop-turn-preserved g c =
             consumed = consumes_still _ _ _ before.read before.consumed w.in-Err.ensures.bytes;
             carries = rw (w.self-is, w.writer-is) still;
             begun = rw w.begun-is before.begun;
-            few = let few = before.few in let same = c.in_ok-catch_up.ensures.tells.2 in rw w.self-is (omega (arith, few, same));
+            few = let few = before.few in let same = c.in_ok-catch_up.ensures.reports.2 in rw w.self-is (omega (arith, few, same));
             reads = λ sure. c.next_piece.ensures.stays (before.reads sure);
             grows = λ sure. absurd (false_is_not_true (w.in-Err.ensures.sure (before.reads sure)));
             waits = c.next_piece.ensures.waits ∙ before.waits;
@@ -106,19 +106,19 @@ loop-turn-preserved g c =
 pub returns-in-Ok-eq0-clause-in_time : goal.returns-in-Ok-eq0-clause-in_time
 returns-in-Ok-eq0-clause-in_time g c waits =
     let before = c.loop-turn.invariant in
-    let still = carries_written (lines_behind [] before.read) c.args.self.now c.loop-turn.self c.catch_up.new.self _ _ _ before.carries c.in_ok-catch_up.ensures.tells in
+    let still = carries_written (lines_behind [] before.read) c.args.self.now c.loop-turn.self c.catch_up.new.self _ _ _ before.carries c.in_ok-catch_up.ensures.reports in
     more_reads c.args.self.now c.requires.text c.requires.taken c.requires.fresh before.read c.catch_up.new.self _ _ _ _ _ _ _ (before.in_time waits) (c.in_ok-catch_up.ensures.written (before.waits ∙ waits)) before.consumed still c.next_piece.ensures.noted
 
 pub returns-in_err-take_piece-in-Ok-clause-in_time : goal.returns-in_err-take_piece-in-Ok-clause-in_time
 returns-in_err-take_piece-in-Ok-clause-in_time g c waits =
     let before = c.loop-turn.invariant in
-    let still = carries_written (lines_behind [] before.read) c.args.self.now c.loop-turn.self c.catch_up.new.self _ _ _ before.carries c.in_ok-catch_up.ensures.tells in
+    let still = carries_written (lines_behind [] before.read) c.args.self.now c.loop-turn.self c.catch_up.new.self _ _ _ before.carries c.in_ok-catch_up.ensures.reports in
     more_reads c.args.self.now c.requires.text c.requires.taken c.requires.fresh before.read c.catch_up.new.self _ _ _ _ _ _ _ (before.in_time waits) (c.in_ok-catch_up.ensures.written (before.waits ∙ waits)) before.consumed still c.next_piece.ensures.noted
 
 pub returns-in-Err-2-clause-in_time : goal.returns-in-Err-2-clause-in_time
 returns-in-Err-2-clause-in_time g c waits =
     let before = c.loop-turn.invariant in
-    let still = carries_written (lines_behind [] before.read) c.args.self.now c.loop-turn.self c.catch_up.new.self _ _ _ before.carries c.in_ok-catch_up.ensures.tells in
+    let still = carries_written (lines_behind [] before.read) c.args.self.now c.loop-turn.self c.catch_up.new.self _ _ _ before.carries c.in_ok-catch_up.ensures.reports in
     more_reads c.args.self.now c.requires.text c.requires.taken c.requires.fresh before.read c.catch_up.new.self _ _ _ _ _ _ _ (before.in_time waits) (c.in_ok-catch_up.ensures.written (before.waits ∙ waits)) before.consumed still c.next_piece.ensures.noted
 
 pub returns-clause-reads : goal.returns-clause-reads

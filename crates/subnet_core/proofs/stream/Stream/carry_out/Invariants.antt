@@ -1,7 +1,7 @@
 -- What was read so far is carried out, but for the line that is begun.
 use Rattle.std.proofs.Common.{◌≡◌, ◌≤◌, ◌*◌, true, length, List, ℕ, []}
 use Rattle.std.specs.Io.KnownBytes.{Consumes}
-use Rattle.subnet_core.specs.Stream.{reported}
+use Rattle.subnet_core.specs.Stream.{report_so_far}
 use Rattle.subnet_core.specs.StreamSteps.{Carries, begun_behind, lines_behind}
 use Rattle.text_streams.specs.Reading.{AreInTime}
 use Rattle.subnet_core.proofs.stream.Stream.carry_out.Given as goal
@@ -16,7 +16,7 @@ invariant-loop-turn g l = record {
   reads : g.R.Reader.is_sure l.fn.reader ≡ true → g.R.Reader.is_sure l.reader ≡ true;
   grows : g.R.Reader.is_sure l.fn.reader ≡ true → l._turn ≤ length read;
   waits : g.R.Reader.waits l.reader ≡ g.R.Reader.waits l.fn.reader;
-  in_time : g.R.Reader.waits l.fn.reader ≡ true → AreInTime (reported l.fn.self.subnet.roster) (g.R.Reader.remaining l.fn.reader)
+  in_time : g.R.Reader.waits l.fn.reader ≡ true → AreInTime (report_so_far l.fn.self.subnet.inventory) (g.R.Reader.remaining l.fn.reader)
       (g.W.Output.contents l.fn.writer) (g.R.Reader.moments l.fn.reader) (g.R.Reader.moments l.reader);
   stays : g.W.Output.is_sure l.fn.writer ≡ true → g.W.Output.is_sure l.writer ≡ true;
 }

@@ -2,7 +2,7 @@ use Rattle.std.proofs.Common.{◌∙◌, ap, map, refl, Ok}
 use Rattle.subnet_sends.specs.Sends.{event_of}
 use Rattle.std.proofs.lemmas.Result.{err_from_is_err_and}
 use Rattle.subnet_core.proofs.LineLemmas.{quiet_takes, said_takes, unparsed_takes}
-use Rattle.subnet_core.proofs.PutLemmas.{loses_told}
+use Rattle.subnet_core.proofs.PutLemmas.{loses_reported}
 use Rattle.subnet_core.specs.EventLines.{report_text}
 use Rattle.subnet_core.proofs.stream.Stream.take_line.Goals as goal
 
@@ -15,7 +15,7 @@ returns-in_err-command-clause-takes g c =
 pub returns-in_err-events-in-Some-clause-takes : goal.returns-in_err-events-in-Some-clause-takes
 returns-in_err-events-in-Some-clause-takes g c =
     let p = err_from_is_err_and c.from_residual-in_err-events-in-Some.result c.from_residual-in_err-events-in-Some.ensures.1 in
-    rw (p.1, p.2, ← c.self.view_is) (loses_told _ _ _)
+    rw (p.1, p.2, ← c.self.view_is) (loses_reported _ _ _)
 
 pub returns-in_ok-events-in-Some-clause-takes : goal.returns-in_ok-events-in-Some-clause-takes
 returns-in_ok-events-in-Some-clause-takes g c =
@@ -24,8 +24,8 @@ returns-in_ok-events-in-Some-clause-takes g c =
     let after = c.in_ok-events-in-Some.ensures in
     let next = after.next in
     rw (← c.self.view_is)
-    (said_takes _ c.args.line.now (g.W.Output.contents c.args.writer.now) c.in-Some.command _ refl parsed c.step.new.self next.roster (next.administration sender) (Unit {0}) c.tell.new.self _ _ c.tell.result
-    (report_text c.step.new.self.roster.configuration.ports (map event_of c.deref.result.now)) (rw (next.roster, c.deref.ensures.value, after.events sender) refl) c.tell.ensures.tells)
+    (said_takes _ c.args.line.now (g.W.Output.contents c.args.writer.now) c.in-Some.command _ refl parsed c.step.new.self next.inventory (next.administration sender) (Unit {0}) c.write_reports.new.self _ _ c.write_reports.result
+    (report_text c.step.new.self.inventory.configuration.ports (map event_of c.deref.result.now)) (rw (next.inventory, c.deref.ensures.value, after.events sender) refl) c.write_reports.ensures.reports)
 
 pub returns-in-None-clause-takes : goal.returns-in-None-clause-takes
 returns-in-None-clause-takes g c =

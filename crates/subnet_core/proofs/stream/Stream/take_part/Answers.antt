@@ -1,14 +1,14 @@
 use Rattle.std.proofs.Common.{◌∙◌, sym}
 use Rattle.std.proofs.lemmas.Result.{err_from_is_err_and}
 use Rattle.subnet_core.proofs.PartLemmas.{begun_part, whole_part}
-use Rattle.subnet_core.proofs.PutLemmas.{loses_told}
+use Rattle.subnet_core.proofs.PutLemmas.{loses_reported}
 use Rattle.subnet_core.proofs.TakeLemmas.{not_begun, on_ok, takes_nothing}
 use Rattle.subnet_core.proofs.stream.Stream.take_part.Goals as goal
 
 pub returns-in_err-extend_from_slice-clause-takes : goal.returns-in_err-extend_from_slice-clause-takes
 returns-in_err-extend_from_slice-clause-takes g c =
     let p = err_from_is_err_and c.from_residual.result c.from_residual.ensures.1 in
-    rw (p.1, p.2) (loses_told _ _ _)
+    rw (p.1, p.2) (loses_reported _ _ _)
 
 pub returns-then-not-is_whole-clause-takes : goal.returns-then-not-is_whole-clause-takes
 returns-then-not-is_whole-clause-takes g c =
@@ -32,7 +32,7 @@ returns-then-is_empty-clause-begun g c =
 pub returns-in_err-extend_from_slice-2-clause-takes : goal.returns-in_err-extend_from_slice-2-clause-takes
 returns-in_err-extend_from_slice-2-clause-takes g c =
     let p = err_from_is_err_and c.from_residual-in_err-extend_from_slice-2.result c.from_residual-in_err-extend_from_slice-2.ensures.1 in
-    rw (p.1, p.2) (loses_told _ _ _)
+    rw (p.1, p.2) (loses_reported _ _ _)
 
 pub returns-clause-takes : goal.returns-clause-takes
 returns-clause-takes g c =

@@ -6,6 +6,6 @@ use Rattle.subnet_sends.specs.Sends.{event_of}
 
 abbrev pub invariant-loop-command : goal.invariant-loop-command
 invariant-loop-command l =
-    (map event_of l.events.items ++ events_from (step_by subnet_administration l.initial.self.roster.configuration) l.self.administration (drop l.command-index l.commands)
-    ≡ map event_of l.initial.events.items ++ events_from (step_by subnet_administration l.initial.self.roster.configuration) l.initial.self.administration l.commands)
-    × (l.self.roster ≡ l.initial.self.roster)
+    (map event_of l.events.items ++ events_from (step_by subnet_administration l.initial.self.inventory.configuration) l.self.administration (drop l.command-index l.commands)
+    ≡ map event_of l.initial.events.items ++ events_from (step_by subnet_administration l.initial.self.inventory.configuration) l.initial.self.administration l.commands)
+    × (l.self.inventory ≡ l.initial.self.inventory)

@@ -3,7 +3,7 @@ use Rattle.std.proofs.lemmas.List.{drop_all}
 use Rattle.std.proofs.lemmas.List.Elements.{All-get_or}
 use Rattle.subnet_core.proofs.AfterLemmas.{next_command, none_more, one_more}
 use Rattle.subnet_core.specs.After.{IsThrough}
-use Rattle.subnet_core.specs.Roster.{RosterState}
+use Rattle.subnet_core.specs.Inventory.{InventoryState}
 use Rattle.subnet_core.specs.Senders.{NamesSender}
 use Rattle.subnet_model.specs.declared.command.Command.{Command}
 use Rattle.subnet_core.proofs.subnet.Subnet.run_through.Goals as goal
@@ -17,12 +17,12 @@ loop-command-preserved c =
     let i = c.loop-command.command-index in
     let command = c.command-item.result in
     let within = c.loop-command-test.true in
-    let listed : NamesSender c.args.self.now.roster.configuration.ports command =
-    subst (NamesSender c.args.self.now.roster.configuration.ports) (sym c.command-item.is)
-    (All-get_or (NamesSender c.args.self.now.roster.configuration.ports) commands i command within c.requires) in
-    let names : NamesSender c.loop-command.self.roster.configuration.ports command =
-    subst (λ (roster : RosterState). NamesSender roster.configuration.ports command) (sym c.loop-command.invariant.0) listed in (
-      c.in_ok-step.ensures.next.roster ∙ c.loop-command.invariant.0,
+    let listed : NamesSender c.args.self.now.inventory.configuration.ports command =
+    subst (NamesSender c.args.self.now.inventory.configuration.ports) (sym c.command-item.is)
+    (All-get_or (NamesSender c.args.self.now.inventory.configuration.ports) commands i command within c.requires) in
+    let names : NamesSender c.loop-command.self.inventory.configuration.ports command =
+    subst (λ (inventory : InventoryState). NamesSender inventory.configuration.ports command) (sym c.loop-command.invariant.0) listed in (
+      c.in_ok-step.ensures.next.inventory ∙ c.loop-command.invariant.0,
       λ new through.
           c.loop-command.invariant.1 new
           (subst (λ (rest : List Command). IsThrough rest c.loop-command.self new) (sym (next_command commands i command within (sym c.command-item.is)))

@@ -1,5 +1,5 @@
 use Rattle.std.proofs.Common.{◌==◌, ap, ◌∙◌}
-use Rattle.netdiscover_file.proofs.IndexLemmas.{place_by_key}
+use Rattle.step_results.proofs.PlaceLemmas.{place_by_key}
 use Rattle.topology_import.specs.Ends.{guid_of, place_of_end}
 use Rattle.topology_import.proofs.ends.EndList.place_of.Goals as goal
 

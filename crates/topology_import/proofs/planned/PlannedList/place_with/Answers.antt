@@ -1,5 +1,5 @@
 use Rattle.std.proofs.Common.{◌==◌, ap, ◌∙◌}
-use Rattle.netdiscover_file.proofs.IndexLemmas.{place_by_key}
+use Rattle.step_results.proofs.PlaceLemmas.{place_by_key}
 use Rattle.topology_import.specs.Text.{place_with}
 use Rattle.topology_import.proofs.planned.PlannedList.place_with.Goals as goal
 

@@ -1,5 +1,0 @@
-use Rattle.attr_tables.proofs.AttributeLemmas.{attributes}
-use Rattle.attr_tables.proofs.laws.attributes_are_spelled.Goals as goal
-
-pub returns : goal.returns
-returns c = attributes

@@ -1,5 +1,0 @@
-use Rattle.cable_cuts.proofs.OnceLemmas.{masks_are_told_once}
-use Rattle.cable_cuts.proofs.laws.masks_are_told_once.Goals as goal
-
-pub returns : goal.returns
-returns c = masks_are_told_once

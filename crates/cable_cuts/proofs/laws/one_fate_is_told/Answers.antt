@@ -1,5 +1,0 @@
-use Rattle.cable_cuts.proofs.FateLemmas.{one_fate_is_told}
-use Rattle.cable_cuts.proofs.laws.one_fate_is_told.Goals as goal
-
-pub returns : goal.returns
-returns c = one_fate_is_told

@@ -1,0 +1,219 @@
+-- The names of files are words as they stand.
+use Rattle.std.proofs.Common.{ℕ, ◌≡◌, ◌∙◌, Ok, ap, Bool, true, false, List, [], ◌∷◌, Option, Some, None, option_map, codes, refl, subst, if◌then◌else◌}
+use Rattle.std.specs.List.{All}
+use Rattle.std.specs.Option.{option_to_list}
+use Rattle.std.specs.Str.{bytes_eq}
+use Rattle.std.proofs.lemmas.List.Elements.{All-append, All-cons, All-nil}
+use Rattle.clap.specs.Words.{Row, Text, first_of}
+use Rattle.clap.proofs.OnLiterals.{clap_on_literals}
+use Rattle.code_texts.specs.Codes.{code_of}
+use Rattle.code_texts.specs.declared.code.Code.{Code}
+use Rattle.cli_args.specs.Laws.{FilesAreNamedAsGiven, FilesStandInOrder, IsWordOf, NamesKeepTheirBlanks}
+use Rattle.cli_args.specs.Words.{Names, audit_by, asked_by, asked_by_command, asked_of, asked_or, call_in, compare_by, cuts_by, diff_by, explain_by, file_in, graph_with, guid_by, import_by, is_given, in_subnet, inspect_by, opened_for, run_by, scripts_by, smps_by}
+use Rattle.cli_args.specs.Words.{subcommand_in, text_for, trace_by, work_names}
+use Rattle.cli_args.specs.declared.call.Call.{Call}
+use Rattle.cli_args.specs.declared.call.CutView.TheVariants.{All as AllCuts, One, Picture}
+use Rattle.cli_args.specs.declared.call.Call.TheVariants.{Explain}
+use Rattle.cli_args.specs.declared.call.Work.{Work}
+use Rattle.cli_args.specs.declared.call.Work.TheVariants.{Check, Compare, Cuts, Diff, Inspect, Run, Shares, Smps}
+use Rattle.cli_args.specs.declared.call.Inspection.{Inspection}
+use Rattle.cli_args.specs.declared.call.Inspection.TheVariants.{Graph, Keys, Tables}
+use Rattle.cli_args.specs.declared.call.Subcommand.{Subcommand}
+use Rattle.cli_args.specs.declared.call.Subcommand.TheVariants as command
+
+-- the names in some work
+abbrev WorkIsGiven : List Row → Option (Work Text Text Text) → Type 0
+WorkIsGiven rows work = (asked : Work Text Text Text) → work ≡ Some asked → All (IsWordOf rows) (work_names asked)
+
+same_call : (found call : Call Names Text) → Some found ≡ Some call → found ≡ call
+same_call found call e = cc
+
+-- the names that are opened for what is asked, if something is
+abbrev IsGiven : List Row → Option (Call Names Text) → Type 0
+IsGiven rows found = (call : Call Names Text) → found ≡ Some call → All (IsWordOf rows) (opened_for (Ok call))
+
+-- a word for a file, which `-` is not
+file_given : (rows : List Row) (word : Text) → IsWordOf rows word → All (IsWordOf rows) (option_to_list (file_in word))
+file_given rows word is = by (bytes_eq word (codes "-"))
+  where
+    by : (b : Bool) → All (IsWordOf rows) (option_to_list (if b then None else Some word))
+    by true = All-nil (IsWordOf rows)
+    by false = All-cons (IsWordOf rows) word [] is (All-nil (IsWordOf rows))
+
+subnet_given : (rows : List Row) (work : Option (Work Text Text Text)) → WorkIsGiven rows work → IsGiven rows (in_subnet rows work)
+subnet_given rows work given call is = by (first_of (codes "TOPO") rows) refl (first_of (codes "PARTS") rows) refl work refl is
+  where
+    by : (topology : Option Text) → first_of (codes "TOPO") rows ≡ topology → (partitions : Option Text) → first_of (codes "PARTS") rows ≡ partitions
+        → (w : Option (Work Text Text Text)) → work ≡ w → asked_by topology partitions w ≡ Some call → All (IsWordOf rows) (opened_for (Ok call))
+    by (Some topology) t (Some partitions) p (Some w) e is =
+        subst (λ (asked : Call Names Text). All (IsWordOf rows) (opened_for (Ok asked))) (same_call _ call is)
+        (All-cons (IsWordOf rows) topology _ (codes "TOPO", t)
+        (All-append (IsWordOf rows) _ _ (file_given rows partitions (codes "PARTS", p)) (given w e)))
+    by (Some topology) t (Some partitions) p None e is = absurd cc
+    by (Some topology) t None p w e is = absurd cc
+    by None t partitions p w e is = absurd cc
+
+-- work with no file
+without_file : (rows : List Row) (work : Work Text Text Text) → work_names work ≡ [] → WorkIsGiven rows (Some work)
+without_file rows work none asked e =
+    let same : work ≡ asked = cc in
+    subst (λ (w : Work Text Text Text). All (IsWordOf rows) (work_names w)) same (subst (λ (names : List Text). All (IsWordOf rows) names) none-back (All-nil (IsWordOf rows)))
+  where
+    none-back : [] ≡ work_names work
+    none-back = cc
+
+diff_given : (rows : List Row) → WorkIsGiven rows (diff_by (first_of (codes "PARTS2") rows))
+diff_given rows asked e = by (first_of (codes "PARTS2") rows) refl e
+  where
+    by : (second : Option Text) → first_of (codes "PARTS2") rows ≡ second → diff_by second ≡ Some asked → All (IsWordOf rows) (work_names asked)
+    by None at is = absurd cc
+    by (Some word) at is =
+        let same : Diff (file_in word) ≡ asked = cc in
+        subst (λ (w : Work Text Text Text). All (IsWordOf rows) (work_names w)) same (file_given rows word (codes "PARTS2", at))
+
+run_given : (rows : List Row) → WorkIsGiven rows (run_by (first_of (codes "SCRIPT") rows))
+run_given rows asked e = by (first_of (codes "SCRIPT") rows) refl e
+  where
+    by : (script : Option Text) → first_of (codes "SCRIPT") rows ≡ script → run_by script ≡ Some asked → All (IsWordOf rows) (work_names asked)
+    by None at is = absurd cc
+    by (Some word) at is =
+        let same : Run word ≡ asked = cc in
+        subst (λ (w : Work Text Text Text). All (IsWordOf rows) (work_names w)) same (All-cons (IsWordOf rows) word [] (codes "SCRIPT", at) (All-nil (IsWordOf rows)))
+
+smps_given : (rows : List Row) → WorkIsGiven rows (smps_by (first_of (codes "SMPS") rows) (first_of (codes "SCRIPT") rows))
+smps_given rows asked e = by (first_of (codes "SMPS") rows) refl (first_of (codes "SCRIPT") rows) refl e
+  where
+    by : (smps : Option Text) → first_of (codes "SMPS") rows ≡ smps → (script : Option Text) → first_of (codes "SCRIPT") rows ≡ script
+        → smps_by smps script ≡ Some asked → All (IsWordOf rows) (work_names asked)
+    by None at script behind is = absurd cc
+    by (Some word) at None behind is =
+        let same : Smps None word ≡ asked = cc in
+        subst (λ (w : Work Text Text Text). All (IsWordOf rows) (work_names w)) same (All-cons (IsWordOf rows) word [] (codes "SMPS", at) (All-nil (IsWordOf rows)))
+    by (Some word) at (Some script) behind is =
+        let same : Smps (Some script) word ≡ asked = cc in
+        subst (λ (w : Work Text Text Text). All (IsWordOf rows) (work_names w)) same
+        (All-cons (IsWordOf rows) script (word ∷ []) (codes "SCRIPT", behind)
+        (All-cons (IsWordOf rows) word [] (codes "SMPS", at) (All-nil (IsWordOf rows))))
+
+cuts_given : (rows : List Row) (first second : Option Text) → WorkIsGiven rows (cuts_by first second)
+cuts_given rows None None asked e = without_file rows (Cuts AllCuts) refl asked e
+cuts_given rows (Some first) (Some second) asked e = without_file rows (Cuts (One first second)) refl asked e
+cuts_given rows (Some first) None asked e = absurd cc
+cuts_given rows None (Some second) asked e = absurd cc
+
+inspect_given : (rows : List Row) (seen : Option (Inspection Text)) → WorkIsGiven rows (inspect_by rows seen)
+inspect_given rows None asked e = absurd cc
+inspect_given rows (Some what) asked e =
+    let same : Inspect what (first_of (codes "SCRIPT") rows) ≡ asked = cc in
+    subst (λ (w : Work Text Text Text). All (IsWordOf rows) (work_names w)) same (by (first_of (codes "SCRIPT") rows) refl)
+  where
+    by : (script : Option Text) → first_of (codes "SCRIPT") rows ≡ script → All (IsWordOf rows) (option_to_list script)
+    by None at = All-nil (IsWordOf rows)
+    by (Some word) at = All-cons (IsWordOf rows) word [] (codes "SCRIPT", at) (All-nil (IsWordOf rows))
+
+graph_given : (rows : List Row) (cuts : Bool) → WorkIsGiven rows (graph_with cuts (first_of (codes "SCRIPT") rows))
+graph_given rows cuts asked e = by cuts (first_of (codes "SCRIPT") rows) refl e
+  where
+    by : (flag : Bool) (script : Option Text) → first_of (codes "SCRIPT") rows ≡ script → graph_with flag script ≡ Some asked → All (IsWordOf rows) (work_names asked)
+    by true (Some word) at is = absurd cc
+    by true None at is = without_file rows (Cuts Picture) refl asked is
+    by false script at is = inspect_given rows (Some Graph) asked (rw at is)
+
+compare_given : (rows : List Row) → WorkIsGiven rows (compare_by rows)
+compare_given rows asked e = by (first_of (codes "S1") rows) refl (first_of (codes "S2") rows) refl (first_of (codes "PORT") rows) e
+  where
+    by : (first : Option Text) → first_of (codes "S1") rows ≡ first → (second : Option Text) → first_of (codes "S2") rows ≡ second → (port : Option Text)
+        → scripts_by first second port ≡ Some asked → All (IsWordOf rows) (work_names asked)
+    by (Some first) one (Some second) two (Some port) is =
+        let same : Compare first second port ≡ asked = cc in
+        subst (λ (w : Work Text Text Text). All (IsWordOf rows) (work_names w)) same
+        (All-cons (IsWordOf rows) first (second ∷ []) (codes "S1", one)
+        (All-cons (IsWordOf rows) second [] (codes "S2", two) (All-nil (IsWordOf rows))))
+    by (Some first) one (Some second) two None is = absurd cc
+    by (Some first) one None two port is = absurd cc
+    by None one second two port is = absurd cc
+
+import_given : (rows : List Row) (manager : Option (Option ℕ)) → IsGiven rows (import_by (first_of (codes "NETDISCOVER") rows) manager)
+import_given rows manager call is = by (first_of (codes "NETDISCOVER") rows) refl manager is
+  where
+    by : (netdiscover : Option Text) → first_of (codes "NETDISCOVER") rows ≡ netdiscover → (guid : Option (Option ℕ)) → import_by netdiscover guid ≡ Some call
+        → All (IsWordOf rows) (opened_for (Ok call))
+    by (Some netdiscover) n (Some guid) is =
+        subst (λ (asked : Call Names Text). All (IsWordOf rows) (opened_for (Ok asked))) (same_call _ call is)
+        (All-cons (IsWordOf rows) netdiscover [] (codes "NETDISCOVER", n) (All-nil (IsWordOf rows)))
+    by (Some netdiscover) n None is = absurd cc
+    by None n guid is = absurd cc
+
+audit_given : (rows : List Row) → IsGiven rows (audit_by (first_of (codes "TOPO") rows) (first_of (codes "DUMP") rows))
+audit_given rows call is = by (first_of (codes "TOPO") rows) refl (first_of (codes "DUMP") rows) refl is
+  where
+    by : (topology : Option Text) → first_of (codes "TOPO") rows ≡ topology → (dump : Option Text) → first_of (codes "DUMP") rows ≡ dump
+        → audit_by topology dump ≡ Some call → All (IsWordOf rows) (opened_for (Ok call))
+    by (Some topology) t (Some dump) d is =
+        subst (λ (asked : Call Names Text). All (IsWordOf rows) (opened_for (Ok asked))) (same_call _ call is)
+        (All-cons (IsWordOf rows) topology (dump ∷ []) (codes "TOPO", t)
+        (All-cons (IsWordOf rows) dump [] (codes "DUMP", d) (All-nil (IsWordOf rows))))
+    by (Some topology) t None d is = absurd cc
+    by None t dump d is = absurd cc
+
+explain_given : (rows : List Row) (code : Option Text) → IsGiven rows (explain_by code)
+explain_given rows None call e =
+    subst (λ (asked : Call Names Text). All (IsWordOf rows) (opened_for (Ok asked))) (same_call _ call e) (All-nil (IsWordOf rows))
+explain_given rows (Some word) call e = by (code_of word) e
+  where
+    by : (found : Option Code) → option_map (λ code. Explain (Some code)) found ≡ Some call → All (IsWordOf rows) (opened_for (Ok call))
+    by None e = absurd cc
+    by (Some code) e =
+        subst (λ (asked : Call Names Text). All (IsWordOf rows) (opened_for (Ok asked))) (same_call _ call e) (All-nil (IsWordOf rows))
+
+command_given : (given : Subcommand) (rows : List Row) → IsGiven rows (call_in given rows)
+command_given command.Check rows = subnet_given rows _ (without_file rows Check refl)
+command_given command.Shares rows = subnet_given rows _ (without_file rows (Shares (first_of (codes "PORT") rows)) refl)
+command_given command.Diff rows = subnet_given rows _ (diff_given rows)
+command_given command.Tables rows = subnet_given rows _ (inspect_given rows (Some Tables))
+command_given command.Keys rows = subnet_given rows _ (inspect_given rows (Some Keys))
+command_given command.Trace rows = subnet_given rows _ (inspect_given rows (trace_by rows))
+command_given command.Graph rows = subnet_given rows _ (graph_given rows (is_given rows (codes "CUTS")))
+command_given command.Run rows = subnet_given rows _ (run_given rows)
+command_given command.Smp rows = subnet_given rows _ (smps_given rows)
+command_given command.Compare rows = subnet_given rows _ (compare_given rows)
+command_given command.Cuts rows = subnet_given rows _ (cuts_given rows (first_of (codes "PORT") rows) (first_of (codes "PORT2") rows))
+command_given command.Import rows = import_given rows (guid_by (first_of (codes "SM") rows))
+command_given command.Audit rows = audit_given rows
+command_given command.Explain rows = explain_given rows (first_of (codes "CODE") rows)
+
+pub files_are_given : FilesAreNamedAsGiven
+files_are_given word rows call is = by (subcommand_in word) is
+  where
+    call_by : (given : Subcommand) (found : Option (Call Names Text)) → call_in given rows ≡ found → asked_or (text_for given) found ≡ Ok call
+        → All (IsWordOf rows) (opened_for (Ok call))
+    call_by given (Some found) e is =
+        let same : found ≡ call = cc in
+        command_given given rows call (e ∙ ap (λ (c : Call Names Text). Some c) same)
+    call_by given None e is = absurd cc
+
+    by : (given : Option Subcommand) → asked_by_command given rows ≡ Ok call → All (IsWordOf rows) (opened_for (Ok call))
+    by (Some given) is = call_by given (call_in given rows) refl is
+    by None is = absurd cc
+
+pub blanks_are_kept : NamesKeepTheirBlanks
+unfolding clap_on_literals asked_of
+blanks_are_kept = record { plain = refl; before = refl; behind = refl; script = refl; looked = refl; dashes = refl; traced = refl; answered = refl; compared = refl; import = refl; audit = refl; dash = refl }
+
+pub files_stand_in_order : FilesStandInOrder
+unfolding clap_on_literals asked_of
+files_stand_in_order = record {
+  check = refl;
+  shares = refl;
+  diff = refl;
+  tables = refl;
+  keys = refl;
+  trace = refl;
+  graph = refl;
+  picture = refl;
+  run = refl;
+  smp = refl;
+  compare = refl;
+  cuts = refl;
+  audit = refl;
+}

@@ -1,0 +1,108 @@
+-- The commands of the program and their arguments, as clap reads them.
+use Rattle.std.specs.Prelude.{codes, Some, true}
+use Rattle.clap.specs.Words.{App, Rule, Text, new_app, new_rule, with_rule, with_subcommand}
+use Rattle.clap.specs.declared.builder.ArgAction.TheVariants.{Set, SetTrue}
+
+-- an argument that has to be given
+abbrev pub wanted : Text → Rule
+wanted name = record (new_rule name) { action = Some Set; required = true }
+
+-- an argument that may be given
+abbrev pub optional : Text → Rule
+optional name = record (new_rule name) { action = Some Set }
+
+-- a command that names a subnet by its topology and its partitions
+abbrev pub subnet_command : Text → App
+subnet_command name = with_rule (with_rule (new_app name) (wanted (codes "TOPO"))) (wanted (codes "PARTS"))
+
+abbrev pub check_command : App
+check_command = subnet_command (codes "check")
+
+abbrev pub shares_command : App
+shares_command = with_rule (subnet_command (codes "shares")) (optional (codes "PORT"))
+
+abbrev pub diff_command : App
+diff_command = with_rule (subnet_command (codes "diff")) (wanted (codes "PARTS2"))
+
+abbrev pub tables_command : App
+tables_command = with_rule (subnet_command (codes "tables")) (optional (codes "SCRIPT"))
+
+abbrev pub keys_command : App
+keys_command = with_rule (subnet_command (codes "keys")) (optional (codes "SCRIPT"))
+
+abbrev pub trace_command : App
+trace_command =
+    let from = with_rule (subnet_command (codes "trace")) (wanted (codes "PORT")) in
+    let packet = with_rule (with_rule from (wanted (codes "DLID"))) (wanted (codes "PKEY")) in
+    with_rule packet (optional (codes "SCRIPT"))
+
+-- `--cuts`
+abbrev pub cuts_flag : Rule
+cuts_flag = record (new_rule (codes "CUTS")) { long = Some (codes "cuts"); action = Some SetTrue }
+
+abbrev pub graph_command : App
+graph_command = with_rule (with_rule (subnet_command (codes "graph")) (optional (codes "SCRIPT"))) cuts_flag
+
+abbrev pub run_command : App
+run_command = with_rule (subnet_command (codes "run")) (wanted (codes "SCRIPT"))
+
+-- `--script SCRIPT`
+abbrev pub script_option : Rule
+script_option = record (new_rule (codes "SCRIPT")) { long = Some (codes "script"); action = Some Set; value_names = 1 }
+
+abbrev pub smp_command : App
+smp_command = with_rule (with_rule (subnet_command (codes "smp")) (wanted (codes "SMPS"))) script_option
+
+abbrev pub compare_command : App
+compare_command =
+    let scripts = with_rule (with_rule (subnet_command (codes "compare")) (wanted (codes "S1"))) (wanted (codes "S2")) in
+    with_rule scripts (wanted (codes "PORT"))
+
+abbrev pub cuts_command : App
+cuts_command = with_rule (with_rule (subnet_command (codes "cuts")) (optional (codes "PORT"))) (optional (codes "PORT2"))
+
+-- `--sm GUID`
+abbrev pub manager_option : Rule
+manager_option = record (new_rule (codes "SM")) { long = Some (codes "sm"); action = Some Set; value_names = 1 }
+
+abbrev pub import_command : App
+import_command = with_rule (with_rule (new_app (codes "import")) (wanted (codes "NETDISCOVER"))) manager_option
+
+abbrev pub audit_command : App
+audit_command = with_rule (with_rule (new_app (codes "audit")) (wanted (codes "TOPO"))) (wanted (codes "DUMP"))
+
+abbrev pub explain_command : App
+explain_command = with_rule (new_app (codes "explain")) (optional (codes "CODE"))
+
+-- the command line: one of the subcommands, with that one's arguments
+abbrev pub fabric_top : App
+fabric_top = let app = new_app (codes "fabric") in record app { top = record app.top { has_version = true; subcommand_required = true } }
+
+-- with the commands that list a subnet and what its fabric holds
+abbrev pub with_listings : App → App
+with_listings app =
+    let checks = with_subcommand app check_command.top in
+    let shares = with_subcommand checks shares_command.top in
+    let changes = with_subcommand shares diff_command.top in
+    let tables = with_subcommand changes tables_command.top in
+    with_subcommand tables keys_command.top
+
+-- with those that follow packets and run scripts
+abbrev pub with_runs : App → App
+with_runs app =
+    let traces = with_subcommand app trace_command.top in
+    let graphs = with_subcommand traces graph_command.top in
+    let runs = with_subcommand graphs run_command.top in
+    let smps = with_subcommand runs smp_command.top in
+    with_subcommand smps compare_command.top
+
+-- with those that judge cables and real fabrics, and that explain codes
+abbrev pub with_audits : App → App
+with_audits app =
+    let cuts = with_subcommand app cuts_command.top in
+    let imports = with_subcommand cuts import_command.top in
+    let audits = with_subcommand imports audit_command.top in
+    with_subcommand audits explain_command.top
+
+abbrev pub fabric_command : App
+fabric_command = with_audits (with_runs (with_listings fabric_top))

@@ -1,0 +1,53 @@
+-- What holds of all command lines: the statements of the laws of `src/laws.rt`.
+use Rattle.std.specs.Prelude.{◌≡◌, ◌∷◌, [], List, Ok, Some, codes}
+use Rattle.std.specs.List.{All}
+use Rattle.clap.specs.Words.{Row, Text, first_of}
+use Rattle.cli_args.specs.Words.{Names, asked_by_clap, asked_in, opened_for}
+use Rattle.cli_args.specs.declared.call.Call.{Call}
+
+-- the name is the value of an argument, unchanged
+abbrev pub IsWordOf : List Row → Text → Type 0
+IsWordOf rows name = (argument : Text) × (first_of argument rows ≡ Some name)
+
+-- each name that is opened is a value as clap found it, whatever it has in it
+abbrev pub FilesAreNamedAsGiven : Type 0
+FilesAreNamedAsGiven =
+    (word : Text) (rows : List Row) (call : Call Names Text) → asked_in (Some (word, rows)) ≡ Ok call
+    → All (IsWordOf rows) (opened_for (Ok call))
+
+-- the names that are opened if the arguments after the program's own name are these
+abbrev pub opened_by : List Text → List Text
+opened_by words = opened_for (asked_by_clap (codes "fabric" ∷ words))
+
+-- a name with a blank before or after it is another name, and so is one in capitals
+pub record NamesKeepTheirBlanks : Type 0 where
+  pub plain : opened_by (codes "check" ∷ codes "net" ∷ codes "-" ∷ []) ≡ codes "net" ∷ []
+  pub before : opened_by (codes "check" ∷ codes " net" ∷ codes "-" ∷ []) ≡ codes " net" ∷ []
+  pub behind : opened_by (codes "check" ∷ codes "net" ∷ codes "parts " ∷ []) ≡ codes "net" ∷ codes "parts " ∷ []
+  pub script : opened_by (codes "run" ∷ codes "Net" ∷ codes "-" ∷ codes " sends " ∷ []) ≡ codes "Net" ∷ codes " sends " ∷ []
+  pub looked : opened_by (codes "keys" ∷ codes "net" ∷ codes "-" ∷ codes "sends " ∷ []) ≡ codes "net" ∷ codes "sends " ∷ []
+  pub dashes : opened_by (codes "graph" ∷ codes "net" ∷ codes "-" ∷ codes "-" ∷ []) ≡ codes "net" ∷ codes "-" ∷ []
+  pub traced : opened_by (codes "trace" ∷ codes "net" ∷ codes "-" ∷ codes "h1/1" ∷ codes "5" ∷ codes "7" ∷ codes "sends" ∷ []) ≡ codes "net" ∷ codes "sends" ∷ []
+  pub answered : opened_by (codes "smp" ∷ codes "net" ∷ codes "-" ∷ codes " -" ∷ codes "--script" ∷ codes "sends " ∷ []) ≡ codes "net" ∷ codes "sends " ∷ codes " -" ∷ []
+  pub compared : opened_by (codes "compare" ∷ codes "net" ∷ codes "-" ∷ codes "one" ∷ codes "two" ∷ codes "h1/1" ∷ []) ≡ codes "net" ∷ codes "one" ∷ codes "two" ∷ []
+  pub import : opened_by (codes "import" ∷ codes " net" ∷ codes "--sm" ∷ codes "7" ∷ []) ≡ codes " net" ∷ []
+  pub audit : opened_by (codes "audit" ∷ codes "net " ∷ codes "-" ∷ []) ≡ codes "net " ∷ codes "-" ∷ []
+  pub dash : opened_by (codes "diff" ∷ codes "net" ∷ codes "-" ∷ codes " -" ∷ []) ≡ codes "net" ∷ codes " -" ∷ []
+
+-- for each command the file of its first argument is opened first, then that of its second, and then scripts
+pub record FilesStandInOrder : Type 0 where
+  pub check : opened_by (codes "check" ∷ codes "net" ∷ codes "parts" ∷ []) ≡ codes "net" ∷ codes "parts" ∷ []
+  pub shares : opened_by (codes "shares" ∷ codes "net" ∷ codes "parts" ∷ codes "h1/1" ∷ []) ≡ codes "net" ∷ codes "parts" ∷ []
+  pub diff : opened_by (codes "diff" ∷ codes "net" ∷ codes "parts" ∷ codes "others" ∷ []) ≡ codes "net" ∷ codes "parts" ∷ codes "others" ∷ []
+  pub tables : opened_by (codes "tables" ∷ codes "net" ∷ codes "parts" ∷ codes "sends" ∷ []) ≡ codes "net" ∷ codes "parts" ∷ codes "sends" ∷ []
+  pub keys : opened_by (codes "keys" ∷ codes "net" ∷ codes "parts" ∷ codes "sends" ∷ []) ≡ codes "net" ∷ codes "parts" ∷ codes "sends" ∷ []
+  pub trace : opened_by (codes "trace" ∷ codes "net" ∷ codes "parts" ∷ codes "h1/1" ∷ codes "5" ∷ codes "7" ∷ codes "sends" ∷ [])
+      ≡ codes "net" ∷ codes "parts" ∷ codes "sends" ∷ []
+  pub graph : opened_by (codes "graph" ∷ codes "net" ∷ codes "parts" ∷ codes "sends" ∷ []) ≡ codes "net" ∷ codes "parts" ∷ codes "sends" ∷ []
+  pub picture : opened_by (codes "graph" ∷ codes "net" ∷ codes "parts" ∷ codes "--cuts" ∷ []) ≡ codes "net" ∷ codes "parts" ∷ []
+  pub run : opened_by (codes "run" ∷ codes "net" ∷ codes "parts" ∷ codes "sends" ∷ []) ≡ codes "net" ∷ codes "parts" ∷ codes "sends" ∷ []
+  pub smp : opened_by (codes "smp" ∷ codes "net" ∷ codes "parts" ∷ codes "smps" ∷ []) ≡ codes "net" ∷ codes "parts" ∷ codes "smps" ∷ []
+  pub compare : opened_by (codes "compare" ∷ codes "net" ∷ codes "parts" ∷ codes "one" ∷ codes "two" ∷ codes "h1/1" ∷ [])
+      ≡ codes "net" ∷ codes "parts" ∷ codes "one" ∷ codes "two" ∷ []
+  pub cuts : opened_by (codes "cuts" ∷ codes "net" ∷ codes "parts" ∷ codes "h1/1" ∷ codes "h2/1" ∷ []) ≡ codes "net" ∷ codes "parts" ∷ []
+  pub audit : opened_by (codes "audit" ∷ codes "net" ∷ codes "dump" ∷ []) ≡ codes "net" ∷ codes "dump" ∷ []

@@ -1,0 +1,530 @@
+//! The command line of the program, for `clap`.
+
+ghost use Rattle.std.specs.Prelude.{◌≡◌, false, List, ℕ, Option, None, Some, codes, map, string_bytes, IfOk, IfErr, IsSomeAnd};
+ghost use Rattle.clap.specs.Words.{app_of, rule_of, subcommand_rows_of};
+ghost use Rattle.clap.specs.declared.builder.command.Command.TheViews.{out-Command as fields_of};
+ghost use Rattle.cli_args.specs.CommandLine.{audit_command, check_command, compare_command, diff_command, explain_command, fabric_command, graph_command};
+ghost use Rattle.cli_args.specs.CommandLine.{cuts_command, cuts_flag, import_command, keys_command, manager_option, optional, run_command, script_option, shares_command};
+ghost use Rattle.cli_args.specs.CommandLine.{smp_command, subnet_command, tables_command, trace_command};
+ghost use Rattle.cli_args.specs.CommandLine.{wanted, with_audits, with_listings, with_runs};
+ghost use Rattle.cli_args.specs.Help.{about_audit, about_check, about_compare, about_cuts, about_diff, about_explain, about_graph, about_import, about_keys};
+ghost use Rattle.cli_args.specs.Help.{about_program, about_run, about_smp};
+ghost use Rattle.cli_args.specs.Help.{about_shares, about_tables, about_trace, help_of_code, help_of_dlid, help_of_key};
+ghost use Rattle.cli_args.specs.Help.{help_of_compared, help_of_first_script, help_of_partitions, help_of_second_script};
+ghost use Rattle.cli_args.specs.Help.{help_of_cuts, help_of_dump, help_of_first_end, help_of_second_end};
+ghost use Rattle.cli_args.specs.Help.{help_of_manager, help_of_netdiscover, help_of_port, help_of_script, help_of_script_before, help_of_smps};
+ghost use Rattle.cli_args.specs.Help.{help_of_second_partitions, help_of_sender, help_of_topology};
+ghost use Rattle.cli_args.specs.Help.{program_name, program_version, text_in};
+ghost use Rattle.cli_args.specs.Refusals.{IsShown};
+ghost use Rattle.cli_args.specs.Words.{asked_in, asked_of};
+ghost use Rattle.cli_args.specs.declared.help.TheConstants.{AUDIT, CHANGES, CODES, COMPARISON, CUTS, GRAPH, IMPORT, KEYS, LISTING, REPORT, SHARES, STATUSES, TABLES};
+ghost use Rattle.cli_args.specs.declared.help.TheConstants.{SMPS, TRACE};
+
+use crate::call::Refused;
+use crate::help::{
+    ABOUT, ABOUT_AUDIT, ABOUT_CHECK, ABOUT_COMPARE, ABOUT_CUTS, ABOUT_DIFF, ABOUT_EXPLAIN,
+    ABOUT_GRAPH, ABOUT_IMPORT, ABOUT_KEYS, ABOUT_RUN, ABOUT_SHARES, ABOUT_SMP, ABOUT_TABLES,
+    ABOUT_TRACE, AUDIT, CHANGES, CODES, COMPARISON, CUTS, GRAPH, IMPORT, KEYS, LISTING, REPORT,
+    SHARES, SMPS, STATUSES, TABLES, TRACE,
+};
+use clap::error::ErrorKind;
+use clap::{Arg, ArgAction, ArgMatches, Command, Error};
+use std::alloc::{AllocError, Global};
+use std::fmt::Display;
+
+/// An argument that has to be given.
+fn wanted<'a>(alloc: Global, name: &'a str, help: &'a str) -> Arg<'a>
+    ensures global { result.global ≡ false }
+    ensures rule { rule_of result ≡ wanted name.entry.now }
+    ensures help { result.help ≡ Some help.entry }
+{
+    Arg::new(alloc, name)
+        .required(true)
+        .action(ArgAction::Set)
+        .help(help)
+}
+
+fn wanted_topology<'a>(alloc: Global) -> Arg<'a>
+    ensures global { result.global ≡ false }
+    ensures rule { rule_of result ≡ wanted (codes "TOPO") }
+    ensures help { text_in result.help ≡ Some help_of_topology }
+{
+    wanted(
+        alloc,
+        "TOPO",
+        "The topology file: switches, adapters, cables and the SM port",
+    )
+}
+
+fn wanted_partitions<'a>(alloc: Global) -> Arg<'a>
+    ensures global { result.global ≡ false }
+    ensures rule { rule_of result ≡ wanted (codes "PARTS") }
+    ensures help { text_in result.help ≡ Some help_of_partitions }
+{
+    wanted(
+        alloc,
+        "PARTS",
+        "The partition file, or `-` for the default partition alone",
+    )
+}
+
+fn wanted_port<'a>(alloc: Global) -> Arg<'a>
+    ensures global { result.global ≡ false }
+    ensures rule { rule_of result ≡ wanted (codes "PORT") }
+    ensures help { text_in result.help ≡ Some help_of_sender }
+{
+    wanted(alloc, "PORT", "The CA port that sends: `h1/1`")
+}
+
+fn wanted_dlid<'a>(alloc: Global) -> Arg<'a>
+    ensures global { result.global ≡ false }
+    ensures rule { rule_of result ≡ wanted (codes "DLID") }
+    ensures help { text_in result.help ≡ Some help_of_dlid }
+{
+    wanted(
+        alloc,
+        "DLID",
+        "The LID that it is sent to: a number of 16 bits, as `5` or `0x0005`",
+    )
+}
+
+fn wanted_key<'a>(alloc: Global) -> Arg<'a>
+    ensures global { result.global ≡ false }
+    ensures rule { rule_of result ≡ wanted (codes "PKEY") }
+    ensures help { text_in result.help ≡ Some help_of_key }
+{
+    wanted(
+        alloc,
+        "PKEY",
+        "The P_Key that it is sent with: a number of 16 bits, as `0x8001`",
+    )
+}
+
+fn wanted_script<'a>(alloc: Global) -> Arg<'a>
+    ensures global { result.global ≡ false }
+    ensures rule { rule_of result ≡ wanted (codes "SCRIPT") }
+    ensures help { text_in result.help ≡ Some help_of_script }
+{
+    wanted(
+        alloc,
+        "SCRIPT",
+        "The script: what ports send and ask, and which cables are cut; `-` for standard input",
+    )
+}
+
+fn wanted_smps<'a>(alloc: Global) -> Arg<'a>
+    ensures global { result.global ≡ false }
+    ensures rule { rule_of result ≡ wanted (codes "SMPS") }
+    ensures help { text_in result.help ≡ Some help_of_smps }
+{
+    wanted(
+        alloc,
+        "SMPS",
+        "The SMPs, one on a line: `256:HEX`; `-` for standard input",
+    )
+}
+
+/// `--script SCRIPT`.
+fn script_option<'a>(alloc: Global) -> Arg<'a>
+    ensures global { result.global ≡ false }
+    ensures rule { rule_of result ≡ script_option }
+    ensures help { text_in result.help ≡ Some help_of_script_before }
+{
+    Arg::new(alloc, "SCRIPT")
+        .long("script")
+        .value_name("SCRIPT")
+        .action(ArgAction::Set)
+        .help("A script that is run before")
+}
+
+fn wanted_first_script<'a>(alloc: Global) -> Arg<'a>
+    ensures global { result.global ≡ false }
+    ensures rule { rule_of result ≡ wanted (codes "S1") }
+    ensures help { text_in result.help ≡ Some help_of_first_script }
+{
+    wanted(alloc, "S1", "The first script")
+}
+
+fn wanted_second_script<'a>(alloc: Global) -> Arg<'a>
+    ensures global { result.global ≡ false }
+    ensures rule { rule_of result ≡ wanted (codes "S2") }
+    ensures help { text_in result.help ≡ Some help_of_second_script }
+{
+    wanted(alloc, "S2", "The second script")
+}
+
+fn wanted_compared<'a>(alloc: Global) -> Arg<'a>
+    ensures global { result.global ≡ false }
+    ensures rule { rule_of result ≡ wanted (codes "PORT") }
+    ensures help { text_in result.help ≡ Some help_of_compared }
+{
+    wanted(alloc, "PORT", "A CA port: `h1/1`; it may be the SM port")
+}
+
+fn optional_port<'a>(alloc: Global) -> Arg<'a>
+    ensures global { result.global ≡ false }
+    ensures rule { rule_of result ≡ optional (codes "PORT") }
+    ensures help { text_in result.help ≡ Some help_of_port }
+{
+    Arg::new(alloc, "PORT").action(ArgAction::Set).help(
+        "An end port as `check` lists it: `h1/1`, or `A/0` for port 0 of switch A",
+    )
+}
+
+fn optional_script<'a>(alloc: Global) -> Arg<'a>
+    ensures global { result.global ≡ false }
+    ensures rule { rule_of result ≡ optional (codes "SCRIPT") }
+    ensures help { text_in result.help ≡ Some help_of_script_before }
+{
+    Arg::new(alloc, "SCRIPT")
+        .action(ArgAction::Set)
+        .help("A script that is run before")
+}
+
+fn optional_first_end<'a>(alloc: Global) -> Arg<'a>
+    ensures global { result.global ≡ false }
+    ensures rule { rule_of result ≡ optional (codes "PORT") }
+    ensures help { text_in result.help ≡ Some help_of_first_end }
+{
+    Arg::new(alloc, "PORT")
+        .action(ArgAction::Set)
+        .help("A switch port at one end of a cable: `A/3`")
+}
+
+fn optional_second_end<'a>(alloc: Global) -> Arg<'a>
+    ensures global { result.global ≡ false }
+    ensures rule { rule_of result ≡ optional (codes "PORT2") }
+    ensures help { text_in result.help ≡ Some help_of_second_end }
+{
+    Arg::new(alloc, "PORT2")
+        .action(ArgAction::Set)
+        .help("The switch port at its other end")
+}
+
+fn cuts_flag<'a>(alloc: Global) -> Arg<'a>
+    ensures global { result.global ≡ false }
+    ensures rule { rule_of result ≡ cuts_flag }
+    ensures help { text_in result.help ≡ Some help_of_cuts }
+{
+    Arg::new(alloc, "CUTS")
+        .long("cuts")
+        .action(ArgAction::SetTrue)
+        .help("Draws in red the cables that the fabric cannot do without")
+}
+
+fn wanted_netdiscover<'a>(alloc: Global) -> Arg<'a>
+    ensures global { result.global ≡ false }
+    ensures rule { rule_of result ≡ wanted (codes "NETDISCOVER") }
+    ensures help { text_in result.help ≡ Some help_of_netdiscover }
+{
+    wanted(
+        alloc,
+        "NETDISCOVER",
+        "What ibnetdiscover printed of the fabric",
+    )
+}
+
+fn manager_option<'a>(alloc: Global) -> Arg<'a>
+    ensures global { result.global ≡ false }
+    ensures rule { rule_of result ≡ manager_option }
+    ensures help { text_in result.help ≡ Some help_of_manager }
+{
+    Arg::new(alloc, "SM")
+        .long("sm")
+        .value_name("GUID")
+        .action(ArgAction::Set)
+        .help("The GUID of the SM port: a number of 64 bits, as `0x101`")
+}
+
+fn wanted_dump<'a>(alloc: Global) -> Arg<'a>
+    ensures global { result.global ≡ false }
+    ensures rule { rule_of result ≡ wanted (codes "DUMP") }
+    ensures help { text_in result.help ≡ Some help_of_dump }
+{
+    wanted(alloc, "DUMP", "The LFTs, as dump_fts prints them")
+}
+
+fn optional_code<'a>(alloc: Global) -> Arg<'a>
+    ensures global { result.global ≡ false }
+    ensures rule { rule_of result ≡ optional (codes "CODE") }
+    ensures help { text_in result.help ≡ Some help_of_code }
+{
+    Arg::new(alloc, "CODE")
+        .action(ArgAction::Set)
+        .help("A code as it is printed: `PF2`, or `memory`")
+}
+
+fn wanted_second_partitions<'a>(alloc: Global) -> Arg<'a>
+    ensures global { result.global ≡ false }
+    ensures rule { rule_of result ≡ wanted (codes "PARTS2") }
+    ensures help { text_in result.help ≡ Some help_of_second_partitions }
+{
+    wanted(
+        alloc,
+        "PARTS2",
+        "The partition file in its place, or `-` for the default partition alone",
+    )
+}
+
+/// A command that names a subnet by its topology and its partitions.
+fn subnet_command<'a>(alloc: Global, name: &'a str) -> Result<Command<'a>, AllocError>
+    ensures { IfOk result (λ command. app_of command ≡ subnet_command name.entry.now) }
+{
+    let command = Command::new(alloc, name)
+        .arg(wanted_topology(alloc))?
+        .arg(wanted_partitions(alloc))?;
+    Ok(command)
+}
+
+/// The command that lists a subnet.
+fn check_command<'a>(alloc: Global) -> Result<Command<'a>, AllocError>
+    ensures words { IfOk result (λ command. app_of command ≡ check_command) }
+    ensures about { IfOk result (λ command. text_in (fields_of command).about ≡ Some about_check) }
+    ensures help { IfOk result (λ command. text_in (fields_of command).after_help ≡ Some LISTING.now) }
+{
+    let command = subnet_command(alloc, "check")?;
+    Ok(command.about(ABOUT_CHECK).after_help(LISTING))
+}
+
+/// The command that lists which ports may talk to each other in a subnet.
+fn shares_command<'a>(alloc: Global) -> Result<Command<'a>, AllocError>
+    ensures words { IfOk result (λ command. app_of command ≡ shares_command) }
+    ensures about { IfOk result (λ command. text_in (fields_of command).about ≡ Some about_shares) }
+    ensures help { IfOk result (λ command. text_in (fields_of command).after_help ≡ Some SHARES.now) }
+{
+    let command = subnet_command(alloc, "shares")?.arg(optional_port(alloc))?;
+    Ok(command.about(ABOUT_SHARES).after_help(SHARES))
+}
+
+/// The command that lists what another partition file changes.
+fn diff_command<'a>(alloc: Global) -> Result<Command<'a>, AllocError>
+    ensures words { IfOk result (λ command. app_of command ≡ diff_command) }
+    ensures about { IfOk result (λ command. text_in (fields_of command).about ≡ Some about_diff) }
+    ensures help { IfOk result (λ command. text_in (fields_of command).after_help ≡ Some CHANGES.now) }
+{
+    let command = subnet_command(alloc, "diff")?.arg(wanted_second_partitions(alloc))?;
+    Ok(command.about(ABOUT_DIFF).after_help(CHANGES))
+}
+
+/// The command that prints LFTs and MFTs.
+fn tables_command<'a>(alloc: Global) -> Result<Command<'a>, AllocError>
+    ensures words { IfOk result (λ command. app_of command ≡ tables_command) }
+    ensures about { IfOk result (λ command. text_in (fields_of command).about ≡ Some about_tables) }
+    ensures help { IfOk result (λ command. text_in (fields_of command).after_help ≡ Some TABLES.now) }
+{
+    let command = subnet_command(alloc, "tables")?.arg(optional_script(alloc))?;
+    Ok(command.about(ABOUT_TABLES).after_help(TABLES))
+}
+
+/// The command that prints P_Key tables.
+fn keys_command<'a>(alloc: Global) -> Result<Command<'a>, AllocError>
+    ensures words { IfOk result (λ command. app_of command ≡ keys_command) }
+    ensures about { IfOk result (λ command. text_in (fields_of command).about ≡ Some about_keys) }
+    ensures help { IfOk result (λ command. text_in (fields_of command).after_help ≡ Some KEYS.now) }
+{
+    let command = subnet_command(alloc, "keys")?.arg(optional_script(alloc))?;
+    Ok(command.about(ABOUT_KEYS).after_help(KEYS))
+}
+
+/// The command that prints the path of a packet.
+fn trace_command<'a>(alloc: Global) -> Result<Command<'a>, AllocError>
+    ensures words { IfOk result (λ command. app_of command ≡ trace_command) }
+    ensures about { IfOk result (λ command. text_in (fields_of command).about ≡ Some about_trace) }
+    ensures help { IfOk result (λ command. text_in (fields_of command).after_help ≡ Some TRACE.now) }
+{
+    let command = subnet_command(alloc, "trace")?
+        .arg(wanted_port(alloc))?
+        .arg(wanted_dlid(alloc))?
+        .arg(wanted_key(alloc))?
+        .arg(optional_script(alloc))?;
+    Ok(command.about(ABOUT_TRACE).after_help(TRACE))
+}
+
+/// The command that draws a fabric.
+fn graph_command<'a>(alloc: Global) -> Result<Command<'a>, AllocError>
+    ensures words { IfOk result (λ command. app_of command ≡ graph_command) }
+    ensures about { IfOk result (λ command. text_in (fields_of command).about ≡ Some about_graph) }
+    ensures help { IfOk result (λ command. text_in (fields_of command).after_help ≡ Some GRAPH.now) }
+{
+    let command = subnet_command(alloc, "graph")?
+        .arg(optional_script(alloc))?
+        .arg(cuts_flag(alloc))?;
+    Ok(command.about(ABOUT_GRAPH).after_help(GRAPH))
+}
+
+/// The command that runs a script in a subnet.
+fn run_command<'a>(alloc: Global) -> Result<Command<'a>, AllocError>
+    ensures words { IfOk result (λ command. app_of command ≡ run_command) }
+    ensures about { IfOk result (λ command. text_in (fields_of command).about ≡ Some about_run) }
+    ensures help { IfOk result (λ command. text_in (fields_of command).after_help ≡ Some REPORT.now) }
+{
+    let command = subnet_command(alloc, "run")?.arg(wanted_script(alloc))?;
+    Ok(command.about(ABOUT_RUN).after_help(REPORT))
+}
+
+/// The command that answers SMPs.
+fn smp_command<'a>(alloc: Global) -> Result<Command<'a>, AllocError>
+    ensures words { IfOk result (λ command. app_of command ≡ smp_command) }
+    ensures about { IfOk result (λ command. text_in (fields_of command).about ≡ Some about_smp) }
+    ensures help { IfOk result (λ command. text_in (fields_of command).after_help ≡ Some SMPS.now) }
+{
+    let command = subnet_command(alloc, "smp")?
+        .arg(wanted_smps(alloc))?
+        .arg(script_option(alloc))?;
+    Ok(command.about(ABOUT_SMP).after_help(SMPS))
+}
+
+/// The command that compares two scripts.
+fn compare_command<'a>(alloc: Global) -> Result<Command<'a>, AllocError>
+    ensures words { IfOk result (λ command. app_of command ≡ compare_command) }
+    ensures about { IfOk result (λ command. text_in (fields_of command).about ≡ Some about_compare) }
+    ensures help { IfOk result (λ command. text_in (fields_of command).after_help ≡ Some COMPARISON.now) }
+{
+    let command = subnet_command(alloc, "compare")?
+        .arg(wanted_first_script(alloc))?
+        .arg(wanted_second_script(alloc))?
+        .arg(wanted_compared(alloc))?;
+    Ok(command.about(ABOUT_COMPARE).after_help(COMPARISON))
+}
+
+/// The command that prints what the loss of cables would do.
+fn cuts_command<'a>(alloc: Global) -> Result<Command<'a>, AllocError>
+    ensures words { IfOk result (λ command. app_of command ≡ cuts_command) }
+    ensures about { IfOk result (λ command. text_in (fields_of command).about ≡ Some about_cuts) }
+    ensures help { IfOk result (λ command. text_in (fields_of command).after_help ≡ Some CUTS.now) }
+{
+    let command = subnet_command(alloc, "cuts")?
+        .arg(optional_first_end(alloc))?
+        .arg(optional_second_end(alloc))?;
+    Ok(command.about(ABOUT_CUTS).after_help(CUTS))
+}
+
+/// The command that makes a topology from a real fabric.
+fn import_command<'a>(alloc: Global) -> Result<Command<'a>, AllocError>
+    ensures words { IfOk result (λ command. app_of command ≡ import_command) }
+    ensures about { IfOk result (λ command. text_in (fields_of command).about ≡ Some about_import) }
+    ensures help { IfOk result (λ command. text_in (fields_of command).after_help ≡ Some IMPORT.now) }
+{
+    let command = Command::new(alloc, "import")
+        .arg(wanted_netdiscover(alloc))?
+        .arg(manager_option(alloc))?;
+    Ok(command.about(ABOUT_IMPORT).after_help(IMPORT))
+}
+
+/// The command that judges the routes of a real fabric.
+fn audit_command<'a>(alloc: Global) -> Result<Command<'a>, AllocError>
+    ensures words { IfOk result (λ command. app_of command ≡ audit_command) }
+    ensures about { IfOk result (λ command. text_in (fields_of command).about ≡ Some about_audit) }
+    ensures help { IfOk result (λ command. text_in (fields_of command).after_help ≡ Some AUDIT.now) }
+{
+    let command = Command::new(alloc, "audit")
+        .arg(wanted_topology(alloc))?
+        .arg(wanted_dump(alloc))?;
+    Ok(command.about(ABOUT_AUDIT).after_help(AUDIT))
+}
+
+/// The command that explains codes.
+fn explain_command<'a>(alloc: Global) -> Result<Command<'a>, AllocError>
+    ensures words { IfOk result (λ command. app_of command ≡ explain_command) }
+    ensures about { IfOk result (λ command. text_in (fields_of command).about ≡ Some about_explain) }
+    ensures help { IfOk result (λ command. text_in (fields_of command).after_help ≡ Some CODES.now) }
+{
+    let command = Command::new(alloc, "explain").arg(optional_code(alloc))?;
+    Ok(command.about(ABOUT_EXPLAIN).after_help(CODES))
+}
+
+/// A command line with the commands that list a subnet and what its fabric holds.
+fn with_listings<'a>(alloc: Global, command: Command<'a>) -> Result<Command<'a>, AllocError>
+    ensures { IfOk result (λ all. app_of all ≡ with_listings (app_of command.entry)) }
+{
+    let all = command
+        .subcommand(check_command(alloc)?)?
+        .subcommand(shares_command(alloc)?)?
+        .subcommand(diff_command(alloc)?)?
+        .subcommand(tables_command(alloc)?)?
+        .subcommand(keys_command(alloc)?)?;
+    Ok(all)
+}
+
+/// A command line with the commands that follow packets and run scripts.
+fn with_runs<'a>(alloc: Global, command: Command<'a>) -> Result<Command<'a>, AllocError>
+    ensures { IfOk result (λ all. app_of all ≡ with_runs (app_of command.entry)) }
+{
+    let all = command
+        .subcommand(trace_command(alloc)?)?
+        .subcommand(graph_command(alloc)?)?
+        .subcommand(run_command(alloc)?)?
+        .subcommand(smp_command(alloc)?)?
+        .subcommand(compare_command(alloc)?)?;
+    Ok(all)
+}
+
+/// A command line with the commands that judge cables and real fabrics, and that explain codes.
+fn with_audits<'a>(alloc: Global, command: Command<'a>) -> Result<Command<'a>, AllocError>
+    ensures { IfOk result (λ all. app_of all ≡ with_audits (app_of command.entry)) }
+{
+    let all = command
+        .subcommand(cuts_command(alloc)?)?
+        .subcommand(import_command(alloc)?)?
+        .subcommand(audit_command(alloc)?)?
+        .subcommand(explain_command(alloc)?)?;
+    Ok(all)
+}
+
+/// The program's command line. Help and usage say `fabric`, whatever name the program's file has.
+fn fabric_command<'a>(alloc: Global) -> Result<Command<'a>, AllocError>
+    ensures words { IfOk result (λ command. app_of command ≡ fabric_command) }
+    ensures name { IfOk result (λ command. IsSomeAnd (fields_of command).bin_name (λ name. string_bytes name ≡ program_name)) }
+    ensures version { IfOk result (λ command. text_in (fields_of command).version ≡ Some program_version) }
+    ensures about { IfOk result (λ command. text_in (fields_of command).about ≡ Some about_program) }
+    ensures help { IfOk result (λ command. text_in (fields_of command).after_help ≡ Some STATUSES.now) }
+{
+    let top = Command::new(alloc, "fabric").subcommand_required(true);
+    let listings = with_listings(alloc, top)?;
+    let runs = with_runs(alloc, listings)?;
+    let command = with_audits(alloc, runs)?.bin_name("fabric")?;
+    Ok(command.version("0.1.0").about(ABOUT).after_help(STATUSES))
+}
+
+/// What parses the arguments, by the program's commands, or refuses them.
+///
+/// Its ghost member is what a contract may know of that: `shown` is the text of a refusal, if it is known.
+pub trait Parser {
+    /// Why arguments are refused, or what is printed of help or the version: its text is for the user.
+    type Error: Display + Drop;
+
+    ghost shown: { Self → List (List ℕ) → Option (List ℕ) };
+
+    /// What is in the arguments, the first of them the program's own name.
+    fn parse<'a>(
+        &self,
+        alloc: Global,
+        words: &'a [String],
+    ) -> Result<ArgMatches<'a>, Refused<Self::Error>>
+        ensures found { IfOk result (λ matches.
+            asked_of (shown self.now) (map string_bytes words.entry.now) ≡ asked_in (subcommand_rows_of matches)) }
+        ensures refused { IfErr result (IsShown Self.Error.output (shown self.now) (map string_bytes words.entry.now)) };
+}
+
+/// The parser `clap`. The texts of its errors are its own, and no contract of it says what they are.
+#[derive(Clone, Copy)]
+pub struct Clap;
+
+impl Parser for Clap {
+    type Error = Error;
+
+    ghost shown = { λ _ _. None };
+
+    fn parse<'a>(
+        &self,
+        alloc: Global,
+        words: &'a [String],
+    ) -> Result<ArgMatches<'a>, Refused<Error>> {
+        let command = fabric_command(alloc)?;
+        match command.try_get_matches_from(words) {
+            Ok(matches) => Ok(matches),
+            Err(error) if error.kind() == ErrorKind::OutOfMemory => Err(Refused::NoMemory),
+            Err(error) => Err(Refused::Words(error)),
+        }
+    }
+}

@@ -1,0 +1,17 @@
+//! The command line of the program `fabric`: its commands and arguments, with their help, and what the arguments of one
+//! invocation ask for. No subnet and no fabric is known here.
+//!
+//! [`read_words`] reads arguments by a [`Parser`], which is [`Clap`] in the program, and [`given_words`] returns those of
+//! the process. `specs/CommandLine.antt` has the commands, and `specs/Words.antt` what their arguments ask for.
+#![tactic(auto)]
+
+mod call;
+mod command_line;
+mod help;
+mod laws;
+mod words;
+
+pub use crate::call::{Asked, Call, CutView, Inspection, NamedWork, Refused, Subcommand, Work};
+pub use crate::command_line::{Clap, Parser};
+pub use crate::laws::files_are_named_as_given;
+pub use crate::words::{given_words, read_words};

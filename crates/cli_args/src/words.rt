@@ -1,0 +1,329 @@
+//! What the command line asks for.
+
+ghost use Rattle.std.specs.Prelude.{◌≡◌, ◌^◌, Ok, Some, map, string_bytes, option_map, IfOk, IfErr};
+ghost use Rattle.clap.specs.Words.{first_of, found_of, rows_of, subcommand_rows_of};
+ghost use Rattle.cli_args.specs.Refusals.{IsOfGiven, IsOfWords, ReportsAll};
+ghost use Rattle.cli_args.specs.Words.{asked_in, asked_of, audit_by, call_in, compare_by, cuts_by, diff_by, explain_by, file_in, given_items, guid_by};
+ghost use Rattle.cli_args.specs.Words.{import_by, in_subnet};
+ghost use Rattle.text_words.specs.Number.{if_under, number_in};
+ghost use Rattle.cli_args.specs.Words.{graph_by, graph_with, inspect_by, is_given, named_call, named_found, named_inspection};
+ghost use Rattle.cli_args.specs.Words.{named_work, run_by, smps_by, subcommand_in, text_for, trace_by, u16_by};
+
+use crate::call::{Asked, Call, CutView, Inspection, NamedWork, Refused, Subcommand, Work};
+use crate::command_line::Parser;
+use crate::help::{
+    NO_SCRIPT_WITH_CUTS, NO_SECOND_PORT, NO_SUCH_CODE, NO_SUCH_GUID, NO_SUCH_NUMBER, NOT_TEXT,
+};
+use clap::ArgMatches;
+use code_texts::Code;
+use std::alloc::Global;
+use std::env::Args;
+use std::fmt::Display;
+use std::io;
+use text_words::{number_in, u16_in};
+
+/// The arguments of the program, its own name first: all of them. They are refused if one is not UTF-8.
+pub fn given_words(alloc: Global, given: io::Result<Args>) -> Result<Vec<String>, Refused<String>>
+    ensures all { IfOk result (λ words. given_items given ≡ Some words.items) }
+    ensures refused { IfErr result (IsOfGiven given) }
+{
+    match given {
+        Ok(words) => Ok(words.collect(alloc)?),
+        Err(error) if error.kind() == io::ErrorKind::OutOfMemory => Err(Refused::NoMemory),
+        Err(_) => Err(Refused::Words(String::from_str(alloc, NOT_TEXT)?)),
+    }
+}
+
+/// What the arguments ask for, the first of them the program's own name. If the parser refuses them, the refusal has the
+/// text of its error.
+pub fn read_words<'a, P: Parser>(
+    alloc: Global,
+    parser: &P,
+    words: &'a [String],
+) -> Result<Call<Asked<'a>, &'a str>, Refused<String>>
+    ensures asked { IfOk result (λ call. asked_of (P.shown parser.now) (map string_bytes words.entry.now) ≡ Ok (named_call call)) }
+    ensures refused { IfErr result (IsOfWords (asked_of (P.shown parser.now) (map string_bytes words.entry.now))) }
+{
+    match parser.parse(alloc, words) {
+        Ok(matches) => match call_in(&matches) {
+            Ok(call) => Ok(call),
+            Err(text) => Err(Refused::Words(String::from_str(alloc, text)?)),
+        },
+        Err(Refused::NoMemory) => Err(Refused::NoMemory),
+        Err(Refused::Words(error)) => Err(shown(alloc, &error)),
+    }
+}
+
+/// The refusal with the text that the error displays, whatever that is.
+fn shown<E: Display>(alloc: Global, error: &E) -> Refused<String>
+    ensures { ReportsAll (E.output error.now) result }
+{
+    match error.to_string(alloc) {
+        Ok(text) => Refused::Words(text),
+        Err(_) => Refused::NoMemory,
+    }
+}
+
+/// What the parsed arguments ask for, or the text for one that is not a code, a number or a GUID.
+fn call_in<'a>(matches: &ArgMatches<'a>) -> Result<Call<Asked<'a>, &'a str>, &'static str>
+    ensures { named_found result ≡ asked_in (subcommand_rows_of matches.now) }
+{
+    let Some((word, found)) = matches.subcommand() else {
+        return Err(NO_SUCH_CODE);
+    };
+    let Some(command) = subcommand_in(word) else {
+        return Err(NO_SUCH_CODE);
+    };
+    match call_of(command, found) {
+        Some(call) => Ok(call),
+        None => Err(text_for(command)),
+    }
+}
+
+/// The command of that name.
+fn subcommand_in(word: &str) -> Option<Subcommand>
+    ensures { result ≡ subcommand_in word.now }
+{
+    match word {
+        "check" => Some(Subcommand::Check),
+        "shares" => Some(Subcommand::Shares),
+        "diff" => Some(Subcommand::Diff),
+        "tables" => Some(Subcommand::Tables),
+        "keys" => Some(Subcommand::Keys),
+        "trace" => Some(Subcommand::Trace),
+        "graph" => Some(Subcommand::Graph),
+        "run" => Some(Subcommand::Run),
+        "smp" => Some(Subcommand::Smp),
+        "compare" => Some(Subcommand::Compare),
+        "cuts" => Some(Subcommand::Cuts),
+        "import" => Some(Subcommand::Import),
+        "audit" => Some(Subcommand::Audit),
+        "explain" => Some(Subcommand::Explain),
+        _ => None,
+    }
+}
+
+/// The text for an argument that this command cannot take.
+fn text_for(command: Subcommand) -> &'static str
+    ensures { result.now ≡ text_for command }
+{
+    match command {
+        Subcommand::Trace => NO_SUCH_NUMBER,
+        Subcommand::Import => NO_SUCH_GUID,
+        Subcommand::Cuts => NO_SECOND_PORT,
+        Subcommand::Graph => NO_SCRIPT_WITH_CUTS,
+        _ => NO_SUCH_CODE,
+    }
+}
+
+/// What a command with these arguments asks for; nothing if one is not the code, number or GUID that it has to be.
+fn call_of<'a>(command: Subcommand, found: &ArgMatches<'a>) -> Option<Call<Asked<'a>, &'a str>>
+    ensures { option_map named_call result ≡ call_in command (rows_of (found_of found.now)) }
+{
+    match command {
+        Subcommand::Check => in_subnet(found, Some(Work::Check)),
+        Subcommand::Shares => in_subnet(found, Some(Work::Shares(word_of(found, "PORT")))),
+        Subcommand::Diff => in_subnet(found, diff_by(word_of(found, "PARTS2"))),
+        Subcommand::Tables => in_subnet(found, inspect_by(found, Some(Inspection::Tables))),
+        Subcommand::Keys => in_subnet(found, inspect_by(found, Some(Inspection::Keys))),
+        Subcommand::Trace => in_subnet(found, inspect_by(found, traced(found))),
+        Subcommand::Graph => in_subnet(found, graph_by(found)),
+        Subcommand::Run => in_subnet(found, run_by(word_of(found, "SCRIPT"))),
+        Subcommand::Smp => {
+            let smps = smps_by(word_of(found, "SMPS"), word_of(found, "SCRIPT"));
+            in_subnet(found, smps)
+        }
+        Subcommand::Compare => in_subnet(found, compared(found)),
+        Subcommand::Cuts => {
+            let ends = cuts_by(word_of(found, "PORT"), word_of(found, "PORT2"));
+            in_subnet(found, ends)
+        }
+        Subcommand::Import => import_by(word_of(found, "NETDISCOVER"), word_of(found, "SM")),
+        Subcommand::Audit => audit_by(word_of(found, "TOPO"), word_of(found, "DUMP")),
+        Subcommand::Explain => explain_by(word_of(found, "CODE")),
+    }
+}
+
+/// The value of an argument, if it is given.
+fn word_of<'a>(found: &ArgMatches<'a>, name: &str) -> Option<&'a str>
+    ensures { option_map (λ word. word.now) result ≡ first_of name.now (rows_of (found_of found.now)) }
+{
+    found.get_str(name)
+}
+
+/// What is to be done in the subnet of a topology and partitions.
+fn in_subnet<'a>(
+    found: &ArgMatches<'a>,
+    work: Option<NamedWork<'a>>,
+) -> Option<Call<Asked<'a>, &'a str>>
+    ensures { option_map named_call result ≡ in_subnet (rows_of (found_of found.now)) (option_map named_work work.entry) }
+{
+    Some(Call::Subnet(Asked {
+        topology: word_of(found, "TOPO")?,
+        partitions: file_in(word_of(found, "PARTS")?),
+        work: work?,
+    }))
+}
+
+/// The name of a file, or none for `-`.
+fn file_in(word: &str) -> Option<&str>
+    ensures { option_map (λ name. name.now) result ≡ file_in word.entry.now }
+{
+    if word == "-" { None } else { Some(word) }
+}
+
+fn diff_by(second: Option<&str>) -> Option<NamedWork<'_>>
+    ensures { option_map named_work result ≡ diff_by (option_map (λ word. word.now) second.entry) }
+{
+    Some(Work::Diff(file_in(second?)))
+}
+
+/// The loss of all cables, or of the one between two given ports; nothing if one port alone is given.
+fn cuts_by<'a>(first: Option<&'a str>, second: Option<&'a str>) -> Option<NamedWork<'a>>
+    ensures { option_map named_work result ≡ cuts_by (option_map (λ word. word.now) first.entry) (option_map (λ word. word.now) second.entry) }
+{
+    match (first, second) {
+        (None, None) => Some(Work::Cuts(CutView::All)),
+        (Some(first), Some(second)) => Some(Work::Cuts(CutView::One { first, second })),
+        _ => None,
+    }
+}
+
+fn run_by(script: Option<&str>) -> Option<NamedWork<'_>>
+    ensures { option_map named_work result ≡ run_by (option_map (λ word. word.now) script.entry) }
+{
+    Some(Work::Run(script?))
+}
+
+/// SMPs, after the commands of a script if one is given.
+fn smps_by<'a>(smps: Option<&'a str>, script: Option<&'a str>) -> Option<NamedWork<'a>>
+    ensures { option_map named_work result ≡ smps_by (option_map (λ word. word.now) smps.entry) (option_map (λ word. word.now) script.entry) }
+{
+    Some(Work::Smps {
+        script,
+        smps: smps?,
+    })
+}
+
+/// A look at this, after the commands of a script if one is given.
+fn inspect_by<'a>(
+    found: &ArgMatches<'a>,
+    what: Option<Inspection<&'a str>>,
+) -> Option<NamedWork<'a>>
+    ensures { option_map named_work result ≡ inspect_by (rows_of (found_of found.now)) (option_map named_inspection what.entry) }
+{
+    Some(Work::Inspect {
+        what: what?,
+        script: word_of(found, "SCRIPT"),
+    })
+}
+
+/// A picture; with `--cuts` it is of the fabric as it is brought up, and takes no script.
+fn graph_by<'a>(found: &ArgMatches<'a>) -> Option<NamedWork<'a>>
+    ensures { option_map named_work result ≡ graph_by (rows_of (found_of found.now)) }
+{
+    graph_with(is_given(found, "CUTS"), word_of(found, "SCRIPT"))
+}
+
+/// Whether a flag is given.
+fn is_given<'a>(found: &ArgMatches<'a>, name: &str) -> bool
+    ensures { result ≡ is_given (rows_of (found_of found.now)) name.now }
+{
+    match word_of(found, name) {
+        Some(value) => value == "true",
+        None => false,
+    }
+}
+
+fn graph_with(cuts: bool, script: Option<&str>) -> Option<NamedWork<'_>>
+    ensures { option_map named_work result ≡ graph_with cuts (option_map (λ word. word.now) script.entry) }
+{
+    match (cuts, script) {
+        (true, Some(_)) => None,
+        (true, None) => Some(Work::Cuts(CutView::Picture)),
+        (false, script) => Some(Work::Inspect {
+            what: Inspection::Graph,
+            script,
+        }),
+    }
+}
+
+/// Two scripts and a port.
+fn compared<'a>(found: &ArgMatches<'a>) -> Option<NamedWork<'a>>
+    ensures { option_map named_work result ≡ compare_by (rows_of (found_of found.now)) }
+{
+    Some(Work::Compare {
+        first: word_of(found, "S1")?,
+        second: word_of(found, "S2")?,
+        port: word_of(found, "PORT")?,
+    })
+}
+
+/// A packet from a port, if the numbers have 16 bits.
+fn traced<'a>(found: &ArgMatches<'a>) -> Option<Inspection<&'a str>>
+    ensures { option_map named_inspection result ≡ trace_by (rows_of (found_of found.now)) }
+{
+    let port = word_of(found, "PORT")?;
+    let dlid = u16_by(word_of(found, "DLID"))?;
+    let p_key = u16_by(word_of(found, "PKEY"))?;
+    Some(Inspection::Trace(port, dlid, p_key))
+}
+
+fn u16_by(word: Option<&str>) -> Option<u16>
+    ensures { result ≡ u16_by (option_map (λ word. word.now) word.entry) }
+{
+    u16_in(word?.as_bytes())
+}
+
+/// A topology of this file, if the argument for the SM port is a GUID, or is not given.
+fn import_by<'a>(
+    netdiscover: Option<&'a str>,
+    manager: Option<&str>,
+) -> Option<Call<Asked<'a>, &'a str>>
+    ensures { option_map named_call result ≡ import_by (option_map (λ word. word.now) netdiscover.entry)
+        (guid_by (option_map (λ word. word.now) manager.entry)) }
+{
+    Some(Call::Import {
+        netdiscover: netdiscover?,
+        manager: guid_by(manager)?,
+    })
+}
+
+/// The GUID of an argument, or none if it is not given.
+fn guid_by(word: Option<&str>) -> Option<Option<u64>>
+    ensures { result ≡ guid_by (option_map (λ word. word.now) word.entry) }
+{
+    match word {
+        Some(word) => Some(Some(guid_in(word)?)),
+        None => Some(None),
+    }
+}
+
+fn guid_in(word: &str) -> Option<u64>
+    ensures { result ≡ if_under (2 ^ 64) (number_in word.now) }
+{
+    u64::try_from(number_in(word.as_bytes())?).ok()
+}
+
+/// The routes of a topology's fabric, by a dump of its LFTs.
+fn audit_by<'a>(
+    topology: Option<&'a str>,
+    dump: Option<&'a str>,
+) -> Option<Call<Asked<'a>, &'a str>>
+    ensures { option_map named_call result ≡ audit_by (option_map (λ word. word.now) topology.entry) (option_map (λ word. word.now) dump.entry) }
+{
+    Some(Call::Audit {
+        topology: topology?,
+        dump: dump?,
+    })
+}
+
+/// The code of an argument, or none if it is not given.
+fn explain_by<'a>(word: Option<&str>) -> Option<Call<Asked<'a>, &'a str>>
+    ensures { option_map named_call result ≡ explain_by (option_map (λ word. word.now) word.entry) }
+{
+    match word {
+        Some(word) => Some(Call::Explain(Some(Code::read(word)?))),
+        None => Some(Call::Explain(None)),
+    }
+}

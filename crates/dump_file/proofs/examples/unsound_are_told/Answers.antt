@@ -1,5 +1,0 @@
-use Rattle.dump_file.proofs.ExampleLemmas.{unsound_are_told}
-use Rattle.dump_file.proofs.examples.unsound_are_told.Goals as goal
-
-pub returns : goal.returns
-returns c = unsound_are_told

@@ -1,0 +1,5 @@
+use Rattle.netdiscover_file.proofs.ExampleLemmas.{unsound_are_reported}
+use Rattle.netdiscover_file.proofs.examples.unsound_are_reported.Goals as goal
+
+pub returns : goal.returns
+returns c = unsound_are_reported

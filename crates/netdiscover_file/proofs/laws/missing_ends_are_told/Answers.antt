@@ -1,5 +1,0 @@
-use Rattle.netdiscover_file.proofs.LawLemmas.{missing_ends_are_told}
-use Rattle.netdiscover_file.proofs.laws.missing_ends_are_told.Goals as goal
-
-pub returns : goal.returns
-returns c = missing_ends_are_told

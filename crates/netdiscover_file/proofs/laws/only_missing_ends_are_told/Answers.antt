@@ -1,5 +1,0 @@
-use Rattle.netdiscover_file.proofs.OtherEndLemmas.{only_missing_ends_are_told}
-use Rattle.netdiscover_file.proofs.laws.only_missing_ends_are_told.Goals as goal
-
-pub returns : goal.returns
-returns c = only_missing_ends_are_told

@@ -1,7 +1,0 @@
-use Rattle.std.specs.Prelude.{length}
-use Rattle.result_words.proofs.LineLemmas.{IsLeft}
-use Rattle.netdiscover_file.specs.Discovery.{after_line, told_by}
-use Rattle.netdiscover_file.proofs.reader.told_by.Given as goal
-
-abbrev pub invariant-loop-line : goal.invariant-loop-line
-invariant-loop-line l = IsLeft after_line l.number l.draft l.line-iterator (length l.text) (told_by l.text)

@@ -1,6 +1,0 @@
-use Rattle.std.proofs.Common.{drop}
-use Rattle.text_words.proofs.NumberLemmas.{IsLeft}
-use Rattle.netdiscover_file.proofs.spelling.digits_in.Given as goal
-
-abbrev pub invariant-loop-byte : goal.invariant-loop-byte
-invariant-loop-byte l = IsLeft l.radix l.value (drop l.byte-index l.digits) l.digits

@@ -1,0 +1,254 @@
+-- What is safe is reported to be.
+use Rattle.std.proofs.Common.{◌≡◌, ◌∙◌, inl, inr, ap, refl, sym, ℕ, zero, suc, ◌+◌, ◌<◌, ◌≤◌, Bool, true, false, not, ◌==◌, List, [], ◌∷◌, ◌++◌, length, filter, map, flat_map, slice_get, arith}
+use Rattle.std.proofs.Common.{Option, Some, None, is_none}
+use Rattle.std.specs.List.{list_all, list_any, range_with_len}
+use Rattle.std.specs.Option.{option_map_or}
+use Rattle.std.proofs.lemmas.Bool.{and_from, cases_Bool, eq-eqb, false≢true, not-true, or_right}
+use Rattle.std.proofs.lemmas.Bool.Decides.{nat_tests}
+use Rattle.std.proofs.lemmas.Option.{none-some}
+use Rattle.dump_file.specs.Table.{rows_of}
+use Rattle.dump_file.specs.declared.destination.Destination.{Destination}
+use Rattle.dump_file.specs.declared.destination.Destination.TheVariants.{ChannelAdapter, Switch, Router, FurtherLid, Nobody, NotReported}
+use Rattle.dump_file.specs.declared.row.Row.{Row}
+use Rattle.dump_file.specs.declared.table.Table.{Table}
+use Rattle.fabric_parts.specs.Cable.{ends_at, far_end, is_cabled, is_same_port, port}
+use Rattle.fabric_parts.specs.declared.cable.Cable.{Cable}
+use Rattle.fabric_parts.specs.declared.cable.PortRef.{PortRef}
+use Rattle.topo_file.specs.Connectivity.{switches}
+use Rattle.topo_file.specs.Node.{is_switch_at, ports_at}
+use Rattle.route_audit.specs.declared.following.Fate.TheVariants as fates
+use Rattle.route_audit.specs.declared.following.Turn.TheVariants as turns
+use Rattle.route_audit.specs.declared.lids.Aim.{Aim}
+use Rattle.route_audit.specs.declared.pairs.Pair.{Pair}
+use Rattle.route_audit.specs.Attached.{carries_adapter, leads_to_adapter}
+use Rattle.route_audit.specs.Audit.{audit_of, credit_loop}
+use Rattle.route_audit.specs.Channels.{deadlock}
+use Rattle.route_audit.specs.Following.{end_from, fate_by}
+use Rattle.route_audit.specs.Laws.{AreSafe, CarriesAnAdapter, IsAdaptersEnd, IsOfKind, NameTheSame, SafeRoutesAreReported, end_port_of, other_lids, says_safe}
+use Rattle.route_audit.specs.Lids.{aim_of, aims, all_lids, has_lid, have_lids, is_lacking, is_named, is_of, is_of_fabric, named_lids, says_of_fabric}
+use Rattle.route_audit.specs.Net.{NetState, row_at}
+use Rattle.route_audit.specs.Pairs.{all_reached, between_adapters, is_between_adapters, is_fate, pair_at, pair_to, pairs_at, pairs_by}
+use Rattle.route_audit.specs.Verdict.{has_table, have_tables, is_known, name_the_same}
+use Rattle.route_audit.proofs.CycleLawLemmas.{reported_loops_wait}
+use Rattle.route_audit.proofs.EndlessLemmas.{in_kept, ways_are_followed}
+use Rattle.route_audit.proofs.SafeLemmas.{flat_mapped, has_end, in_lids, reported_is_safe}
+
+itself : (at : PortRef) → is_same_port at at ≡ true
+itself at =
+    let node : (at.node == at.node) ≡ true = eq-eqb at.node at.node refl in
+    let number : (at.port == at.port) ≡ true = eq-eqb at.port at.port refl in
+    rw (node, number) refl
+
+-- ---- the dump and the topology name the same
+all_kept : (p test : ℕ → Bool) (xs : List ℕ) → ((x : ℕ) → test x ≡ true → p x ≡ true) → list_all p (filter test xs) ≡ true
+all_kept p test [] each = refl
+all_kept p test (x ∷ xs) each = elim (cases_Bool (test x)) [
+  | inl kept ↦ rw kept (and_from (p x) _ (each x kept) (all_kept p test xs each))
+  | inr left ↦ rw left (all_kept p test xs each)
+]
+
+some_table : (net : NetState) (lid : ℕ) (end : PortRef) → end_port_of net lid ≡ Some end → not (length net.dump.tables == 0) ≡ true
+some_table net lid end is = by net.dump.tables refl
+  where
+    by : (tables : List Table) → net.dump.tables ≡ tables → not (length net.dump.tables == 0) ≡ true
+    by [] none = let e : None ≡ Some end = rw none at is in cc
+    by (table ∷ tables) some =
+        let more : (suc (length tables) == 0) ≡ false = grind (arith, nat_tests) in
+        rw some (ap not more)
+
+all_tables : (net : NetState) → NameTheSame net → list_all (has_table net) (switches net.plan.nodes) ≡ true
+all_tables net same = all_kept (has_table net) (is_switch_at net.plan.nodes) (range_with_len 0 (length net.plan.nodes)) same.tables
+
+each_table : (p : Table → Bool) (tables : List Table) → ((k : ℕ) (table : Table) → slice_get tables k ≡ Some table → p table ≡ true) → list_all p tables ≡ true
+each_table p [] each = refl
+each_table p (table ∷ tables) each = and_from (p table) _ (each 0 table refl) (each_table p tables (λ k one there. each (suc k) one there))
+
+none_kept : (p : Aim → Bool) (f : ℕ → Aim) (test : ℕ → Bool) (first count : ℕ) → ((x : ℕ) → x < first + count → p (f x) ≡ false)
+    → list_any p (map f (filter test (range_with_len first count))) ≡ false
+none_kept p f test first zero each = refl
+none_kept p f test first (suc count) each =
+    let rest = none_kept p f test (first + 1) count (λ x below. each x (omega (arith, below))) in
+    elim (cases_Bool (test first)) [
+      | inl kept ↦ rw (kept, each first (omega arith)) rest
+      | inr left ↦ rw left rest
+    ]
+
+none_says : (p test : ℕ → Bool) (xs : List ℕ) → ((x : ℕ) → test x ≡ true → p x ≡ false) → list_any p (filter test xs) ≡ false
+none_says p test [] each = refl
+none_says p test (x ∷ xs) each = elim (cases_Bool (test x)) [
+  | inl kept ↦ rw (kept, each x kept) (none_says p test xs each)
+  | inr left ↦ rw left (none_says p test xs each)
+]
+
+has_no_end : (net : NetState) (lid : ℕ) (end : PortRef) → end_port_of net lid ≡ None → end_port_of net lid ≡ Some end → ⊥
+has_no_end net lid end none some = none-some end (sym none ∙ some)
+
+kind_lacks : (net : NetState) (lid : ℕ) (destination : Destination) → end_port_of net lid ≡ None → IsOfKind net lid destination → is_of_fabric destination ≡ false
+kind_lacks net lid (ChannelAdapter guid) none kind = absurd (has_no_end net lid kind.0 none kind.1)
+kind_lacks net lid (Switch guid) none kind = absurd (has_no_end net lid kind.0 none kind.1)
+kind_lacks net lid (Router guid) none kind = refl
+kind_lacks net lid (FurtherLid guid) none kind = refl
+kind_lacks net lid Nobody none kind = refl
+kind_lacks net lid NotReported none kind = refl
+
+not_said : (net : NetState) (lid : ℕ) → lid < 65536 → NameTheSame net → end_port_of net lid ≡ None → (place : ℕ) → is_switch_at net.plan.nodes place ≡ true
+    → says_of_fabric net lid place ≡ false
+not_said net lid below same none place switch = by (row_at net lid place) refl
+  where
+    by : (o : Option Row) → row_at net lid place ≡ o → option_map_or (λ row. is_of_fabric row.destination) o false ≡ false
+    by None is = refl
+    by (Some row) is = kind_lacks net lid row.destination none (same.ends place lid row switch below is)
+
+not_lacking : (net : NetState) (lid : ℕ) → lid < 65536 → NameTheSame net → is_lacking net (aim_of net lid) ≡ false
+not_lacking net lid below same = by (end_port_of net lid) refl
+  where
+    by : (o : Option PortRef) → end_port_of net lid ≡ o → is_lacking net (aim_of net lid) ≡ false
+    by (Some end) is = rw is refl
+    by None is =
+        rw is
+        (none_says (says_of_fabric net lid) (is_switch_at net.plan.nodes) (range_with_len 0 (length net.plan.nodes)) (not_said net lid below same is))
+
+none_lacks : (net : NetState) → NameTheSame net → not (list_any (is_lacking net) (aims net)) ≡ true
+unfolding all_lids
+none_lacks net same =
+    ap not (none_kept (is_lacking net) (aim_of net) (is_named (rows_of net.dump.tables)) 0 65536 (λ lid below. not_lacking net lid below same))
+
+all_same : (net : NetState) (lid : ℕ) (end : PortRef) → end_port_of net lid ≡ Some end → NameTheSame net → name_the_same net (aims net) ≡ true
+all_same net lid end is same =
+    and_from (have_tables net) _ (and_from (list_all (has_table net) (switches net.plan.nodes)) _ (all_tables net same) (some_table net lid end is))
+    (and_from (list_all (is_known net) net.dump.tables) _ (each_table (is_known net) net.dump.tables same.switches) (none_lacks net same))
+
+-- ---- each port of an adapter that has a cable has a LID
+in_mapped : (net : NetState) (end : PortRef) (lid : ℕ) (lids : List ℕ) → list_any (λ n. n == lid) lids ≡ true → is_of end (aim_of net lid) ≡ true
+    → list_any (is_of end) (map (aim_of net) lids) ≡ true
+in_mapped net end lid [] there is = absurd (false≢true there)
+in_mapped net end lid (n ∷ lids) there is = elim (cases_Bool (n == lid)) [
+  | inl here ↦ let same : n ≡ lid = grind (arith, nat_tests, here) in let found : is_of end (aim_of net n) ≡ true = rw same is in rw found refl
+  | inr other ↦ or_right (is_of end (aim_of net n)) _ (in_mapped net end lid lids (rw other at there) is)
+]
+
+port_has : (net : NetState) (at : PortRef) → AreSafe net → is_cabled net.plan.cables at ≡ true → has_lid net (aims net) at ≡ true
+port_has net at safe cabled = elim (cases_Bool (is_switch_at net.plan.nodes at.node)) [
+  | inl switch ↦ rw switch refl
+  | inr adapter ↦
+      let named = safe.named at (adapter, cabled) in
+      let has : is_of at (aim_of net named.0) ≡ true =
+      ap (λ (o : Option PortRef). option_map_or (λ end. is_same_port end at) o false) named.2 ∙ itself at in
+      let listed : list_any (λ n. n == named.0) (named_lids net.dump) ≡ true =
+      in_kept (is_named (rows_of net.dump.tables)) named.0 all_lids (has_end net named.0 at named.2) (in_lids named.0 named.1) in
+      rw adapter (in_mapped net at named.0 (named_lids net.dump) listed has)
+]
+
+all_cables : (p : Cable → Bool) (whole cables : List Cable) → ((at : PortRef) → is_cabled cables at ≡ true → is_cabled whole at ≡ true)
+    → ((cable : Cable) → ((at : PortRef) → ends_at at cable ≡ true → is_cabled whole at ≡ true) → p cable ≡ true) → list_all p cables ≡ true
+all_cables p whole [] among each = refl
+all_cables p whole (cable ∷ cables) among each =
+    and_from (p cable) _ (each cable (λ at ends. among at (rw ends refl)))
+    (all_cables p whole cables (λ at is. among at (or_right (ends_at at cable) _ is)) each)
+
+cables_have : (net : NetState) → AreSafe net → list_all (have_lids net (aims net)) net.plan.cables ≡ true
+cables_have net safe =
+    all_cables (have_lids net (aims net)) net.plan.cables net.plan.cables (λ at is. is)
+    (λ cable ends. and_from (has_lid net (aims net) cable.first) _
+    (port_has net cable.first safe (ends cable.first (rw (itself cable.first) refl)))
+    (port_has net cable.second safe (ends cable.second (or_right (is_same_port cable.first cable.second) _ (itself cable.second)))))
+
+-- ---- all pairs between adapters are reached
+both_reached : (one other : List Pair) → all_reached (between_adapters one) ≡ true → all_reached (between_adapters other) ≡ true
+    → all_reached (between_adapters (one ++ other)) ≡ true
+both_reached [] other is also = also
+both_reached (pair ∷ one) other is also = elim (cases_Bool (is_between_adapters pair)) [
+  | inr left ↦ rw left (both_reached one other (rw left at is) also)
+  | inl kept ↦ elim (cases_Bool (is_fate fates.Reached pair.fate)) [
+    | inl reached ↦ rw (kept, reached) (both_reached one other (rw (kept, reached) at is) also)
+    | inr lost ↦ absurd (false≢true (rw (kept, lost) at is))
+  ]
+]
+
+each_in_range : (f : ℕ → List Pair) (test : ℕ → Bool) (first count : ℕ)
+    → ((x : ℕ) → x < first + count → test x ≡ true → all_reached (between_adapters (f x)) ≡ true)
+    → all_reached (between_adapters (flat_map f (filter test (range_with_len first count)))) ≡ true
+each_in_range f test first zero each = refl
+each_in_range f test first (suc count) each =
+    let rest = each_in_range f test (first + 1) count (λ x below is. each x (omega (arith, below)) is) in
+    elim (cases_Bool (test first)) [
+      | inl kept ↦ rw kept (both_reached (f first) _ (each first (omega arith) kept) rest)
+      | inr left ↦ rw left rest
+    ]
+
+pair_fine : (net : NetState) (place lid : ℕ) (o : Option PortRef)
+    → ((end : PortRef) → o ≡ Some end → is_switch_at net.plan.nodes end.node ≡ false → carries_adapter net place ≡ true
+    → end_from net lid place ≡ Some (turns.Arrives end))
+    → all_reached (between_adapters (pair_to net place lid o)) ≡ true
+pair_fine net place lid None ends = refl
+pair_fine net place lid (Some end) ends = elim (cases_Bool (is_switch_at net.plan.nodes end.node)) [
+  | inl switch ↦ rw switch refl
+  | inr adapter ↦ elim (cases_Bool (carries_adapter net place)) [
+    | inr none ↦ rw (adapter, none) refl
+    | inl carrying ↦
+        let reached : is_fate fates.Reached (fate_by end (end_from net lid place)) ≡ true = rw (ends end refl adapter carrying, itself end) refl in
+        rw (adapter, carrying, reached) refl
+  ]
+]
+
+-- a switch that carries an adapter has a port with a cable to one
+some_port : (test : PortRef → Bool) (place first count : ℕ) → list_any test (map (port place) (range_with_len first count)) ≡ true
+    → (number : ℕ) × (first ≤ number) × (number < first + count) × (test (port place number) ≡ true)
+some_port test place first zero some = absurd (false≢true some)
+some_port test place first (suc count) some = elim (cases_Bool (test (port place first))) [
+  | inl here ↦ (first, omega arith, omega arith, here)
+  | inr other ↦
+      let rest = some_port test place (first + 1) count (rw other at some) in
+      (rest.0, (let low = rest.1 in omega (arith, low)), (let high = rest.2 in omega (arith, high)), rest.3)
+]
+
+pub carried : (net : NetState) (place : ℕ) → is_switch_at net.plan.nodes place ≡ true → carries_adapter net place ≡ true → CarriesAnAdapter net place
+carried net place switch some = by found.0 found.1 found.2 (far_end net.plan.cables (port place found.0)) refl found.3
+  where
+    found : (number : ℕ) × (1 ≤ number) × (number < 1 + ports_at net.plan.nodes place) × (leads_to_adapter net (port place number) ≡ true)
+    found = some_port (leads_to_adapter net) place 1 (ports_at net.plan.nodes place) some
+
+    by : (number : ℕ) → 1 ≤ number → number < 1 + ports_at net.plan.nodes place → (o : Option PortRef) → far_end net.plan.cables (port place number) ≡ o
+        → option_map_or (λ there. not (is_switch_at net.plan.nodes there.node)) o false ≡ true → CarriesAnAdapter net place
+    by number low high None far leads = absurd (false≢true leads)
+    by number low high (Some at) far leads = record {
+      switch = switch;
+      number = number;
+      low = low;
+      high = omega (arith, high);
+      at = at;
+      cable = far;
+      adapter = not-true (is_switch_at net.plan.nodes at.node) leads;
+    }
+
+all_pairs : (net : NetState) → AreSafe net → all_reached (between_adapters (pairs_by net (aims net))) ≡ true
+unfolding all_lids
+all_pairs net safe =
+    each_in_range (pairs_at net (aims net)) (is_switch_at net.plan.nodes) 0 (length net.plan.nodes)
+    (λ place within switch.
+    ap (λ (pairs : List Pair). all_reached (between_adapters pairs)) (flat_mapped (pair_at net place) (aim_of net) (named_lids net.dump))
+    ∙ each_in_range (λ n. pair_at net place (aim_of net n)) (is_named (rows_of net.dump.tables)) 0 65536
+    (λ lid below named. pair_fine net place lid (aim_of net lid).end
+    (λ end is adapter carrying. ways_are_followed.reported net lid place (turns.Arrives end) switch
+    (safe.reached place lid end (carried net place switch carrying) below is adapter))))
+
+-- ---- and no cycle is reported
+no_ring : (net : NetState) → AreSafe net → is_none (credit_loop net (aims net)) ≡ true
+no_ring net safe = by (deadlock net (other_lids net)) refl
+  where
+    by : (o : Option (List PortRef)) → deadlock net (other_lids net) ≡ o → is_none o ≡ true
+    by None is = refl
+    by (Some ring) is =
+        let cycle = reported_loops_wait net (other_lids net) ring is in
+        absurd (false≢true (sym (safe.free ring cycle.0) ∙ cycle.1))
+
+safe_is_reported : (net : NetState) (end : PortRef) → IsAdaptersEnd net end → AreSafe net → says_safe net ≡ true
+unfolding audit_of
+safe_is_reported net end is safe =
+    let named = safe.named end is in
+    and_from (list_all (have_lids net (aims net)) net.plan.cables) _ (cables_have net safe)
+    (and_from (all_reached (between_adapters (pairs_by net (aims net)))) _ (all_pairs net safe)
+    (and_from (is_none (credit_loop net (aims net))) _ (no_ring net safe) (all_same net named.0 end named.2 safe.same)))
+
+pub safe_routes_are_reported : SafeRoutesAreReported
+safe_routes_are_reported = record { safe = reported_is_safe; reported = safe_is_reported }

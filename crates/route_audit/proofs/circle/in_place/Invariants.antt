@@ -1,5 +1,0 @@
-use Rattle.route_audit.specs.Marks.{KeepsCircles}
-use Rattle.route_audit.proofs.circle.in_place.Given as goal
-
-abbrev pub invariant-loop : goal.invariant-loop
-invariant-loop l = KeepsCircles l.graph l.marks.items

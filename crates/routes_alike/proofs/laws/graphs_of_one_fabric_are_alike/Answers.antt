@@ -1,5 +1,0 @@
-use Rattle.routes_alike.proofs.OfFabricLemmas.{graphs_of_one_fabric_are_alike}
-use Rattle.routes_alike.proofs.laws.graphs_of_one_fabric_are_alike.Goals as goal
-
-pub returns : goal.returns
-returns c = graphs_of_one_fabric_are_alike

@@ -1,5 +1,0 @@
-use Rattle.routes_audited.proofs.WrongLemmas.{a_hole_does_not_pass}
-use Rattle.routes_audited.proofs.wrong_tables.a_hole_does_not_pass.Goals as goal
-
-pub returns : goal.returns
-returns c = a_hole_does_not_pass

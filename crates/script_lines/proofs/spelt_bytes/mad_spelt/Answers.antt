@@ -1,7 +1,0 @@
-use Rattle.std.proofs.Common.{◌∙◌, ap}
-use Rattle.std.specs.Result.{result_ok}
-use Rattle.script_lines.proofs.PayloadLemmas.{same_room}
-use Rattle.script_lines.proofs.spelt_bytes.mad_spelt.Goals as goal
-
-pub returns : goal.returns
-returns c = c.ok.ensures.value ∙ ap result_ok c.spelt.ensures ∙ same_room 256 c.args.digits.now

@@ -1,0 +1,11 @@
+pub mod StepLemmas
+pub mod LineLemmas
+pub mod TestLemmas
+pub mod BoolLemmas
+pub mod ListLemmas
+pub mod PlaceLemmas
+pub mod ElementLemmas
+pub mod FilterLemmas
+pub mod RangeLemmas
+pub mod DistinctLemmas
+pub mod RisingLemmas

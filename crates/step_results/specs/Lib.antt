@@ -1,0 +1,4 @@
+pub mod Steps
+pub mod AtLine
+pub mod Gives
+pub mod TextGives

@@ -1,5 +1,0 @@
-use Rattle.switch_model.proofs.FateLemmas.{fates_tell_ways_out}
-use Rattle.switch_model.proofs.laws.fates_tell_ways_out.Goals as goal
-
-pub returns : goal.returns
-returns c = fates_tell_ways_out

@@ -1,0 +1,8 @@
+use Rattle.std.proofs.Common.{take}
+use Rattle.table_push.specs.MaskSteps.{is_attached_at}
+use Rattle.table_push.proofs.AttachmentBitLemmas.{Slots}
+use Rattle.table_push.proofs.attachments.ports_at.Given as goal
+
+-- where the first receivers are attached
+abbrev pub invariant-loop-index : goal.invariant-loop-index
+invariant-loop-index l = Slots 48 l.fn.partition (take l.index l.fn.receivers) (is_attached_at l.fn.routes.between.homes l.fn.place) l.ports

@@ -1,7 +1,0 @@
-use Rattle.std.proofs.Common.{take}
-use Rattle.table_push.proofs.SeatBitLemmas.{SoFar}
-use Rattle.table_push.proofs.seats.put_seats.Given as goal
-
--- where the first receivers hang
-abbrev pub invariant-loop-index : goal.invariant-loop-index
-invariant-loop-index l = SoFar l.fn.routes l.fn.partition (take l.index l.fn.receivers) l.ports l.switches
