@@ -10,7 +10,7 @@ use Rattle.smp_wire.specs.FabricState.{FabricState, is_switch_at}
 use Rattle.smp_wire.specs.Good.{IsGood, SwitchesJoined}
 use Rattle.sweep.proofs.EndPortLemmas.{stands}
 use Rattle.sweep.proofs.FoundLemmas.{place_is}
-use Rattle.sweep.proofs.LayoutLemmas.{At, are_inside, at_less, at_switch, first, manager_at}
+use Rattle.sweep.proofs.LayoutLemmas.{are_inside, at_less, at_switch, first, manager_at}
 use Rattle.sweep.proofs.RoundLemmas.{distances_exist}
 use Rattle.sweep.proofs.ServedLemmas.{near_decides}
 use Rattle.sweep.proofs.SweptLemmas.{near_within, whole_graphs_are_swept, within_near}

@@ -1,6 +1,8 @@
 //! Files and writers in memory, some of which fail. The contents of all of them are known to contracts.
 
 ghost use Rattle.std.specs.Prelude.{◌≡◌, false, [], ◌∷◌, Some, find, map, option_map, string_bytes};
+ghost use Rattle.std.specs.Io.{ReadsAtMost};
+ghost use Rattle.std.specs.Io.KnownBytes.{ReadConsumes};
 ghost use Rattle.std.specs.Str.{bytes_eq};
 ghost use Rattle.fabric_cli.specs.Files.{OpensAll};
 
@@ -20,6 +22,8 @@ pub enum Manner {
     Dripping,
     /// Never: every read fails.
     Failing,
+    /// One byte a read, but for the read of this number, counted from 1, which fails.
+    FailingAt(usize),
 }
 
 /// What a name opens to.
@@ -39,12 +43,28 @@ impl Read for Source<'_> {
                 self.manner = Manner::Plain;
                 Err(io::Error::from(ErrorKind::Interrupted))
             }
-            Manner::Dripping => {
-                let room = buf.len().min(1);
-                self.bytes.read(&mut buf[..room])
-            }
+            Manner::Dripping => self.drip(buf),
             Manner::Failing => Err(io::Error::from(ErrorKind::Other)),
+            Manner::FailingAt(reads) => {
+                if reads <= 1 {
+                    self.manner = Manner::Dripping;
+                    return Err(io::Error::from(ErrorKind::Other));
+                }
+                self.manner = Manner::FailingAt(reads - 1);
+                self.drip(buf)
+            }
         }
+    }
+}
+
+impl Source<'_> {
+    /// Reads one byte, if there is room for it and one is left.
+    fn drip(&mut self, buf: &mut [u8]) -> io::Result<usize>
+        ensures bound { ReadsAtMost result buf.new }
+        ensures bytes { ReadConsumes (Some self.old.bytes.now) (Some self.new.bytes.now) result buf.new }
+    {
+        let room = buf.len().min(1);
+        self.bytes.read(&mut buf[..room])
     }
 }
 

@@ -90,6 +90,77 @@ fn is_answered(
     Ok(())
 }
 
+/// A topology and a partition file that fail at one read, each in turn, though the next would bring the next byte.
+#[test]
+fn files_that_fail_at_one_read(rt: HostRuntime) -> Result<(), Fail> {
+    let topology = TWO_SWITCHES.as_bytes();
+    for reads in 1..topology.len() + 2 {
+        let files = [
+            ("net", read_so(Manner::FailingAt(reads), topology)),
+            ("parts", plain(PARTS)),
+            ("sends", plain(SENDS.as_bytes())),
+        ];
+        is_unread(&rt, rt.alloc(), &files, ("fault read net\n", "", 1))?;
+    }
+    for reads in 1..PARTS.len() + 2 {
+        let files = [
+            ("net", plain(topology)),
+            ("parts", read_so(Manner::FailingAt(reads), PARTS)),
+            ("sends", plain(SENDS.as_bytes())),
+        ];
+        is_unread(&rt, rt.alloc(), &files, ("fault read parts\n", "", 2))?;
+    }
+    Ok(())
+}
+
+/// A script that fails at one read, each in turn: the lines before that are carried out.
+#[test]
+fn a_script_that_fails_at_one_read(rt: HostRuntime) -> Result<(), Fail> {
+    let script = SENDS.as_bytes();
+    let first = script
+        .iter()
+        .position(|byte| *byte == b'\n')
+        .ok_or("a line")?;
+    for reads in 1..script.len() + 2 {
+        let files = [
+            ("net", plain(TWO_SWITCHES.as_bytes())),
+            ("parts", plain(PARTS)),
+            ("sends", read_so(Manner::FailingAt(reads), script)),
+        ];
+        let report = if reads <= first + 1 {
+            ""
+        } else if reads <= 2 * (first + 1) {
+            FIRST
+        } else {
+            REPORT
+        };
+        is_unread(&rt, rt.alloc(), &files, ("fault read sends\n", report, 3))?;
+    }
+    Ok(())
+}
+
+/// All ports are full members of the default partition.
+const PARTS: &[u8] = b"Default=0x7fff, ipoib: ALL=full;\n";
+
+/// The line of the file that cannot be read, the output until then, and how many files were opened.
+fn is_unread(
+    rt: &impl Abort,
+    alloc: Global,
+    files: &[(&str, Source<'_>)],
+    unread: (&str, &str, usize),
+) -> Result<(), Fail> {
+    let (err, out, opened) = unread;
+    let words = ["fabric", "run", "net", "parts", "sends"];
+    let mut sink = sink(alloc, 1000, Refusal::Broken, true);
+    let reported = reported(alloc, &words, files, &mut sink)?;
+    let names = reported.opened.ok_or("the names")?;
+    assert_eq!(rt; reported.status, 3, "of {err}");
+    assert_eq!(rt; reported.out.as_slice(), out.as_bytes(), "of {err}");
+    assert_eq!(rt; reported.err.as_slice(), err.as_bytes(), "of {err}");
+    assert_eq!(rt; names.len(), opened, "of {err}");
+    Ok(())
+}
+
 /// The report is of 94 bytes: eleven writes of eight bytes, and one of the rest.
 const LAST: usize = 11;
 

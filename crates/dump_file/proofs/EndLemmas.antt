@@ -1,8 +1,7 @@
--- A map that knows whose LIDs are, with one more row.
+-- Whose LIDs are, with one more row.
 use Rattle.std.proofs.Common.{◌≡◌, ◌∙◌, ap, refl, sym, ℕ, Bool, true, false, ◌==◌, List, [], ◌∷◌, ◌++◌, Option, Some, None, if◌then◌else◌, arith}
 use Rattle.std.specs.Option.{option_or}
 use Rattle.std.proofs.lemmas.Bool.Decides.{nat_tests}
-use Rattle.indexmap.specs.IndexMap.{IndexMap}
 use Rattle.dump_file.specs.declared.row.Row.{Row}
 use Rattle.dump_file.specs.Destination.{guid_said}
 use Rattle.dump_file.specs.Index.{KnowsEnds, KnowsMore}
@@ -21,7 +20,7 @@ either_way_at true said was apart = either_way said was (apart refl)
 either_way_at false said None apart = refl
 either_way_at false said (Some other) apart = refl
 
-pub knows_more : {S : Type 0} (before after : IndexMap ℕ ℕ S) (rows : List Row) (row : Row) → KnowsEnds before rows → KnowsMore row before after
+pub knows_more : (before after : List (Option ℕ)) (rows : List Row) (row : Row) → KnowsEnds before rows → KnowsMore row before after
     → is_said_otherwise rows row ≡ false → KnowsEnds after (rows ++ row ∷ [])
 knows_more before after rows row knows more apart lid =
     more lid ∙ ap (option_or (said_of lid row)) (knows lid)

@@ -1,17 +1,20 @@
 -- Which end port each LID has, looked up.
-use Rattle.std.specs.Prelude.{ℕ, ◌≡◌, nat_eq, List}
+use Rattle.std.specs.Prelude.{ℕ, ◌≡◌, List, slice_get, Option, None, unwrap_or}
 use Rattle.std.specs.Option.{option_or}
-use Rattle.indexmap.specs.IndexMap.{IndexMap, get}
 use Rattle.dump_file.specs.declared.row.Row.{Row}
 use Rattle.dump_file.specs.Row.{end_of, said_of}
 
--- the map has the end port of each LID of which these rows say one
-abbrev pub KnowsEnds : {S : Type 0} → IndexMap ℕ ℕ S → List Row → Type 0
-KnowsEnds ends rows = (lid : ℕ) → get nat_eq ends lid ≡ end_of lid rows
+-- the end port that stands at the place of the LID
+abbrev pub end_known : List (Option ℕ) → ℕ → Option ℕ
+end_known ends lid = unwrap_or (slice_get ends lid) None
 
--- what a second map knows beside the first: whose the LID of this row is, if the row says it; or nothing
-abbrev pub KnowsMore : {S : Type 0} → Row → IndexMap ℕ ℕ S → IndexMap ℕ ℕ S → Type 0
-KnowsMore row before after = (lid : ℕ) → get nat_eq after lid ≡ option_or (said_of lid row) (get nat_eq before lid)
+-- the list has the end port of each LID of which these rows say one
+abbrev pub KnowsEnds : List (Option ℕ) → List Row → Type 0
+KnowsEnds ends rows = (lid : ℕ) → end_known ends lid ≡ end_of lid rows
 
-abbrev pub KnowSame : {S : Type 0} → IndexMap ℕ ℕ S → IndexMap ℕ ℕ S → Type 0
-KnowSame before after = (lid : ℕ) → get nat_eq after lid ≡ get nat_eq before lid
+-- what a second list knows beside the first: whose the LID of this row is, if the row says it; or nothing
+abbrev pub KnowsMore : Row → List (Option ℕ) → List (Option ℕ) → Type 0
+KnowsMore row before after = (lid : ℕ) → end_known after lid ≡ option_or (said_of lid row) (end_known before lid)
+
+abbrev pub KnowSame : List (Option ℕ) → List (Option ℕ) → Type 0
+KnowSame before after = (lid : ℕ) → end_known after lid ≡ end_known before lid

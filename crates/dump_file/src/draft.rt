@@ -7,13 +7,13 @@ ghost use Rattle.dump_file.specs.Row.{is_said_otherwise, may_follow};
 ghost use Rattle.dump_file.specs.Sound.{may_take};
 ghost use Rattle.dump_file.specs.Table.{place_of};
 
+use crate::ends::EndList;
 use crate::fault::DumpCause;
 use crate::heading::{Heading, heading_in};
 use crate::parts::{count_in, cut};
 use crate::row::{Row, are_two, may_follow, row_in, valid_count};
 use crate::stage::Stage;
 use crate::table::TableList;
-use indexmap::IndexMap;
 use std::alloc::{AllocError, Global};
 use std::marker::Model;
 
@@ -25,7 +25,7 @@ pub(crate) struct Draft {
     // Of the table that is open.
     pub(crate) rows: Vec<Row>,
     // The end port of each LID of which a row says one.
-    pub(crate) ends: IndexMap<u16, u64>,
+    pub(crate) ends: EndList,
 }
 
 impl Model for Draft {
@@ -52,7 +52,7 @@ impl Draft {
             tables: TableList::new(alloc),
             stage: Stage::Between,
             rows: Vec::new(alloc),
-            ends: IndexMap::new(alloc),
+            ends: EndList::new(alloc),
         }
     }
 
@@ -81,7 +81,7 @@ impl Draft {
     fn is_said_otherwise(&self, row: Row) -> bool
         ensures { result ≡ is_said_otherwise (rows_so_far self.now) row }
     {
-        are_two(self.ends.get(&row.lid).copied(), row.destination.guid())
+        are_two(self.ends.end_of(row.lid), row.destination.guid())
     }
 
     /// Judges a row of the table that is open against those before it.
@@ -130,7 +130,7 @@ impl Draft {
 }
 
 /// Notes whose the row's LID is, if the row says it. It can only run out of memory, and then all is as before.
-fn know_end(ends: &mut IndexMap<u16, u64>, row: Row) -> Result<(), AllocError>
+fn know_end(ends: &mut EndList, row: Row) -> Result<(), AllocError>
     ensures ok { OnOk result (KnowsMore row ends.old ends.new) }
     ensures err { OnErr result (KnowSame ends.old ends.new) }
 {

@@ -6,8 +6,8 @@ ghost use Rattle.dump_file.specs.Row.{end_of};
 ghost use Rattle.dump_file.specs.Sound.{have_one_end, is_rising, shares_switch, IsSound};
 ghost use Rattle.dump_file.specs.Table.{place_of, rows_of};
 
+use crate::ends::EndList;
 use crate::table::{Table, TableList};
-use indexmap::IndexMap;
 use std::marker::Model;
 
 /// The linear forwarding tables of a fabric, and whose its LIDs are.
@@ -15,7 +15,7 @@ use std::marker::Model;
 pub struct Dump {
     pub(crate) tables: TableList,
     // The end port of each LID of which a row says one.
-    pub(crate) ends: IndexMap<u16, u64>,
+    pub(crate) ends: EndList,
 }
 
 impl Model for Dump {
@@ -61,6 +61,6 @@ impl Dump {
     pub fn end_of(&self, lid: u16) -> Option<u64>
         ensures { result ≡ end_of lid (rows_of self.now.tables) }
     {
-        self.ends.get(&lid).copied()
+        self.ends.end_of(lid)
     }
 }

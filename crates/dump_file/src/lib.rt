@@ -8,6 +8,7 @@
 mod destination;
 mod draft;
 mod dump;
+mod ends;
 mod examples;
 mod fault;
 mod heading;

@@ -1,5 +1,5 @@
 -- Names opened one after the other.
-use Rattle.std.proofs.Common.{ℕ, ◌≡◌, inl, inr, Bool, true, is_some, IfSome, option_map, unwrap_or, subst, Result, Ok, List, [], ◌∷◌, ◌++◌, ◌+◌, length, take, Option, Some, None}
+use Rattle.std.proofs.Common.{ℕ, ◌≡◌, inl, inr, Bool, true, is_some, IfSome, option_map, unwrap_or, subst, Ok, List, [], ◌∷◌, ◌++◌, ◌+◌, length, take, Option, Some, None}
 use Rattle.std.proofs.Common.{append_assoc, append-nil, ap, refl, sym, ◌∙◌}
 use Rattle.std.proofs.Math.Seq.{take-append-add, take-append_seam}
 use Rattle.std.proofs.lemmas.List.Folds.{list_all-append}

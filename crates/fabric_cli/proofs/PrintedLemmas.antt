@@ -5,7 +5,7 @@ use Rattle.step_results.proofs.StepLemmas.{bind_ok, same_ok}
 use Rattle.step_results.specs.AtLine.{AtLine}
 use Rattle.sa_runs.proofs.ApartLemmas.{runs_are_isolated}
 use Rattle.sa_runs.specs.Administration.{subnet_administration}
-use Rattle.subnet_core.proofs.TopologyLemmas.{topology_is_sound}
+use Rattle.topo_file.proofs.TopologyLemmas.{topology_is_sound}
 use Rattle.subnet_core.specs.Fate.{up_from}
 use Rattle.subnet_core.specs.EventLines.{line_text}
 use Rattle.subnet_core.specs.Inventory.{InventoryState, of_text, partitions_for, inventory_of, inventoried}

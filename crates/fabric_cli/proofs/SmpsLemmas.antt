@@ -1,13 +1,13 @@
 -- SMPs that a fabric answers while they are read, as a result of the program.
-use Rattle.std.proofs.Common.{ℕ, ◌≡◌, inl, inr, ap, refl, subst, Bool, true, List, [], Option, Some, None, Result, Ok, Err, IfSome, IsErrOf, unwrap_or}
+use Rattle.std.proofs.Common.{ℕ, ◌≡◌, inl, inr, ap, refl, subst, Bool, true, List, [], Option, Some, None, Result, Ok, Err, IsErrOf, unwrap_or}
 use Rattle.std.specs.Borrow.{Bor}
 use Rattle.std.specs.Io.KnownBytes.{Appends}
 use Rattle.cli_args.specs.declared.call.Work.TheVariants as work
-use Rattle.fabric_cli.proofs.EndingLemmas.{kept, whole_part}
+use Rattle.fabric_cli.proofs.EndingLemmas.{kept}
 use Rattle.fabric_cli.proofs.JudgedLemmas.{smps_over, smps_stop as smps_stopped}
 use Rattle.fabric_cli.proofs.RunLemmas.{what_is_known}
 use Rattle.fabric_cli.specs.Faults.{smps_stop}
-use Rattle.fabric_cli.specs.Serving.{Answers, AppendsSome, Ending, ended, GoesOut, GoesPartly, OfScript, StopsBehind, output_in, smps_by, smps_seen, smps_reported, texts_with}
+use Rattle.fabric_cli.specs.Serving.{Answers, AppendsSome, ended, GoesOut, GoesPartly, OfScript, output_in, smps_by, smps_seen, smps_reported, texts_with}
 use Rattle.fabric_cli.specs.declared.answering.Answer.{Answer}
 use Rattle.fabric_cli.specs.declared.answering.Answer.TheVariants.{Complete}
 use Rattle.fabric_cli.specs.declared.faults.Stop.{Stop}

@@ -39,7 +39,7 @@ use Rattle.subnet_model.specs.declared.command.Command.{Command}
 use Rattle.text_streams.specs.Reading.{IsEndless}
 use Rattle.text_streams.specs.Writing.{AppendsPart, Writes}
 use Rattle.text_words.specs.Lines.{lines}
-use Rattle.topo_file.specs.Topology.{TopologyState, topology_of}
+use Rattle.topo_file.specs.Topology.{TopologyState, topology_within}
 use Rattle.step_results.specs.declared.text_fault.TextFault.{TextFault}
 use Rattle.step_results.specs.declared.text_fault.TextFault.TheVariants as of_text
 use Rattle.step_results.specs.AtLine.{AtLine}
@@ -60,6 +60,7 @@ use Rattle.fabric_cli.specs.declared.faults.ForeignCause.TheVariants.{Discovery,
 use Rattle.smp_lines.specs.SmpLines.{Answered, answered}
 use Rattle.fabric_cli.specs.declared.answering.Answer.{Answer}
 use Rattle.fabric_cli.specs.declared.answering.Answer.TheVariants.{Complete, Warned}
+use Rattle.fabric_parts.specs.declared.limits.Limits.TheVariants.{Large}
 use Rattle.dump_file.specs.Dump.{DumpState, dump_of}
 use Rattle.dump_file.specs.declared.fault.DumpCause.{DumpCause}
 use Rattle.route_audit.specs.Audit.{AuditState, audit}
@@ -302,7 +303,7 @@ audited_over (Ok plan) dump = audited_by plan (dump_of dump)
 audited_over (Err at) dump = faulted 1 (topology_line (topology_code at.cause) at.line)
 
 abbrev pub audited : List ℕ → List ℕ → Ending
-audited topology dump = audited_over (topology_of topology) dump
+audited topology dump = audited_over (topology_within Large topology) dump
 
 -- ---- what the loss of cables would do: the fabric is brought up before the arguments for one are checked
 -- of all cables, of the one between two given ports, or as a picture

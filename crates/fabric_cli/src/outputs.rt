@@ -22,6 +22,7 @@ use cable_cuts::{cut_text, cuts_text, needed};
 use cli_args::{CutView, Inspection};
 use dump_file::DumpFault;
 use fabric_graph::graph_text;
+use fabric_parts::Limits;
 use fabric_tables::{keys_text, tables_text};
 use netdiscover_file::{Discovery, DiscoveryFault};
 use packet_trace::trace_text;
@@ -34,7 +35,7 @@ use subnet_core::{
     Comparison, Inventory, RunFault, ScriptCause, Subnet, bring_up, compare, left_by,
     read_inventory,
 };
-use topo_file::{TopoFault, Topology};
+use topo_file::{LargeTopology, TopoFault};
 use topology_import::{ImportFault, topology_text};
 
 /// The listing of a subnet that is brought up.
@@ -399,13 +400,13 @@ pub fn audited<'a>(alloc: Global, topology: &[u8], dump: &[u8]) -> Result<Audit,
     ensures exact { EndsIn audit_ending (ended (audited topology.now dump.now)) result }
     ensures fault { IfErr result IsOfRun }
 {
-    match topo_file::read(alloc, topology) {
+    match topo_file::read_within(alloc, topology, Limits::Large) {
         Ok(plan) => audited_over(alloc, &plan, dump),
         Err(fault) => Err(topology_stop(fault)),
     }
 }
 
-fn audited_over<'a>(alloc: Global, plan: &Topology, dump: &[u8]) -> Result<Audit, Stop<'a>>
+fn audited_over<'a>(alloc: Global, plan: &LargeTopology, dump: &[u8]) -> Result<Audit, Stop<'a>>
     ensures exact { EndsIn audit_ending (ended (audited_by plan.now (dump_of dump.now))) result }
     ensures fault { IfErr result IsOfRun }
 {

@@ -7,7 +7,7 @@ ghost use Rattle.fabric_cli.specs.Faults.{IsOfFiles, NamesUnread};
 use crate::faults::Stop;
 use crate::files::Files;
 use std::alloc::Global;
-use text_streams::read_to_end;
+use text_streams::{TextSize, read_to_end};
 
 /// A file that is open, and that is read while it is carried out.
 #[derive(Drop)]
@@ -40,7 +40,7 @@ pub fn open_file<'a, F: Files>(
     }
 }
 
-/// The bytes of two named files, each opened once.
+/// The bytes of two named files, each opened once; the second may be big.
 pub fn read_two<'a, F: Files>(
     alloc: Global,
     files: &mut F,
@@ -55,16 +55,17 @@ pub fn read_two<'a, F: Files>(
     ensures unread { IfErr result (NamesUnread (F.reported files.old) (F.reads files.old)
         (F.opened files.old) (F.opened files.new) (first.entry.now ∷ second.entry.now ∷ [])) }
 {
-    let one = read_file(alloc, files, first)?;
-    let other = read_file(alloc, files, second)?;
+    let one = read_file(alloc, files, first, TextSize::Plain)?;
+    let other = read_file(alloc, files, second, TextSize::Big)?;
     Ok((one, other))
 }
 
-/// The bytes of a named file, which is opened once.
+/// The bytes of a named file of at most this size, which is opened once.
 pub fn read_file<'a, F: Files>(
     alloc: Global,
     files: &mut F,
     name: &'a str,
+    size: TextSize,
 ) -> Result<Vec<u8>, Stop<'a>>
     ensures opened { OpensAll (F.opened files.old) (F.opened files.new) (name.entry.now ∷ []) }
     ensures same { F.reported files.new ≡ F.reported files.old }
@@ -78,7 +79,7 @@ pub fn read_file<'a, F: Files>(
     let Some(mut input) = files.open(name) else {
         return Err(Stop::Unread(name));
     };
-    match read_to_end(alloc, &mut input)? {
+    match read_to_end(alloc, &mut input, size)? {
         Some(bytes) => Ok(bytes),
         None => Err(Stop::Unread(name)),
     }

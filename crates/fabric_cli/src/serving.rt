@@ -23,7 +23,7 @@ use std::alloc::Global;
 use std::env::Args;
 use std::io;
 use std::process::ExitCode;
-use text_streams::{Output, write_whole};
+use text_streams::{Output, TextSize, write_whole};
 
 /// Does what the arguments of the process ask for, as [`serve`] does, and returns the exit status; arguments that are not
 /// text are refused.
@@ -177,7 +177,7 @@ fn answered_of_discovery<'a, F: Files, O: Output>(
     ensures unread { IfErr result (NamesUnread (F.reported files.old) (F.reads files.old)
         (F.opened files.old) (F.opened files.new) (netdiscover.entry.now ∷ [])) }
 {
-    match read_file(alloc, files, netdiscover) {
+    match read_file(alloc, files, netdiscover, TextSize::Big) {
         Ok(text) => written(out, imported(alloc, text.as_slice(), manager)),
         Err(stop) => Err(stop),
     }

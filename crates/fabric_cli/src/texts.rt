@@ -13,6 +13,7 @@ use crate::files::Files;
 use crate::reading::{OpenFile, open_file, read_file};
 use cli_args::{Asked, NamedWork, Work};
 use std::alloc::Global;
+use text_streams::TextSize;
 
 /// What to do, with the bytes of its files.
 pub type OpenWork<'a, I> = Work<&'a str, Vec<u8>, OpenFile<'a, I>>;
@@ -47,7 +48,7 @@ pub fn read_texts<'a, F: Files>(
     ensures unread { IfErr result (NamesUnread (F.reported files.old) (F.reads files.old)
         (F.opened files.old) (F.opened files.new) (all_names (names asked.now))) }
 {
-    let topology = read_file(alloc, files, asked.topology)?;
+    let topology = read_file(alloc, files, asked.topology, TextSize::Plain)?;
     let partitions = read_if_named(alloc, files, asked.partitions)?;
     let work = work_of(alloc, files, &asked.work)?;
     Ok(Texts {
@@ -75,7 +76,7 @@ fn read_if_named<'a, F: Files>(
         (F.opened files.old) (F.opened files.new) (option_to_list (option_map (λ word. word.now) name.entry))) }
 {
     match name {
-        Some(name) => Ok(Some(read_file(alloc, files, name)?)),
+        Some(name) => Ok(Some(read_file(alloc, files, name, TextSize::Plain)?)),
         None => Ok(None),
     }
 }
@@ -120,8 +121,8 @@ fn work_of<'a, F: Files>(
             second,
             port,
         } => Ok(Work::Compare {
-            first: read_file(alloc, files, *first)?,
-            second: read_file(alloc, files, *second)?,
+            first: read_file(alloc, files, *first, TextSize::Plain)?,
+            second: read_file(alloc, files, *second, TextSize::Plain)?,
             port: *port,
         }),
     }

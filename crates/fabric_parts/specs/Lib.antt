@@ -1,3 +1,4 @@
 pub mod NodeType
 pub mod Cable
 pub mod Lid
+pub mod Limits

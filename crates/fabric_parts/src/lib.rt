@@ -18,5 +18,8 @@ pub use crate::lid::{
     FIRST_MULTICAST_LID, GID_PREFIX, LAST_UNICAST_LID, MANAGER_LID, NO_PORT, PERMISSIVE_LID,
     is_multicast, is_reserved,
 };
-pub use crate::limits::{ADAPTER_PORTS, NAME_BYTES, PORTS_OF_AN_ADAPTER, SWITCH_PORTS, SWITCHES};
+pub use crate::limits::{
+    ADAPTER_PORTS, LARGE_ADAPTER_PORTS, LARGE_SWITCH_PORTS, LARGE_SWITCHES, Limits, NAME_BYTES,
+    PORTS_OF_AN_ADAPTER, SWITCH_PORTS, SWITCHES,
+};
 pub use crate::node_type::NodeType;

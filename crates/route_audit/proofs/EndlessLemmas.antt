@@ -60,7 +60,7 @@ in_kept p k (x ∷ xs) passes there = elim (cases_Bool (x == k)) [
   ]
 ]
 
-within_nodes : (nodes : List Node) (place : ℕ) → is_switch_at nodes place ≡ true → place < length nodes
+pub within_nodes : (nodes : List Node) (place : ℕ) → is_switch_at nodes place ≡ true → place < length nodes
 within_nodes nodes place is = elim (cases_lt place (length nodes)) [
   | inl less ↦ less
   | inr past ↦ absurd (false≢true (sym (ap (λ (o : Option Node). option_map_or is_switch o false) (slice_get_past nodes place past)) ∙ is))

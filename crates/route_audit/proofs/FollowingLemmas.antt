@@ -1,10 +1,10 @@
 -- Steps of what follows entries.
-use Rattle.std.proofs.Common.{◌≡◌, ◌∙◌, ap, refl, sym, ℕ, suc, ◌+◌, ◌-◌, ◌<◌, true, false, ◌==◌, List, [], ◌∷◌, ◌++◌, arith}
-use Rattle.std.proofs.Common.{Option, Some, None, option_map}
+use Rattle.std.proofs.Common.{◌≡◌, ◌∙◌, ap, refl, sym, ℕ, suc, ◌+◌, ◌-◌, ◌<◌, Bool, true, false, ◌==◌, List, [], ◌∷◌, ◌++◌, arith}
+use Rattle.std.proofs.Common.{Option, Some, None, is_some, option_map}
 use Rattle.std.proofs.lemmas.List.{append-nil, append_assoc}
 use Rattle.route_audit.specs.declared.following.Turn.{Turn}
 use Rattle.route_audit.specs.declared.following.Turn.TheVariants as turns
-use Rattle.route_audit.specs.Following.{back, end_within, if_goes, then_end, turn}
+use Rattle.route_audit.specs.Following.{back, end_within, if_goes, loop_from, switch_total, then_end, turn}
 use Rattle.route_audit.specs.Net.{NetState}
 
 -- one switch more
@@ -60,3 +60,32 @@ back_ends net lid home count at so_far whole away stays is =
     let step : back net lid home (suc count) at ≡ None =
     (rw away refl) ∙ ap (option_map (λ rest. at ∷ rest)) (goes_nowhere (λ next. back net lid home count next) (turn net lid at) stays) in
     sym (ap (option_map (λ rest. so_far ++ rest)) step) ∙ is
+
+-- ---- whether it comes back
+some_mapped : (place : ℕ) (o : Option (List ℕ)) → is_some (option_map (λ rest. place ∷ rest) o) ≡ is_some o
+some_mapped place None = refl
+some_mapped place (Some rest) = refl
+
+some_step : (net : NetState) (lid home total count at : ℕ) (whole : Bool) → count < total → is_some (back net lid home (total - count) at) ≡ whole
+    → is_some (back net lid home (suc (total - (count + 1))) at) ≡ whole
+some_step net lid home total count at whole less is =
+    let more : total - count ≡ suc (total - (count + 1)) = omega (arith, less) in
+    ap (λ (n : ℕ). is_some (back net lid home n at)) (sym more) ∙ is
+
+pub some_back : (net : NetState) (lid home total count at : ℕ) (whole : Bool) → count < total → (at == home) ≡ true → is_some (back net lid home (total - count) at) ≡ whole → true ≡ whole
+some_back net lid home total count at whole less here is =
+    let step : back net lid home (suc (total - (count + 1))) at ≡ Some [] = rw here refl in
+    sym (ap (λ (o : Option (List ℕ)). is_some o) step) ∙ some_step net lid home total count at whole less is
+
+pub some_stops : (net : NetState) (lid home total count at : ℕ) (whole : Bool) → count < total → (at == home) ≡ false → ((next : ℕ) → turn net lid at ≡ turns.Goes next → ⊥)
+    → is_some (back net lid home (total - count) at) ≡ whole → false ≡ whole
+some_stops net lid home total count at whole less away stays is =
+    let step : back net lid home (suc (total - (count + 1))) at ≡ None =
+    (rw away refl) ∙ ap (option_map (λ rest. at ∷ rest)) (goes_nowhere (λ next. back net lid home (total - (count + 1)) next) (turn net lid at) stays) in
+    sym (ap (λ (o : Option (List ℕ)). is_some o) step) ∙ some_step net lid home total count at whole less is
+
+pub some_goes_on : (net : NetState) (lid home total count at next : ℕ) (whole : Bool) → count < total → (at == home) ≡ false → turn net lid at ≡ turns.Goes next
+    → is_some (back net lid home (total - count) at) ≡ whole → is_some (back net lid home (total - (count + 1)) next) ≡ whole
+some_goes_on net lid home total count at next whole less away goes is =
+    let step : back net lid home (suc (total - (count + 1))) at ≡ option_map (λ rest. at ∷ rest) (back net lid home (total - (count + 1)) next) = rw (away, goes) refl in
+    sym (some_mapped at (back net lid home (total - (count + 1)) next)) ∙ sym (ap (λ (o : Option (List ℕ)). is_some o) step) ∙ some_step net lid home total count at whole less is

@@ -1,8 +1,11 @@
 pub mod CycleLemmas
 pub mod NetLemmas
+pub mod LookupLemmas
 pub mod FollowingLemmas
 pub mod LidLemmas
+pub mod KindLemmas
 pub mod ChannelLemmas
+pub mod WaitLemmas
 pub mod LineLemmas
 pub mod AttachedLemmas
 pub mod RoundLemmas

@@ -41,11 +41,11 @@ pub record AreMarkedBy (count : ℕ) (tables : List Table) (index : ℕ) (marks 
   pub long : length marks ≡ count
   pub marked : (lid : ℕ) → (is_marked marks lid || is_named (rows_of (drop index tables)) lid) ≡ is_named (rows_of tables) lid
 
-or_moved : (a b c : Bool) → ((a || b) || c) ≡ (a || (b || c))
+pub or_moved : (a b c : Bool) → ((a || b) || c) ≡ (a || (b || c))
 or_moved true b c = refl
 or_moved false b c = refl
 
-first_row : (rows : List Row) (index : ℕ) (none : Row) → index < length rows → drop index rows ≡ get_or rows index none ∷ drop (index + 1) rows
+pub first_row : (rows : List Row) (index : ℕ) (none : Row) → index < length rows → drop index rows ≡ get_or rows index none ∷ drop (index + 1) rows
 first_row rows index none within = rw (add-one, drop-cons rows index none) refl
 
 pub marked_row : (before : List Bool) (rows : List Row) (index : ℕ) (marks after : List Bool) (none : Row) → index < length rows → AreMarked before rows index marks
@@ -58,7 +58,7 @@ marked_row before rows index marks after none within so_far long marked = record
       ∙ ap (λ (rest : List Row). is_marked marks lid || is_named rest lid) (sym (first_row rows index none within)) ∙ so_far.marked lid;
 }
 
-or_last : (b : Bool) → (b || false) ≡ b
+pub or_last : (b : Bool) → (b || false) ≡ b
 or_last true = refl
 or_last false = refl
 

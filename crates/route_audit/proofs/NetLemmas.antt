@@ -2,6 +2,7 @@
 use Rattle.std.proofs.Common.{◌≡◌, ◌≢◌, ◌∙◌, inl, inr, ap, refl, sym, ℕ, zero, suc, ◌+◌, ◌-◌, ◌<◌, ◌≤◌, Bool, true, false, cond, ◌==◌, ◌||◌, nat_le, nat_lt, List, [], ◌∷◌, length, drop, find, get_or, slice_get, arith}
 use Rattle.std.proofs.Common.{Option, Some, None, option_map, if◌then◌else◌}
 use Rattle.std.specs.List.Sorted.{IsNonDecreasingBy}
+use Rattle.std.specs.Option.{option_map_or}
 use Rattle.std.proofs.lemmas.Bool.{and_parts, cases_Bool}
 use Rattle.std.proofs.lemmas.Bool.Decides.{nat_tests}
 use Rattle.indexmap.specs.IndexMap.{IndexMap, get}
@@ -41,7 +42,7 @@ rows_sorted low top (row ∷ rows) rises (suc i) (suc j) d least within =
     rows_sorted (row.lid + 1) top rows inner.1 i j d (omega (arith, least)) (omega (arith, within))
 
 -- ---- the row that halving finds
-none_above : (lid low top : ℕ) (rows : List Row) → rise low top rows ≡ true → lid < low → row_of lid rows ≡ None
+pub none_above : (lid low top : ℕ) (rows : List Row) → rise low top rows ≡ true → lid < low → row_of lid rows ≡ None
 none_above lid low top [] rises below = refl
 none_above lid low top (row ∷ rows) rises below =
     let outer = and_parts (nat_le low row.lid) _ rises in
@@ -50,6 +51,25 @@ none_above lid low top (row ∷ rows) rises below =
     let apart : row.lid ≢ lid = λ same. absurd (omega (arith, first, below, same)) in
     let other : (row.lid == lid) ≡ false = grind (arith, nat_tests, apart) in
     rw other (none_above lid (row.lid + 1) top rows inner.1 (omega (arith, first, below)))
+
+pub found_is : (lid low top i : ℕ) (rows : List Row) (found : Row) → rise low top rows ≡ true → slice_get rows i ≡ Some found → found.lid ≡ lid → row_of lid rows ≡ Some found
+found_is lid low top i [] found rises there its = absurd (cc)
+found_is lid low top zero (row ∷ rows) found rises there its =
+    let same : Some row ≡ Some found = there in
+    let here : row.lid ≡ lid = ap (λ (o : Option Row). option_map_or (λ r. r.lid) o 0) same ∙ its in
+    let is : (row.lid == lid) ≡ true = grind (arith, nat_tests, here) in
+    (rw is refl) ∙ same
+found_is lid low top (suc i) (row ∷ rows) found rises there its =
+    let outer = and_parts (nat_le low row.lid) _ rises in
+    let inner = and_parts (nat_le row.lid top) _ outer.1 in
+    let later = found_is lid (row.lid + 1) top i rows found inner.1 there its in
+    elim (cases_Bool (row.lid == lid)) [
+      | inl here ↦
+          let same : row.lid ≡ lid = grind (arith, nat_tests, here) in
+          let none : None ≡ Some found = sym (none_above lid (row.lid + 1) top rows inner.1 (omega (arith, same))) ∙ later in
+          absurd (cc)
+      | inr other ↦ rw other later
+    ]
 
 abbrev pub if_its : ℕ → Option Row → Option Row
 if_its lid (Some row) = if row.lid == lid then Some row else None

@@ -2,11 +2,13 @@ pub mod Cycle
 pub mod Marks
 pub mod FarEnds
 pub mod Net
+pub mod Lookup
 pub mod Following
 pub mod Lids
+pub mod Kinds
 pub mod Attached
 pub mod Channels
-pub mod Exits
+pub mod Waits
 pub mod Pairs
 pub mod Lines
 pub mod Verdict

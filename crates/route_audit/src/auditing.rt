@@ -15,7 +15,7 @@ use dump_file::Dump;
 use fabric_parts::PortRef;
 use std::alloc::{AllocError, Global};
 use text_parts::push_decimal;
-use topo_file::Topology;
+use topo_file::LargeTopology;
 
 fn lids_of(alloc: Global, aims: &[Aim]) -> Result<Vec<u16>, AllocError>
     ensures { IfOk result (λ lids. lids.items ≡ lids_of aims.now) }
@@ -225,7 +225,7 @@ impl<'a> Net<'a> {
 /// What is reported is stated in `specs/Audit.antt`: first what the two lack of one another, then what is wrong at each
 /// switch with each LID, then a cycle of channels that wait for one another, counts, and the verdict. Time is that of
 /// following each LID from each switch, and of looking for cycles among the channels that are on one or lead to one.
-pub fn audit(alloc: Global, plan: &Topology, dump: &Dump) -> Result<Audit, AllocError>
+pub fn audit(alloc: Global, plan: &LargeTopology, dump: &Dump) -> Result<Audit, AllocError>
     ensures { IfOk result (λ found. found ≡ audit plan.now dump.now) }
 {
     let net = Net::new(alloc, plan, dump)?;

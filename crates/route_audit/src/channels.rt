@@ -1,98 +1,88 @@
 //! The channels of a fabric, and which depend on which.
 
-ghost use Rattle.std.specs.Prelude.{◌≡◌, ◌==◌, ◌&&◌, ◌++◌, ◌<◌, map, filter, flat_map, get_or, option_map, IfOk, OnOk};
-ghost use Rattle.std.specs.List.{enumerate_from, list_any, zip};
-ghost use Rattle.route_audit.specs.Channels.{channel_at, channels, channels_of, deadlock, dependencies, is_channel, nexts};
-ghost use Rattle.route_audit.specs.Exits.{entries_at, exit_at, exits, channel_behind, next_port, next_ports, places_of};
-ghost use Rattle.fabric_parts.specs.Cable.{port};
+ghost use Rattle.std.specs.Prelude.{◌≡◌, ◌==◌, ◌&&◌, ◌||◌, ◌++◌, ◌<◌, ◌≤◌, length, map, flat_map, get_or, option_map, IfOk, OnOk, ℕ};
+ghost use Rattle.route_audit.specs.Channels.{channels, channels_of, deadlock, dependencies, depends, is_channel, leads_to, nexts};
+ghost use Rattle.route_audit.specs.Waits.{KnowsTaken, all_groups, are_ports, channel_behind, group_at, group_of, if_switch, is_taken, next_if, numbered_at, two_ports};
+ghost use Rattle.fabric_parts.specs.Cable.{far_end, port};
 
-use crate::cycle::{NextList, cycle};
+use crate::cycle::{NextList, cycle, is_marked};
 use crate::entry::Entry;
+use crate::lids::blank;
 use crate::net::Net;
 use fabric_parts::PortRef;
 use std::alloc::{AllocError, Global};
 use std::marker::Model;
 use topo_file::ports_at;
 
-/// The entries of LIDs in the table of a switch.
+/// Channels of one node, each with its place among all.
 #[derive(Drop)]
-struct EntryList {
-    entries: Vec<Entry>,
+struct Group {
+    channels: Vec<(usize, PortRef)>,
 }
 
-impl Model for EntryList {
-    ghost use Rattle.std.specs.Prelude.{List};
-    ghost use Rattle.route_audit.specs.declared.entry.Entry.{Entry};
+impl Model for Group {
+    ghost use Rattle.std.specs.Prelude.{ℕ, List};
+    ghost use Rattle.fabric_parts.specs.declared.cable.PortRef.{PortRef};
 
-    ghost Value = { List Entry };
+    ghost Value = { List (ℕ × PortRef) };
 
-    ghost view = { λ list. list.entries.items };
+    ghost view = { λ group. group.channels.items };
 }
 
-impl EntryList {
-    fn of(entries: Vec<Entry>) -> EntryList
-        ensures { result ≡ entries.items }
+impl Group {
+    fn of(channels: Vec<(usize, PortRef)>) -> Group
+        ensures { result ≡ channels.items }
     {
-        EntryList { entries }
+        Group { channels }
     }
 
-    fn as_slice(&self) -> &[Entry]
+    fn as_slice(&self) -> &[(usize, PortRef)]
         ensures { result.now ≡ self.now }
     {
-        self.entries.as_slice()
+        self.channels.as_slice()
     }
 }
 
-/// The ports of the second switch for the LIDs that the first one forwards out of this port.
-fn next_ports(
-    alloc: Global,
-    number: u8,
-    first: &[Entry],
-    second: &[Entry],
-) -> Result<Vec<u8>, AllocError>
-    ensures { IfOk result (λ ports. ports.items ≡ next_ports number (zip first.now second.now)) }
+fn group_of(groups: &[Group], place: usize) -> &[(usize, PortRef)]
+    ensures { result.now ≡ group_of groups.now place }
 {
-    first
-        .iter()
-        .zip(second.iter())
-        .filter_map(|(out, next)| next_port(number, *out, *next))
-        .collect(alloc)
-}
-
-/// The port of the second entry, if the first is this one.
-fn next_port(number: u8, first: Entry, second: Entry) -> Option<u8>
-    ensures { result ≡ next_port number (first, second) }
-{
-    match (first, second) {
-        (Entry::Out(here), Entry::Out(there)) if here == number => Some(there),
-        _ => None,
-    }
-}
-
-fn exit_at(exits: &[EntryList], place: usize) -> &[Entry]
-    ensures { result.now ≡ exit_at exits.now place }
-{
-    match exits.get(place) {
-        Some(entries) => entries.as_slice(),
+    match groups.get(place) {
+        Some(group) => group.as_slice(),
         None => &[],
     }
 }
 
-/// The places of the channels of a switch that are one of these ports.
-fn places_of(
+/// The channels of this node.
+fn numbered_at(
     alloc: Global,
-    channels: &[PortRef],
-    node: usize,
-    ports: &[u8],
-) -> Result<Vec<usize>, AllocError>
-    ensures { IfOk result (λ places. places.items ≡ places_of node ports.now channels.now) }
+    all: &[PortRef],
+    place: usize,
+) -> Result<Vec<(usize, PortRef)>, AllocError>
+    ensures { IfOk result (λ some. some.items ≡ numbered_at all.now place) }
 {
-    channels
-        .iter()
+    all.iter()
+        .copied()
         .enumerate()
-        .filter(|(_, channel)| channel.node == node && ports.contains(&channel.port))
-        .map(|(place, _)| place)
+        .filter(|(_, channel)| channel.node == place)
         .collect(alloc)
+}
+
+/// Whether some LID takes these two ports, by the marks of the switch of the first one.
+fn is_taken(marks: &[bool], number: u8, next: u8) -> bool
+    ensures value { result ≡ is_taken marks.now number next }
+    ensures number { number < 256 }
+    ensures next { next < 256 }
+{
+    is_marked(marks, usize::from(number) * 256 + usize::from(next))
+}
+
+fn mark_taken(marks: &mut [bool], number: u8, next: u8)
+    requires { 65536 ≤ length marks.old }
+    ensures long { length marks.new ≡ length marks.old }
+    ensures marked { (one other : ℕ) → one < 256 → other < 256
+        → is_taken marks.new one other ≡ (is_taken marks.old one other || ((number == one) && (next == other))) }
+{
+    marks[usize::from(number) * 256 + usize::from(next)] = true;
 }
 
 impl<'a> Net<'a> {
@@ -144,51 +134,159 @@ impl<'a> Net<'a> {
         Ok(channels)
     }
 
-    fn entries_at(
+    /// The switch behind a port, if the port is a channel.
+    fn switch_behind(&self, at: PortRef) -> Option<PortRef>
+        ensures { result ≡ if_switch self.now (far_end self.now.plan.cables at) }
+    {
+        match self.far_end(at) {
+            Some(there) if self.is_switch_at(there.node) => Some(there),
+            _ => None,
+        }
+    }
+
+    fn group_at(
         &self,
         alloc: Global,
-        lids: &[u16],
+        all: &[PortRef],
         place: usize,
-    ) -> Result<Vec<Entry>, AllocError>
-        ensures { IfOk result (λ entries. entries.items ≡ entries_at self.now lids.now place) }
+    ) -> Result<Vec<(usize, PortRef)>, AllocError>
+        ensures { IfOk result (λ group. group.items ≡ group_at self.now all.now place) }
     {
-        lids.iter()
-            .map(|lid| self.entry(*lid, place))
-            .collect(alloc)
-    }
-
-    fn exits(&self, alloc: Global, lids: &[u16]) -> Result<Vec<EntryList>, AllocError>
-        ensures { IfOk result (λ all. all.items ≡ exits self.now lids.now) }
-    {
-        let mut all = Vec::new(alloc);
-        for place in 0..self.nodes().len() {
-            let entries = self.entries_at(alloc, lids, place)?;
-            all.push(EntryList::of(entries))?;
+        if self.is_switch_at(place) {
+            numbered_at(alloc, all, place)
+        } else {
+            Ok(Vec::new(alloc))
         }
-        Ok(all)
     }
 
-    /// The places of the channels that this one depends on.
+    /// The channels of each node.
+    fn groups(&self, alloc: Global, all: &[PortRef]) -> Result<Vec<Group>, AllocError>
+        ensures { IfOk result (λ groups. groups.items ≡ all_groups self.now all.now) }
+    {
+        let mut groups = Vec::new(alloc);
+        for place in 0..self.nodes().len() {
+            let group = self.group_at(alloc, all, place)?;
+            groups.push(Group::of(group))?;
+        }
+        Ok(groups)
+    }
+
+    /// The port by which the switch there forwards the LID, and that by which the switch behind it does.
+    fn two_ports(&self, lid: u16, place: usize) -> Option<(u8, u8)>
+        ensures { result ≡ two_ports self.now place lid }
+    {
+        let Entry::Out(number) = self.entry(lid, place) else {
+            return None;
+        };
+        let there = self.far_end(PortRef {
+            node: place,
+            port: number,
+        })?;
+        match self.entry(lid, there.node) {
+            Entry::Out(next) => Some((number, next)),
+            _ => None,
+        }
+    }
+
+    fn mark_two(&self, marks: &mut [bool], lid: u16, place: usize)
+        requires { 65536 ≤ length marks.old }
+        ensures long { length marks.new ≡ length marks.old }
+        ensures marked { (number next : ℕ) → number < 256 → next < 256
+            → is_taken marks.new number next ≡ (is_taken marks.old number next || are_ports number next (two_ports self.now place lid)) }
+    {
+        if let Some((number, next)) = self.two_ports(lid, place) {
+            mark_taken(marks, number, next);
+        }
+    }
+
+    /// A mark for each two ports that one of these LIDs takes, from the switch there on.
+    fn taken(&self, alloc: Global, lids: &[u16], place: usize) -> Result<Vec<bool>, AllocError>
+        ensures { IfOk result (λ marks. KnowsTaken self.now lids.now place marks.items) }
+    {
+        let mut marks = blank(alloc, 65536)?;
+        for lid in lids {
+            self.mark_two(&mut marks, *lid, place);
+        }
+        Ok(marks)
+    }
+
+    fn leads_to(&self, at: PortRef, place: usize) -> bool
+        ensures { result ≡ leads_to self.now at place }
+    {
+        match self.far_end(at) {
+            Some(there) => there.node == place,
+            None => false,
+        }
+    }
+
+    /// Whether the first channel depends on the second, by the marks of the switch of the first.
+    fn depends(&self, lids: &[u16], marks: &[bool], first: PortRef, second: PortRef) -> bool
+        requires { KnowsTaken self.now lids.now first.node marks.now }
+        ensures { result ≡ depends self.now lids.now first second }
+    {
+        self.leads_to(first, second.node) && is_taken(marks, first.port, second.port)
+    }
+
+    fn push_next(
+        &self,
+        nexts: &mut Vec<usize>,
+        lids: &[u16],
+        marks: &[bool],
+        first: PortRef,
+        second: (usize, PortRef),
+    ) -> Result<(), AllocError>
+        requires { KnowsTaken self.now lids.now first.node marks.now }
+        ensures { OnOk result (nexts.new.items ≡ nexts.old.items ++ next_if self.now lids.now first second) }
+    {
+        if self.depends(lids, marks, first, second.1) {
+            nexts.push(second.0)?;
+        }
+        Ok(())
+    }
+
+    /// The places of the channels of this group that the first one depends on.
     fn nexts(
         &self,
         alloc: Global,
         lids: &[u16],
-        entries: &[EntryList],
-        all: &[PortRef],
-        channel: PortRef,
+        marks: &[bool],
+        group: &[(usize, PortRef)],
+        first: PortRef,
     ) -> Result<Vec<usize>, AllocError>
-        requires entries { entries.now ≡ exits self.now lids.now }
-        requires all { all.now ≡ channels self.now }
-        ensures { IfOk result (λ places. places.items ≡ nexts self.now lids.now channel) }
+        requires { KnowsTaken self.now lids.now first.node marks.now }
+        ensures { IfOk result (λ places. places.items ≡ flat_map (next_if self.now lids.now first) group.now) }
     {
-        let Some(there) = self.far_end(channel) else {
-            return Ok(Vec::new(alloc));
-        };
-        let first = exit_at(entries, channel.node);
-        let second = exit_at(entries, there.node);
-        let ports = next_ports(alloc, channel.port, first, second)?;
-        let places = places_of(alloc, all, there.node, &ports)?;
-        Ok(places)
+        let mut nexts = Vec::new(alloc);
+        for second in group {
+            self.push_next(&mut nexts, lids, marks, first, *second)?;
+        }
+        Ok(nexts)
+    }
+
+    /// Adds what each channel of the switch there depends on.
+    fn push_dependencies(
+        &self,
+        alloc: Global,
+        graph: &mut Vec<NextList>,
+        lids: &[u16],
+        groups: &[Group],
+        place: usize,
+    ) -> Result<(), AllocError>
+        requires { groups.now ≡ all_groups self.now (channels self.now) }
+        ensures { OnOk result (graph.new.items ≡ graph.old.items ++ map (nexts self.now lids.now) (channels_of self.now place)) }
+    {
+        let marks = self.taken(alloc, lids, place)?;
+        for number in 0..ports_at(self.nodes(), place) {
+            let at = PortRef {
+                node: place,
+                port: number + 1,
+            };
+            if let Some(there) = self.switch_behind(at) {
+                let nexts = self.nexts(alloc, lids, &marks, group_of(groups, there.node), at)?;
+                graph.push(NextList::of(nexts))?;
+            }
+        }
+        Ok(())
     }
 
     fn dependencies(
@@ -200,11 +298,10 @@ impl<'a> Net<'a> {
         requires { all.now ≡ channels self.now }
         ensures { IfOk result (λ graph. graph.items ≡ dependencies self.now lids.now) }
     {
-        let exits = self.exits(alloc, lids)?;
+        let groups = self.groups(alloc, all)?;
         let mut graph = Vec::new(alloc);
-        for channel in all {
-            let nexts = self.nexts(alloc, lids, &exits, all, *channel)?;
-            graph.push(NextList::of(nexts))?;
+        for place in self.switches() {
+            self.push_dependencies(alloc, &mut graph, lids, &groups, *place)?;
         }
         Ok(graph)
     }

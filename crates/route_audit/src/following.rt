@@ -1,12 +1,17 @@
 //! What comes of a packet to a LID, by the entries that stand in the tables.
 
-ghost use Rattle.std.specs.Prelude.{◌≡◌, option_map, IfOk};
-ghost use Rattle.route_audit.specs.Following.{end_from, fate, fate_by, loop_from, switch_total, turn, turn_to};
+ghost use Rattle.std.specs.Prelude.{◌≡◌, is_some, option_map, IfOk};
+ghost use Rattle.route_audit.specs.Following.{end_from, fate, fate_by, loop_from, switch_total, turn, turn_by, turn_to};
+ghost use Rattle.route_audit.specs.Lookup.{all_turns, turn_known, turns_at, turns_of};
+ghost use Rattle.route_audit.specs.declared.entry.Entry.TheVariants.{Out};
 
 use crate::entry::Entry;
+use crate::inputs::Inputs;
 use crate::net::Net;
 use fabric_parts::PortRef;
 use std::alloc::{AllocError, Global};
+use std::marker::Model;
+use topo_file::ports_at;
 
 /// What a switch does with a packet.
 #[derive(Clone, Copy)]
@@ -40,7 +45,55 @@ pub(crate) enum Fate {
     Unknown,
 }
 
-impl<'a> Net<'a> {
+/// What a node does with packets that it sends out of its ports, from port 1 on.
+#[derive(Drop)]
+pub(crate) struct TurnList {
+    turns: Vec<Turn>,
+}
+
+impl Model for TurnList {
+    ghost use Rattle.std.specs.Prelude.{List};
+    ghost use Rattle.route_audit.specs.declared.following.Turn.{Turn};
+
+    ghost Value = { List Turn };
+
+    ghost view = { λ list. list.turns.items };
+}
+
+impl TurnList {
+    fn of(turns: Vec<Turn>) -> TurnList
+        ensures { result ≡ turns.items }
+    {
+        TurnList { turns }
+    }
+
+    fn as_slice(&self) -> &[Turn]
+        ensures { result.now ≡ self.now }
+    {
+        self.turns.as_slice()
+    }
+}
+
+fn turns_of(all: &[TurnList], place: usize) -> &[Turn]
+    ensures { result.now ≡ turns_of all.now place }
+{
+    match all.get(place) {
+        Some(turns) => turns.as_slice(),
+        None => &[],
+    }
+}
+
+/// What becomes of a packet that leaves the node there by this port, if the port is among these.
+pub(crate) fn turn_known(all: &[TurnList], place: usize, number: u8) -> Option<Turn>
+    ensures { result ≡ turn_known all.now place number }
+{
+    if number == 0 {
+        return None;
+    }
+    turns_of(all, place).get(usize::from(number - 1)).copied()
+}
+
+impl<'a> Inputs<'a> {
     fn turn_to(&self, number: u8, there: Option<PortRef>) -> Turn
         ensures { result ≡ turn_to self.now number there }
     {
@@ -51,6 +104,45 @@ impl<'a> Net<'a> {
         }
     }
 
+    /// What becomes of a packet that leaves the switch there by this port.
+    pub(crate) fn turn_out(&self, place: usize, number: u8) -> Turn
+        ensures { result ≡ turn_by self.now place (Out number) }
+    {
+        let out = PortRef {
+            node: place,
+            port: number,
+        };
+        if number == 0 {
+            Turn::Arrives(out)
+        } else {
+            self.turn_to(number, self.far_end(out))
+        }
+    }
+
+    fn turns_at(&self, alloc: Global, place: usize) -> Result<Vec<Turn>, AllocError>
+        ensures { IfOk result (λ turns. turns.items ≡ turns_at self.now place) }
+    {
+        let mut turns = Vec::new(alloc);
+        for number in 0..ports_at(self.nodes(), place) {
+            turns.push(self.turn_out(place, number + 1))?;
+        }
+        Ok(turns)
+    }
+
+    /// What each node does with packets that it sends out of its ports.
+    pub(crate) fn all_turns(&self, alloc: Global) -> Result<Vec<TurnList>, AllocError>
+        ensures { IfOk result (λ all. all.items ≡ all_turns self.now) }
+    {
+        let mut all = Vec::new(alloc);
+        for place in 0..self.nodes().len() {
+            let turns = self.turns_at(alloc, place)?;
+            all.push(TurnList::of(turns))?;
+        }
+        Ok(all)
+    }
+}
+
+impl<'a> Net<'a> {
     /// What the switch there does with a packet to the LID.
     pub(crate) fn turn(&self, lid: u16, place: usize) -> Turn
         ensures { result ≡ turn self.now lid place }
@@ -58,17 +150,7 @@ impl<'a> Net<'a> {
         match self.entry(lid, place) {
             Entry::Unreported => Turn::Unknown,
             Entry::Missing => Turn::Hole,
-            Entry::Out(number) => {
-                let out = PortRef {
-                    node: place,
-                    port: number,
-                };
-                if number == 0 {
-                    Turn::Arrives(out)
-                } else {
-                    self.turn_to(number, self.far_end(out))
-                }
-            }
+            Entry::Out(number) => self.turn_out(place, number),
         }
     }
 
@@ -93,6 +175,26 @@ impl<'a> Net<'a> {
         fate_by(end, self.end_from(lid, place))
     }
 
+    /// Whether packets from the switch there to the LID come back to it.
+    fn comes_back(&self, lid: u16, home: usize) -> bool
+        ensures { result ≡ is_some (loop_from self.now lid home) }
+    {
+        let Turn::Goes(first) = self.turn(lid, home) else {
+            return false;
+        };
+        let mut at = first;
+        for _ in 0..self.switches().len() {
+            if at == home {
+                return true;
+            }
+            let Turn::Goes(next) = self.turn(lid, at) else {
+                return false;
+            };
+            at = next;
+        }
+        false
+    }
+
     /// The switches of the loop through the one there, from it on, if it is on a loop of the LID.
     pub(crate) fn loop_from(
         &self,
@@ -102,6 +204,9 @@ impl<'a> Net<'a> {
     ) -> Result<Option<Vec<usize>>, AllocError>
         ensures { IfOk result (λ found. option_map (λ places. places.items) found ≡ loop_from self.now lid home) }
     {
+        if !self.comes_back(lid, home) {
+            return Ok(None);
+        }
         let mut places = Vec::new(alloc);
         let Turn::Goes(first) = self.turn(lid, home) else {
             return Ok(None);

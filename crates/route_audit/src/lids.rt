@@ -4,12 +4,12 @@ ghost use Rattle.std.specs.Prelude.{◌≡◌, ◌≤◌, ◌<◌, ◌||◌, ◌
 ghost use Rattle.std.specs.List.{list_all, list_any};
 ghost use Rattle.dump_file.specs.Row.{end_of};
 ghost use Rattle.dump_file.specs.Table.{rows_of};
-ghost use Rattle.route_audit.specs.Lids.{aim_of, aims, aims_below, end_by, has_lid, have_lids, if_of_kind, is_lacking, is_named, is_of, is_of_fabric, is_of_kind};
+ghost use Rattle.route_audit.specs.Lids.{aim_of, aims, aims_below, end_by, has_lid, have_lids, if_of_kind, is_lacking, is_named, is_of, is_of_fabric};
 ghost use Rattle.route_audit.specs.Lids.{number_in, port_of, says_kind, says_of_fabric};
+ghost use Rattle.route_audit.specs.Kinds.{KnowsOthers};
 ghost use Rattle.route_audit.specs.Marks.{is_marked};
 ghost use Rattle.route_audit.specs.Net.{row_at};
 ghost use Rattle.topo_file.specs.Connectivity.{switches};
-ghost use Rattle.topo_file.specs.Node.{is_switch_at};
 
 use crate::cycle::is_marked;
 use crate::net::Net;
@@ -58,17 +58,6 @@ fn port_of(nodes: &[Node], guid: u64) -> Option<PortRef>
     None
 }
 
-/// Whether an end port, a switch's or not, is of the kind that is said.
-fn is_of_kind(of_switch: bool, destination: Destination) -> bool
-    ensures { result ≡ is_of_kind of_switch destination }
-{
-    match destination {
-        Destination::ChannelAdapter { .. } | Destination::Router { .. } => !of_switch,
-        Destination::Switch { .. } => of_switch,
-        Destination::FurtherLid { .. } | Destination::Nobody | Destination::NotReported => true,
-    }
-}
-
 /// Whether it is a channel adapter's or a switch's.
 fn is_of_fabric(destination: Destination) -> bool
     ensures { result ≡ is_of_fabric destination }
@@ -94,7 +83,7 @@ fn some_is_of(port: PortRef, aims: &[Aim]) -> bool
     aims.iter().any(|aim| is_of(port, aim))
 }
 
-fn mark(marks: &mut [bool], lid: u16)
+pub(crate) fn mark(marks: &mut [bool], lid: u16)
     requires { 65536 ≤ length marks.old }
     ensures long { length marks.new ≡ length marks.old }
     ensures marked { (other : ℕ) → is_marked marks.new other ≡ (is_marked marks.old other || (lid == other)) }
@@ -133,49 +122,69 @@ fn marks_of(alloc: Global, tables: &[Table], count: usize) -> Result<Vec<bool>, 
 }
 
 impl<'a> Net<'a> {
-    fn says_kind(&self, lid: u16, of_switch: bool, place: usize) -> bool
-        ensures { result ≡ says_kind self.now lid of_switch place }
+    /// Whether each switch's row says this kind, by the LIDs of which some say another.
+    fn all_say_kind(
+        &self,
+        no_switches: &[bool],
+        no_others: &[bool],
+        lid: u16,
+        of_switch: bool,
+    ) -> bool
+        requires switches { KnowsOthers self.now true no_switches.now }
+        requires others { KnowsOthers self.now false no_others.now }
+        ensures { result ≡ list_all (says_kind self.now lid of_switch) (switches self.now.plan.nodes) }
     {
-        match self.row_at(lid, place) {
-            Some(row) => is_of_kind(of_switch, row.destination),
-            None => true,
+        if of_switch {
+            !is_marked(no_switches, usize::from(lid))
+        } else {
+            !is_marked(no_others, usize::from(lid))
         }
     }
 
-    fn all_say_kind(&self, lid: u16, of_switch: bool) -> bool
-        ensures { result ≡ list_all (says_kind self.now lid of_switch) (switches self.now.plan.nodes) }
-    {
-        self.switches()
-            .iter()
-            .all(|place| self.says_kind(lid, of_switch, *place))
-    }
-
     /// The port, if it is of the kind that each switch's row says.
-    fn if_of_kind(&self, lid: u16, end: PortRef) -> Option<PortRef>
+    fn if_of_kind(
+        &self,
+        no_switches: &[bool],
+        no_others: &[bool],
+        lid: u16,
+        end: PortRef,
+    ) -> Option<PortRef>
+        requires switches { KnowsOthers self.now true no_switches.now }
+        requires others { KnowsOthers self.now false no_others.now }
         ensures { result ≡ if_of_kind self.now lid end }
     {
-        if self.all_say_kind(lid, self.is_switch_at(end.node)) {
+        if self.all_say_kind(no_switches, no_others, lid, self.is_switch_at(end.node)) {
             Some(end)
         } else {
             None
         }
     }
 
-    fn end_by(&self, lid: u16, guid: Option<u64>) -> Option<PortRef>
+    fn end_by(
+        &self,
+        no_switches: &[bool],
+        no_others: &[bool],
+        lid: u16,
+        guid: Option<u64>,
+    ) -> Option<PortRef>
+        requires switches { KnowsOthers self.now true no_switches.now }
+        requires others { KnowsOthers self.now false no_others.now }
         ensures { result ≡ end_by self.now lid guid }
     {
         let end = port_of(self.nodes(), guid?)?;
-        self.if_of_kind(lid, end)
+        self.if_of_kind(no_switches, no_others, lid, end)
     }
 
-    fn aim_of(&self, lid: u16) -> Aim
+    fn aim_of(&self, no_switches: &[bool], no_others: &[bool], lid: u16) -> Aim
+        requires switches { KnowsOthers self.now true no_switches.now }
+        requires others { KnowsOthers self.now false no_others.now }
         ensures { result ≡ aim_of self.now lid }
     {
         let guid = self.dump().end_of(lid);
         Aim {
             lid,
             guid,
-            end: self.end_by(lid, guid),
+            end: self.end_by(no_switches, no_others, lid, guid),
         }
     }
 
@@ -204,12 +213,21 @@ impl<'a> Net<'a> {
         aim.end.is_none() && self.some_say_of_fabric(aim.lid)
     }
 
-    fn push_aim(&self, aims: &mut Vec<Aim>, marks: &[bool], lid: usize) -> Result<(), AllocError>
-        requires { lid < 65536 }
+    fn push_aim(
+        &self,
+        aims: &mut Vec<Aim>,
+        marks: &[bool],
+        no_switches: &[bool],
+        no_others: &[bool],
+        lid: usize,
+    ) -> Result<(), AllocError>
+        requires below { lid < 65536 }
+        requires switches { KnowsOthers self.now true no_switches.now }
+        requires others { KnowsOthers self.now false no_others.now }
         ensures { OnOk result (aims.new.items ≡ aims.old.items ++ (if is_marked marks.now lid then aim_of self.now lid ∷ [] else [])) }
     {
         if is_marked(marks, lid) {
-            aims.push(self.aim_of(lid as u16))?;
+            aims.push(self.aim_of(no_switches, no_others, lid as u16))?;
         }
         Ok(())
     }
@@ -218,14 +236,18 @@ impl<'a> Net<'a> {
         &self,
         alloc: Global,
         marks: &[bool],
+        no_switches: &[bool],
+        no_others: &[bool],
         count: usize,
     ) -> Result<Vec<Aim>, AllocError>
-        requires { count ≤ 65536 }
+        requires below { count ≤ 65536 }
+        requires switches { KnowsOthers self.now true no_switches.now }
+        requires others { KnowsOthers self.now false no_others.now }
         ensures { IfOk result (λ all. all.items ≡ aims_below self.now (is_marked marks.now) count) }
     {
         let mut aims = Vec::new(alloc);
         for lid in 0..count {
-            self.push_aim(&mut aims, marks, lid)?;
+            self.push_aim(&mut aims, marks, no_switches, no_others, lid)?;
         }
         Ok(aims)
     }
@@ -249,7 +271,9 @@ impl<'a> Net<'a> {
         ensures { IfOk result (λ all. all.items ≡ aims self.now) }
     {
         let marks = marks_of(alloc, self.dump().tables(), 65536)?;
-        let aims = self.aims_below(alloc, &marks, 65536)?;
+        let no_switches = self.other_kinds(alloc, true)?;
+        let no_others = self.other_kinds(alloc, false)?;
+        let aims = self.aims_below(alloc, &marks, &no_switches, &no_others, 65536)?;
         Ok(aims)
     }
 }

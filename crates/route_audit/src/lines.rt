@@ -13,8 +13,9 @@ ghost use Rattle.route_audit.specs.Lines.{nowhere_line, port_text, stray_line, t
 ghost use Rattle.topo_file.specs.Connectivity.{switches};
 
 use crate::following::Turn;
+use crate::inputs::{is_left_out, row_of};
 use crate::lids::Aim;
-use crate::net::{Net, is_left_out, row_of};
+use crate::net::Net;
 use dump_file::{Destination, Row, Table};
 use fabric_parts::{Cable, NO_PORT, PortRef};
 use std::alloc::{AllocError, Global};

@@ -1,98 +1,113 @@
-//! A topology with the tables that stand in it.
+//! A topology with the tables that stand in it, for many look-ups.
 
-ghost use Rattle.std.specs.Prelude.{◌≡◌, true, false, nat_lt, IfOk, IfSome, slice_get};
-ghost use Rattle.std.specs.List.Sorted.{IsNonDecreasingBy, IsPartitionPoint};
+ghost use Rattle.std.specs.Prelude.{◌≡◌, true, IfOk, IfSome};
 ghost use Rattle.std.specs.Option.{option_copied};
 ghost use Rattle.fabric_parts.specs.Cable.{far_end};
-ghost use Rattle.dump_file.specs.Sound.{is_rising, rise};
+ghost use Rattle.dump_file.specs.Sound.{is_rising};
 ghost use Rattle.topo_file.specs.Connectivity.{switches};
 ghost use Rattle.topo_file.specs.Node.{is_switch_at};
-ghost use Rattle.route_audit.specs.FarEnds.{KnowsFarEnds};
-ghost use Rattle.route_audit.specs.Net.{entry, entry_by, entry_in, is_left_out, row_at, row_of, table_at};
+ghost use Rattle.route_audit.specs.Following.{turn_by};
+ghost use Rattle.route_audit.specs.Net.{entry, row_at, table_at};
+ghost use Rattle.route_audit.specs.declared.entry.Entry.TheVariants.{Out};
 
-use crate::entry::Entry;
+use crate::entry::{Entry, EntryList, entry_at};
+use crate::far_ends::{EndList, end_at};
+use crate::following::{Turn, TurnList, turn_known};
+use crate::inputs::Inputs;
 use dump_file::{Dump, Row, Table};
-use fabric_parts::{Cable, NO_PORT, PortRef};
-use indexmap::IndexMap;
+use fabric_parts::{Cable, PortRef};
 use std::alloc::{AllocError, Global};
 use std::marker::Model;
-use topo_file::{Node, Topology};
+use topo_file::{LargeTopology, Node};
 
-/// A topology and a dump, with the far ends of cables looked up in constant time.
+/// A topology and a dump, with entries and the far ends of cables looked up by their numbers.
 #[derive(Drop)]
 pub(crate) struct Net<'a> {
-    plan: &'a Topology,
-    dump: &'a Dump,
-    far_ends: IndexMap<PortRef, PortRef>,
-    // The places of all switches among the nodes.
-    switch_places: Vec<usize>,
+    inputs: Inputs<'a>,
+    // Of each node the entries by LID, up to the top of its table.
+    entries: Vec<EntryList>,
+    // Of each node the far ends of its ports, from port 1 on.
+    ends: Vec<EndList>,
+    // Of each node what becomes of packets that leave it by these ports.
+    turns: Vec<TurnList>,
 }
 
 impl<'a> Model for Net<'a> {
     ghost use Rattle.std.specs.Prelude.{◌≡◌};
-    ghost use Rattle.topo_file.specs.Connectivity.{switches};
-    ghost use Rattle.route_audit.specs.FarEnds.{KnowsFarEnds};
+    ghost use Rattle.route_audit.specs.Lookup.{all_ends, all_entries, all_turns};
     ghost use Rattle.route_audit.specs.Net.{NetState};
 
     ghost Value = { NetState };
 
-    ghost view = { λ net. record { plan = net.plan.now; dump = net.dump.now } };
+    ghost view = { λ net. net.inputs };
 
-    ghost invariant = { λ net. KnowsFarEnds net.far_ends net.plan.now.cables × (net.switch_places.items ≡ switches net.plan.now.nodes) };
+    ghost invariant = { λ net. (net.entries.items ≡ all_entries net.inputs) × (net.ends.items ≡ all_ends net.inputs)
+        × (net.turns.items ≡ all_turns net.inputs) };
 }
 
 impl<'a> Net<'a> {
     pub(crate) fn new(
         alloc: Global,
-        plan: &'a Topology,
+        plan: &'a LargeTopology,
         dump: &'a Dump,
     ) -> Result<Net<'a>, AllocError>
         ensures { IfOk result (λ net. net ≡ record { plan = plan.now; dump = dump.now }) }
     {
-        let far_ends = far_ends(alloc, plan.cables())?;
-        let switches = switches(alloc, plan.nodes())?;
+        let inputs = Inputs::new(alloc, plan, dump)?;
+        let entries = inputs.all_entries(alloc)?;
+        let ends = inputs.all_ends(alloc)?;
+        let turns = inputs.all_turns(alloc)?;
         Ok(Net {
-            plan,
-            dump,
-            far_ends,
-            switch_places: switches,
+            inputs,
+            entries,
+            ends,
+            turns,
         })
     }
 
     pub(crate) fn dump(&self) -> &Dump
         ensures { result.now ≡ self.now.dump }
     {
-        self.dump
+        self.inputs.dump()
     }
 
     pub(crate) fn nodes(&self) -> &[Node]
         ensures { result.now ≡ self.now.plan.nodes }
     {
-        self.plan.nodes()
+        self.inputs.nodes()
     }
 
     pub(crate) fn cables(&self) -> &[Cable]
         ensures { result.now ≡ self.now.plan.cables }
     {
-        self.plan.cables()
+        self.inputs.cables()
     }
 
     pub(crate) fn switches(&self) -> &[usize]
         ensures { result.now ≡ switches self.now.plan.nodes }
     {
-        self.switch_places.as_slice()
+        self.inputs.switches()
     }
 
     pub(crate) fn is_switch_at(&self, place: usize) -> bool
         ensures { result ≡ is_switch_at self.now.plan.nodes place }
     {
-        self.plan.is_switch_at(place)
+        self.inputs.is_switch_at(place)
+    }
+
+    fn known_end(&self, here: PortRef) -> Option<Option<PortRef>>
+        ensures { IfSome result (λ there. there ≡ far_end self.now.plan.cables here) }
+    {
+        end_at(&self.ends, here)
     }
 
     pub(crate) fn far_end(&self, here: PortRef) -> Option<PortRef>
         ensures { result ≡ far_end self.now.plan.cables here }
     {
-        self.far_ends.get(&here).copied()
+        match self.known_end(here) {
+            Some(there) => there,
+            None => self.inputs.far_end(here),
+        }
     }
 
     /// The table of the node there, if there is one.
@@ -100,95 +115,45 @@ impl<'a> Net<'a> {
         ensures value { option_copied result ≡ table_at self.now place }
         ensures rising { IfSome result (λ table. is_rising table.now ≡ true) }
     {
-        let node = self.plan.nodes().get(place)?;
-        let table = self.dump.place_of(node.guid)?;
-        self.dump.tables().get(table)
+        self.inputs.table_at(place)
     }
 
     /// The row of a LID in the table of the switch there, if there is one.
     pub(crate) fn row_at(&self, lid: u16, place: usize) -> Option<&Row>
         ensures { option_copied result ≡ row_at self.now lid place }
     {
-        let table = self.table_at(place)?;
-        row_of(table.rows.as_slice(), lid, table.top)
+        self.inputs.row_at(lid, place)
+    }
+
+    fn known_entry(&self, lid: u16, place: usize) -> Option<Entry>
+        ensures { IfSome result (λ known. known ≡ entry self.now lid place) }
+    {
+        entry_at(&self.entries, place, lid)
     }
 
     /// The entry of a LID in the table of the switch there.
     pub(crate) fn entry(&self, lid: u16, place: usize) -> Entry
         ensures { result ≡ entry self.now lid place }
     {
-        match self.table_at(place) {
-            Some(table) => entry_in(lid, table),
-            None => Entry::Unreported,
+        match self.known_entry(lid, place) {
+            Some(known) => known,
+            None => self.inputs.entry(lid, place),
         }
     }
-}
 
-pub(crate) fn is_left_out(table: &Table, lid: u16) -> bool
-    ensures { result ≡ is_left_out table.now lid }
-{
-    lid == table.top && lid % 64 == 0
-}
-
-/// How many rows are of lesser LIDs.
-fn count_below(rows: &[Row], lid: u16) -> usize
-    requires { IsNonDecreasingBy (λ row. row.lid) rows.now }
-    ensures { IsPartitionPoint (λ row. nat_lt row.lid lid ≡ true) (λ row. nat_lt row.lid lid ≡ false) rows.now result }
-{
-    rows.partition_point(|row| row.lid < lid)
-}
-
-/// The row of a LID, by halving.
-pub(crate) fn row_of(rows: &[Row], lid: u16, top: u16) -> Option<&Row>
-    requires { rise 0 top rows.now ≡ true }
-    ensures { option_copied result ≡ row_of lid rows.now }
-{
-    let place = count_below(rows, lid);
-    let row = rows.get(place)?;
-    if row.lid != lid {
-        return None;
+    fn known_turn(&self, place: usize, number: u8) -> Option<Turn>
+        ensures { IfSome result (λ known. known ≡ turn_by self.now place (Out number)) }
+    {
+        turn_known(&self.turns, place, number)
     }
-    Some(row)
-}
 
-fn entry_in(lid: u16, table: &Table) -> Entry
-    requires { is_rising table.now ≡ true }
-    ensures { result ≡ entry_in lid table.now }
-{
-    match row_of(table.rows.as_slice(), lid, table.top) {
-        Some(row) if row.port == NO_PORT => Entry::Missing,
-        Some(row) => Entry::Out(row.port),
-        None if is_left_out(table, lid) => Entry::Unreported,
-        None => Entry::Missing,
+    /// What becomes of a packet that leaves the switch there by this port.
+    pub(crate) fn turn_out(&self, place: usize, number: u8) -> Turn
+        ensures { result ≡ turn_by self.now place (Out number) }
+    {
+        match self.known_turn(place, number) {
+            Some(known) => known,
+            None => self.inputs.turn_out(place, number),
+        }
     }
-}
-
-fn switches(alloc: Global, nodes: &[Node]) -> Result<Vec<usize>, AllocError>
-    ensures { IfOk result (λ places. places.items ≡ switches nodes.now) }
-{
-    (0..nodes.len())
-        .filter(|place| is_switch_at(nodes, *place))
-        .collect(alloc)
-}
-
-fn is_switch_at(nodes: &[Node], place: usize) -> bool
-    ensures { result ≡ is_switch_at nodes.now place }
-{
-    match nodes.get(place) {
-        Some(node) => node.is_switch(),
-        None => false,
-    }
-}
-
-/// The far end of each port that has a cable. Later cables come first, so that of two at one port the first counts.
-fn far_ends(alloc: Global, cables: &[Cable]) -> Result<IndexMap<PortRef, PortRef>, AllocError>
-    ensures { IfOk result (λ far_ends. KnowsFarEnds far_ends cables.now) }
-{
-    let mut far_ends = IndexMap::new(alloc);
-    for index in (0..cables.len()).rev() {
-        let cable = cables[index];
-        far_ends.insert(cable.second, cable.first)?;
-        far_ends.insert(cable.first, cable.second)?;
-    }
-    Ok(far_ends)
 }

@@ -10,15 +10,11 @@ use Rattle.fabric_parts.specs.declared.lid.TheConstants.{FIRST_MULTICAST_LID}
 use Rattle.step_results.proofs.ElementLemmas.{get_other}
 use Rattle.sa_store.specs.Registry.{RegistryState}
 use Rattle.sa_groups.specs.Receivers.{receivers_of}
-use Rattle.smp_wire.specs.FabricState.{FabricState, is_switch, port_count}
-use Rattle.smp_wire.specs.Good.{node_guid}
+use Rattle.smp_wire.specs.FabricState.{FabricState}
 use Rattle.smp_wire.specs.Shape.{IsSameShape}
 use Rattle.smp_wire.specs.declared.node.Node.{Node}
-use Rattle.smp_wire.specs.declared.node.Node.TheVariants.{Switch, Adapter}
 use Rattle.subnet_model.specs.declared.group_receiver.GroupReceiver.{GroupReceiver}
 use Rattle.sweep.specs.OfFabric.{IsGraphOf}
-use Rattle.sweep.specs.Seen.{name_in, seen_in}
-use Rattle.switch_model.specs.SwitchState.{SwitchState}
 use Rattle.table_push.proofs.AllMaskLemmas.{mlid_ranges_make_all}
 use Rattle.table_push.proofs.KeptLemmas.{graph_stays}
 use Rattle.table_push.proofs.MaskLemmas.{mlid_ranges_are_their_own}

@@ -25,7 +25,7 @@ header_narrow : (mad : List ℕ) → Fits (mad_header (header_in mad))
 header_narrow mad =
     (field_narrow mad 0 8, (field_narrow mad 8 8, (field_narrow mad 16 8, (field_narrow mad 24 8, (field_narrow mad 32 16, (field_narrow mad 48 16, (field_narrow mad 64 64, (field_narrow mad 128 16, (field_narrow mad 160 32, tt)))))))))
 
-is_active : (mad : List ℕ) (count number : ℕ) → number + 1 < 2 ^ 32
+pub is_active : (mad : List ℕ) (count number : ℕ) → number + 1 < 2 ^ 32
     → (bit_and (request_in (ack_mad (header_in mad) count number)).rmpp.flags 1 == 1) ≡ true
 unfolding request_in
 is_active mad count number low =
@@ -57,7 +57,7 @@ acks_unseen configuration p own mad count first (suc left) s other low =
     (acks_unseen configuration p own mad count (first + 1) left after other (omega (arith, low)))
     (transfers_are_unseen configuration.ports p own (ack_mad (header_in mad) count first) s other (is_active mad count first (omega (arith, low))))
 
-few : (length : ℕ) → length < 2 ^ 32 → 1 + segments_reported length < 2 ^ 32
+pub few : (length : ℕ) → length < 2 ^ 32 → 1 + segments_reported length < 2 ^ 32
 few length low = omega (arith, low)
 
 pub acknowledged_unseen : (configuration : ConfigurationState) (p : ℕ) (own : SubnetPort) (mads : List (List ℕ)) (s : Administration) → (own.guid == p) ≡ false

@@ -7,4 +7,5 @@ pub mod WrongNoteLemmas
 pub mod TableLemmas
 pub mod SourceLemmas
 pub mod RunDataLemmas
+pub mod NamedRunLemmas
 pub mod ExampleLemmas

@@ -4,6 +4,7 @@ pub mod Sight
 pub mod Laws
 pub mod Sources
 pub mod RunData
+pub mod NamedRuns
 pub mod InCommon
 pub mod WrongRules
 pub mod WholeTables

@@ -1,5 +1,8 @@
 -- What a port could be said to see that is less than it has in common, and rules that note too little of a run.
 use Rattle.std.specs.Prelude.{ℕ, List, [], map, Option, Some, None}
+use Rattle.subnet_model.specs.declared.command.Command.TheVariants.{Ask, Cable, Send}
+use Rattle.sa_groups.specs.Groups.{Creator, MulticastGroup, PartitionGroups}
+use Rattle.sa_queries.specs.Shown.{node_entry}
 use Rattle.subnet_model.specs.Configuration.{ConfigurationState}
 use Rattle.sa_groups.specs.Sight.{seen}
 use Rattle.sa_services.specs.ServiceSight.{services_seen}
@@ -7,8 +10,9 @@ use Rattle.sa_replies.specs.Answer.{Administration}
 use Rattle.sa_replies.specs.Notes.{NotedByte}
 use Rattle.sa_replies.specs.Transfers.{table_place}
 use Rattle.sa_runs.specs.InCommon.{ShowsAll}
+use Rattle.sa_runs.specs.NamedRuns.{NamesNotes}
 use Rattle.sa_runs.specs.RunData.{NotedStepRule, NotesData}
-use Rattle.sa_runs.specs.Sight.{Seen}
+use Rattle.sa_runs.specs.Sight.{Seen, sees}
 use Rattle.sa_runs.specs.Sources.{noted_step, without_record}
 
 -- of services those alone that it is shown: not those of a port near it in a partition of which both are limited members
@@ -43,3 +47,48 @@ step_noting_nothing configuration noted command =
 
 abbrev pub AnswersAreNoted : Type 0
 AnswersAreNoted = NotesData step_noting_nothing → ⊥
+
+-- ---- of a `send` to subnet administration nothing is noted
+abbrev pub step_noting_no_sends : NotedStepRule
+step_noting_no_sends configuration noted (Send command) = step_noting_nothing configuration noted (Send command)
+step_noting_no_sends configuration noted (Ask command) = noted_step configuration noted (Ask command)
+step_noting_no_sends configuration noted (Cable command) = noted_step configuration noted (Cable command)
+
+abbrev pub SendsAreNoted : Type 0
+SendsAreNoted = NotesData step_noting_no_sends → ⊥
+
+-- ---- for each port all nodes are noted, and as the partition file's
+abbrev pub step_naming_the_file : NotedStepRule
+step_naming_the_file configuration noted command = (
+  (noted_step configuration noted command).0,
+  record noted { notes = λ p. map (λ port. record (node_entry port) { source = Creator.PartitionFile }) configuration.ports },
+)
+
+abbrev pub NodesAreNoFiles : Type 0
+NodesAreNoFiles = NamesNotes step_naming_the_file → ⊥
+
+-- ---- of each group less than it has
+abbrev pub with_less : (MulticastGroup → MulticastGroup) → PartitionGroups → PartitionGroups
+with_less less partition = record partition { groups = map less partition.groups }
+
+abbrev pub sees_of_groups : (MulticastGroup → MulticastGroup) → ConfigurationState → ℕ → Administration → Seen
+sees_of_groups less configuration p state =
+    record (sees configuration p state) { groups = map (with_less less) (seen configuration.ports p state.remembered.partitions) }
+
+abbrev pub without_mlid : MulticastGroup → MulticastGroup
+without_mlid group = record group { mlid = 0 }
+
+abbrev pub without_maker : MulticastGroup → MulticastGroup
+without_maker group = record group { creator = Creator.PartitionFile }
+
+abbrev pub without_registrations : MulticastGroup → MulticastGroup
+without_registrations group = record group { memberships = [] }
+
+abbrev pub MlidsAreInCommon : Type 0
+MlidsAreInCommon = ShowsAll (sees_of_groups without_mlid) → ⊥
+
+abbrev pub MakersAreInCommon : Type 0
+MakersAreInCommon = ShowsAll (sees_of_groups without_maker) → ⊥
+
+abbrev pub RegistrationsAreInCommon : Type 0
+RegistrationsAreInCommon = ShowsAll (sees_of_groups without_registrations) → ⊥

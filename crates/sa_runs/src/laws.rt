@@ -2,6 +2,7 @@
 
 ghost use Rattle.sa_runs.specs.Laws.{AdministrationKeepsApart, RunsAreIsolated, RunsAreStates, RunsShowInOrder, RunsStaySound};
 ghost use Rattle.sa_runs.specs.InCommon.{SightShowsAll, StatesDependOnNear};
+ghost use Rattle.sa_runs.specs.NamedRuns.{RunsNameSources, StepsNameNotes};
 ghost use Rattle.sa_runs.specs.RunData.{DataOfRunsIsNoted};
 ghost use Rattle.sa_runs.specs.Sources.{NotesStandBesideRuns, OpenTablesAreNoted, RunRecordsComeFromNear};
 ghost use Rattle.sa_runs.specs.WholeTables.{TablesAreBroughtWhole};
@@ -72,4 +73,16 @@ pub fn data_of_runs_is_noted()
 /// order, and has its records; no table is open to it after that.
 pub fn tables_are_brought_whole()
     ensures { TablesAreBroughtWhole }
+{}
+
+/// Whatever a port sends or asks, the records that are noted for each port stay, or are named by what was remembered before
+/// that.
+pub fn steps_name_notes()
+    ensures { StepsNameNotes }
+{}
+
+/// Whatever ports sent and asked, what is noted of each answer names the source that its record names, by what is remembered
+/// then; and the records of a table that is open were named so when it was opened.
+pub fn runs_name_sources()
+    ensures { RunsNameSources }
 {}

@@ -14,7 +14,7 @@ mod wrong_rules;
 pub use crate::examples::{what_asking_brings, what_records_come_from, who_hears_a_group};
 pub use crate::laws::{
     administration_keeps_apart, notes_stand_beside_runs, open_tables_are_noted,
-    records_come_from_near, runs_are_isolated, runs_are_states, runs_stay_sound, sight_shows_all,
-    states_depend_on_near, tables_are_brought_whole,
+    records_come_from_near, runs_are_isolated, runs_are_states, runs_name_sources, runs_stay_sound,
+    sight_shows_all, states_depend_on_near, steps_name_notes, tables_are_brought_whole,
 };
 pub use crate::wrong_rules::what_is_shown_is_less;

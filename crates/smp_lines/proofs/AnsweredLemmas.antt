@@ -1,8 +1,8 @@
 -- Lines that are answered one after the other.
-use Rattle.std.proofs.Common.{ℕ, ◌≡◌, ◌≤◌, ◌+◌, ◌∙◌, ◌==◌, Bool, true, false, ap, refl, subst, sym, arith, append_assoc, append-nil, List, [], ◌∷◌, ◌++◌, length, length-append, Option, Some, None, Result, Err}
+use Rattle.std.proofs.Common.{ℕ, ◌≡◌, ◌≤◌, ◌+◌, ◌∙◌, ◌==◌, Bool, true, false, ap, refl, subst, sym, arith, append_assoc, append-nil, List, [], ◌∷◌, ◌++◌, length, Option, Some, None, Result, Err}
 use Rattle.std.specs.Prelude.{IfSome}
 use Rattle.std.specs.Io.BufRead.{take_through}
-use Rattle.std.specs.Io.KnownBytes.{Appends, Consumes, IsAtEnd, prepend_known}
+use Rattle.std.specs.Io.KnownBytes.{Appends, Consumes, IsAtEnd}
 use Rattle.smp_lines.specs.SmpLines.{Answered, EndsSo, OfBytes, after, answered, answered_by, behind, output_of, smp_in}
 use Rattle.smp_lines.specs.Steps.{IsAnswered, TakesLine}
 use Rattle.smp_lines.specs.Stop.{stop_of}
@@ -13,7 +13,6 @@ use Rattle.smp_lines.specs.declared.stop.SmpStop.TheVariants.{Line, NoMemory, Re
 use Rattle.smp_wire.specs.FabricState.{FabricState}
 use Rattle.text_streams.proofs.KnownBytesLemmas.{begins_with, part_behind, write_more}
 use Rattle.text_streams.proofs.LineLemmas.{false_is_not_true, has_end}
-use Rattle.text_streams.specs.Reading.{IsEndless}
 use Rattle.text_streams.specs.Writing.{AppendsPart}
 use Rattle.text_words.specs.Lines.{lines}
 

@@ -16,7 +16,7 @@ use Rattle.script_lines.specs.Script.{commands_in}
 use Rattle.subnet_core.specs.declared.fault.RunFault.{RunFault}
 use Rattle.subnet_core.specs.declared.fault.RunFault.TheVariants.{NoMemory, Topology, Partitions, Sweep, NoLegalPath, Push, Port, Script, SecondScript, Read, Write}
 use Rattle.subnet_core.proofs.BringUpLemmas.{lid_at}
-use Rattle.subnet_core.proofs.TopologyLemmas.{topology_is_sound}
+use Rattle.topo_file.proofs.TopologyLemmas.{topology_is_sound}
 use Rattle.subnet_fabric.proofs.OneFateLemmas.{no_path_excludes_coming_up, one_pair_has_no_path, too_far_excludes_the_rest}
 use Rattle.subnet_fabric.specs.Laws.{all_keys}
 use Rattle.subnet_model.specs.declared.subnet_port.SubnetPort.{SubnetPort}

@@ -1,6 +1,6 @@
 -- A run that is answered keeps partitions apart.
 use Rattle.std.proofs.Common.{◌≡◌, ◌==◌, ◌&&◌, ◌∙◌, ℕ, Bool, true, false, List, [], ◌∷◌, ◌++◌, filter, map, Option, Some, None, Result, Ok, Err, IfOk, refl, sym, ap, subst}
-use Rattle.std.specs.List.{AllByRecursion, list_all, list_any}
+use Rattle.std.specs.List.{AllByRecursion, list_all}
 use Rattle.std.proofs.lemmas.Bool.{and_from, and_parts, eqb-true}
 use Rattle.std.proofs.lemmas.Map.Views.{any-filter_same}
 use Rattle.step_results.proofs.ListLemmas.{any_map}
@@ -18,6 +18,7 @@ use Rattle.subnet_model.specs.declared.event.PortEvent.{PortEvent}
 use Rattle.subnet_model.specs.declared.subnet_port.SubnetPort.{SubnetPort}
 use Rattle.sa_replies.specs.Sources.{bytes_from_near}
 use Rattle.sa_runs.proofs.ApartLemmas.{runs_are_isolated}
+use Rattle.sa_runs.proofs.NamedRunLemmas.{runs_name_sources}
 use Rattle.sa_runs.proofs.SourceLemmas.{notes_stand_beside_runs, records_come_from_near}
 use Rattle.sa_runs.specs.Sources.{NotedEvent, noted_in, noted_report}
 use Rattle.subnet_model.specs.declared.command.Command.{Command}
@@ -94,6 +95,7 @@ records_are configuration p commands events configured carry same = record {
   whole = λ before after command is. data_of_runs_is_noted configuration before command configured
       (has_between CarriesBytes before after command (subst (AllByRecursion CarriesBytes) (sym is) carry));
   near = noted_at_port configuration.ports p (noted_report configuration commands) (records_come_from_near configuration commands).events;
+  named = runs_name_sources configuration commands;
 }
 
 -- and that is isolated

@@ -10,7 +10,6 @@ pub mod SenderLemmas
 pub mod StepLemmas
 pub mod ListingLemmas
 pub mod EventLinesLemmas
-pub mod TopologyLemmas
 pub mod FateLemmas
 pub mod AnswerLemmas
 pub mod OnceLemmas

@@ -1,6 +1,5 @@
 -- Texts on their way to a writer, one behind the other.
-use Rattle.std.proofs.Common.{ℕ, ◌≡◌, ◌∙◌, ap, refl, sym, List, [], ◌++◌, length, take, drop, append_assoc, append-nil, Option, Some, None}
-use Rattle.std.proofs.Math.Seq.{take-append_seam}
+use Rattle.std.proofs.Common.{ℕ, ◌≡◌, ◌∙◌, ap, refl, sym, List, [], ◌++◌, take, drop, append_assoc, append-nil, Option}
 use Rattle.std.proofs.lemmas.List.{take-append-drop}
 use Rattle.std.specs.Io.KnownBytes.{Appends}
 use Rattle.text_streams.specs.Writing.{AppendsPart}

@@ -1,7 +1,7 @@
 -- A script, as far as it is read.
-use Rattle.std.proofs.Common.{ℕ, true, false, ◌≡◌, ◌≤◌, ◌∙◌, arith, length, length-take, ap, refl, sym, subst, inl, inr, List, [], ◌++◌, append_assoc, append-nil, take, Option, Some, None, Result, Ok, Err}
+use Rattle.std.proofs.Common.{ℕ, true, false, ◌≡◌, ◌≤◌, ◌∙◌, arith, length, length-take, ap, refl, sym, subst, inl, inr, List, [], ◌++◌, append-nil, take, Option, Result, Ok, Err}
 use Rattle.std.specs.Prelude.{OnOk}
-use Rattle.std.specs.Io.KnownBytes.{Consumes, IsAtEnd, Keeps}
+use Rattle.std.specs.Io.KnownBytes.{Consumes, IsAtEnd}
 use Rattle.text_streams.proofs.KnownBytesLemmas.{consumes_more}
 use Rattle.text_words.specs.Lines.{lines}
 use Rattle.subnet_core.proofs.PartLemmas.{lines_are, pieces_on, same_lines, whole_lines_are}

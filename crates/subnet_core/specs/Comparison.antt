@@ -7,7 +7,7 @@ use Rattle.script_lines.specs.NamedPort.{named_adapter_port}
 use Rattle.script_lines.specs.Script.{commands_in}
 use Rattle.script_lines.specs.declared.script_cause.ScriptCause.{ScriptCause}
 use Rattle.subnet_core.specs.Fate.{FailsWith, WithFabric, up_from}
-use Rattle.subnet_core.specs.Inventory.{InventoryState, fault_in, of_text, inventory_of}
+use Rattle.subnet_core.specs.Inventory.{fault_in, of_text, inventory_of}
 use Rattle.subnet_core.specs.declared.comparing.Comparison.{Comparison}
 use Rattle.subnet_core.specs.declared.fault.RunFault.{RunFault}
 use Rattle.subnet_core.specs.declared.fault.RunFault.TheVariants.{Port, Script, SecondScript}

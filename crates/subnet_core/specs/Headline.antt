@@ -10,6 +10,7 @@ use Rattle.subnet_model.specs.Isolation.{DependsOnNear}
 use Rattle.subnet_model.specs.Source.{ComesFromNear}
 use Rattle.sa_replies.specs.Sources.{bytes_from_near}
 use Rattle.sa_runs.specs.Administration.{subnet_administration}
+use Rattle.sa_runs.specs.NamedRuns.{IsRunNamed}
 use Rattle.sa_runs.specs.RunData.{HasItsData}
 use Rattle.sa_runs.specs.Sources.{NotedEvent, noted_after, noted_in, noted_report, noted_step}
 use Rattle.subnet_ports.specs.Ports.{configuration_of, ports_of}
@@ -26,13 +27,15 @@ DataIsNoted configuration commands =
     (before after : List Command) (command : Command) → before ++ (command ∷ after) ≡ commands
     → AllByRecursion (HasItsData command) (noted_step configuration (noted_after configuration before) command).0
 
--- these events are those beside which it is noted so; and each byte of a record that p is answered comes from a port near p, or
--- from the partition file
+-- these events are those beside which it is noted so; each byte of a record that p is answered comes from a port near p, or
+-- from the partition file; and what is noted names the source that the record itself names: a node and a service their port, a
+-- path the port of its DGID, a group who made it, so that the file is named of a group alone
 pub record RecordsComeFromNear (configuration : ConfigurationState) (p : ℕ) (commands : List Command) (events : List PortEvent)
     : Type 0 where
   pub beside : map (λ one. one.event) (noted_report configuration commands) ≡ events
   pub whole : DataIsNoted configuration commands
   pub near : list_all (λ one. bytes_from_near configuration.ports p (noted_in one.noted)) (noted_at configuration p commands) ≡ true
+  pub named : IsRunNamed configuration commands
 
 -- Whatever fabric the topology describes, whatever partitions the file gives it, and whatever commands the
 -- script gives: at each port the events are those that the commands of the ports near it alone would bring

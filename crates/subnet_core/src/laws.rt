@@ -55,7 +55,7 @@ pub fn near_is_listed()
     ensures { NearIsListed }
 {}
 
-/// A list of all ports has one that is far.
+/// A list of all ports is no list of near ports: of two ports that share no partition neither is near the other.
 pub fn all_ports_are_not_near()
     ensures { AllPortsAreNotNear }
 {}

@@ -22,7 +22,6 @@ use Rattle.smp_wire.specs.Good.{IsGoodNode, end_port_guids, has_a_right_count, i
 use Rattle.smp_wire.specs.Shape.{IsSameShape}
 use Rattle.smp_wire.specs.declared.node.Node.{Node}
 use Rattle.smp_wire.specs.declared.node.Node.TheVariants.{Switch, Adapter}
-use Rattle.sweep.specs.Seen.{name_in, seen_in}
 use Rattle.switch_model.specs.SwitchState.{SwitchState}
 use Rattle.table_push.proofs.KeptLemmas.{graph_stays}
 use Rattle.table_push.proofs.MaskLemmas.{WasSwitch, bits_below, was_switch, whole_slice}

@@ -1,14 +1,15 @@
 //! Numbers of the crate, written out, and what its words rule out.
 
 ghost use Rattle.std.specs.Prelude.{◌≡◌};
-ghost use Rattle.text_streams.specs.declared.reading.TheConstants.{PIECE, READS};
+ghost use Rattle.text_streams.specs.declared.reading.TheConstants.{BIG_PIECE, PIECE, READS};
 ghost use Rattle.text_streams.specs.Laws.{LateReportsAreNotInTime, OthersAreNoPart, ShortTextsEnd};
 
-/// How often a text is read, and how many bytes a read takes at most, so that a text is read up to 256 MiB.
-/// Both numbers are ours. Like every law the function does nothing: its contract is the law.
+/// How often a text is read, and how many bytes a read takes at most, so that a text is read up to 256 MiB, and a big one up
+/// to 4 GiB. The numbers are ours. Like every law the function does nothing: its contract is the law.
 pub fn the_numbers()
     ensures reads { READS ≡ 1_048_576 }
     ensures piece { PIECE ≡ 256 }
+    ensures big_piece { BIG_PIECE ≡ 4_096 }
 {}
 
 /// A text of fewer bytes than there are reads is not endless.

@@ -13,6 +13,6 @@ mod writing;
 pub use crate::laws::{
     late_reports_are_not_in_time, others_are_no_part, short_texts_end, the_numbers,
 };
-pub use crate::reading::{PIECE, READS, Reader, read_to_end};
+pub use crate::reading::{BIG_PIECE, PIECE, READS, Reader, TextSize, read_to_end};
 pub use crate::reading_lines::{LineStop, read_line};
 pub use crate::writing::{Output, write_text, write_whole};

@@ -1,6 +1,6 @@
 //! Texts read to their end, in pieces.
 
-ghost use Rattle.std.specs.Prelude.{◌≡◌, ◌∷◌, [], true, false, Bool, IfOk, IfSome, IsOk, List, None, Option, is_none, ℕ};
+ghost use Rattle.std.specs.Prelude.{◌≡◌, ◌<◌, ◌∷◌, [], length, true, false, Bool, IfOk, IfSome, IsOk, List, None, Option, is_none, ℕ};
 ghost use Rattle.std.specs.Io.{ReadsAtMost};
 ghost use Rattle.std.specs.Io.KnownBytes.{ReadConsumes};
 ghost use Rattle.text_streams.specs.Reading.{IsEndless, Moment, Notes};
@@ -15,6 +15,9 @@ pub const READS: u32 = 1_048_576;
 
 /// How many bytes one read takes at most.
 pub const PIECE: usize = 256;
+
+/// How many bytes one read of a big text takes at most, so that it may have 4 GiB.
+pub const BIG_PIECE: usize = 4_096;
 
 /// What a text is read by.
 ///
@@ -64,9 +67,39 @@ impl<R: Read> Reader for R {
     }
 }
 
+/// How big a text may be.
+#[derive(Clone, Copy, Debug, PartialEq, Eq)]
+pub enum TextSize {
+    /// As big as [`READS`] reads of [`PIECE`] bytes: 256 MiB.
+    Plain,
+    /// As big as [`READS`] reads of [`BIG_PIECE`] bytes: 4 GiB.
+    Big,
+}
+
 /// All the bytes that a reader has left, or `None` where a read fails, or no end comes within
 /// [`READS`] reads. An interrupted read counts, and is tried again.
-pub fn read_to_end<R: Reader>(alloc: Global, reader: &mut R) -> Result<Option<Vec<u8>>, AllocError>
+pub fn read_to_end<R: Reader>(
+    alloc: Global,
+    reader: &mut R,
+    size: TextSize,
+) -> Result<Option<Vec<u8>>, AllocError>
+    ensures whole { IfOk result (λ whole. IfSome whole (λ bytes. IfSome (R.remaining reader.old)
+        (λ left. left ≡ bytes.items))) }
+    ensures sure { R.is_sure reader.old ≡ true → IfOk result (λ whole. is_none whole ≡ true → IsEndless (R.remaining reader.old)) }
+{
+    match size {
+        TextSize::Plain => read_to_end_by(alloc, reader, &mut [0u8; PIECE]),
+        TextSize::Big => read_to_end_by(alloc, reader, &mut [0u8; BIG_PIECE]),
+    }
+}
+
+/// The same by reads into this piece.
+fn read_to_end_by<R: Reader>(
+    alloc: Global,
+    reader: &mut R,
+    piece: &mut [u8],
+) -> Result<Option<Vec<u8>>, AllocError>
+    requires { 0 < length piece.old }
     ensures whole { IfOk result (λ whole. IfSome whole (λ bytes. IfSome (R.remaining reader.old)
         (λ left. left ≡ bytes.items))) }
     ensures sure { R.is_sure reader.old ≡ true → IfOk result (λ whole. is_none whole ≡ true → IsEndless (R.remaining reader.old)) }
@@ -74,8 +107,7 @@ pub fn read_to_end<R: Reader>(alloc: Global, reader: &mut R) -> Result<Option<Ve
     let mut bytes = Vec::new(alloc);
     let nobody = io::sink();
     for _turn in 0..READS {
-        let mut piece = [0u8; PIECE];
-        match reader.next_piece(&mut piece, &nobody) {
+        match reader.next_piece(piece, &nobody) {
             Ok(0) => return Ok(Some(bytes)),
             Ok(count) => bytes.extend_from_slice(&piece[..count])?,
             Err(error) if error.kind() == ErrorKind::Interrupted => {}

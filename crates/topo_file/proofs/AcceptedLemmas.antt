@@ -13,10 +13,11 @@ use Rattle.topo_file.specs.declared.fault.TopologyCause.TheVariants.{Malformed, 
 use Rattle.topo_file.specs.declared.node.Node.{Node}
 use Rattle.fabric_parts.specs.declared.node_type.NodeType.{NodeType}
 use Rattle.fabric_parts.specs.Cable.{is_cabled}
-use Rattle.fabric_parts.specs.NodeType.{most_ports}
+use Rattle.fabric_parts.specs.Limits.{most_ports_within}
+use Rattle.fabric_parts.specs.declared.limits.Limits.{Limits}
 use Rattle.topo_file.specs.Cable.{may_join, port_at}
 use Rattle.topo_file.specs.Node.{is_one_too_many, lacks_guids, place_of, shares_guid}
-use Rattle.topo_file.specs.Sound.{is_named, is_sized, joins_right}
+use Rattle.topo_file.specs.Sound.{is_named, is_sized_within, joins_right}
 use Rattle.topo_file.specs.Topology.{cable_of, cable_encoded, name_of, new_cable, new_node, node_of, node_encoded, number_up_to, port_of, within}
 use Rattle.step_results.proofs.PlaceLemmas.{not_there}
 
@@ -26,44 +27,46 @@ in_range top n (Some m) h =
     let so = let_through (nat_le 1 m && nat_le m top) (Ok m) Malformed n h in
     rw (sym (same_ok m n so.1)) so.0
 
-pub record IsNewNode (nodes : List Node) (node : Node) : Type 0 where
+pub record IsNewNode (limits : Limits) (nodes : List Node) (node : Node) : Type 0 where
   pub named : is_named node ≡ true
   pub own_name : list_any (λ other. bytes_eq node.name other.name) nodes ≡ false
-  pub sized : is_sized node ≡ true
+  pub sized : is_sized_within limits node ≡ true
   pub own : list_any (λ other. shares_guid node other) nodes ≡ false
 
 is_none : {X : Type 0} (o : Option X) → is_some o ≡ false → o ≡ None
 is_none None h = refl
 is_none (Some x) h = absurd cc
 
-new_is : (nodes : List Node) (node made : Node) → new_node nodes node ≡ Ok made
+new_is : (limits : Limits) (nodes : List Node) (node made : Node) → new_node limits nodes node ≡ Ok made
     → (list_any (λ other. bytes_eq node.name other.name) nodes ≡ false) × (lacks_guids nodes node ≡ false) × (made ≡ node)
-new_is nodes node made h =
+new_is limits nodes node made h =
     let named = not_stopped (is_some (place_of node.name nodes)) DuplicateName _ made h in
     let guids = not_stopped (lacks_guids nodes node) DuplicateGuid _ made named.1 in
-    let room = not_stopped (is_one_too_many nodes node.node_type node.ports) OverLimit _ made guids.1 in
+    let room = not_stopped (is_one_too_many limits nodes node.node_type node.ports) OverLimit _ made guids.1 in
     (not_there (λ other. bytes_eq node.name other.name) nodes (is_none (place_of node.name nodes) named.0), guids.0, sym (same_ok node made room.1))
 
-encoded_is : (node_type : NodeType) (nodes : List Node) (name guid ports : List ℕ) (made : Node) → node_encoded node_type nodes name guid ports ≡ Ok made → IsNewNode nodes made
+encoded_is : (limits : Limits) (node_type : NodeType) (nodes : List Node) (name guid ports : List ℕ) (made : Node)
+    → node_encoded limits node_type nodes name guid ports ≡ Ok made → IsNewNode limits nodes made
 unfolding node_encoded
-encoded_is node_type nodes name guid ports made h =
+encoded_is limits node_type nodes name guid ports made h =
     let named = bind_ok (name_of name) _ made h in
     let numbered = bind_ok (number_up_to (2 ^ 64 - 1) guid) _ made named.2 in
-    let counted = bind_ok (number_up_to (most_ports node_type) ports) _ made numbered.2 in
+    let counted = bind_ok (number_up_to (most_ports_within limits node_type) ports) _ made numbered.2 in
     let is = let_through (is_name name) (Ok name) Malformed named.0 named.1 in
     let node : Node = record { name = named.0; node_type = node_type; guid = numbered.0; ports = counted.0 } in
-    let new = new_is nodes node made counted.2 in
+    let new = new_is limits nodes node made counted.2 in
     let guid_is = and_parts (nat_le 1 numbered.0) _ (in_range (2 ^ 64 - 1) numbered.0 (number_in guid) numbered.1) in
-    let ports_are = in_range (most_ports node_type) counted.0 (number_in ports) counted.1 in
+    let ports_are = in_range (most_ports_within limits node_type) counted.0 (number_in ports) counted.1 in
     rw new.2 (record { named = rw (sym (same_ok name named.0 is.1)) is.0; own_name = new.0; sized = and_from (nat_le 1 numbered.0) _ guid_is.0 ports_are; own = (or_parts _ _ new.1).1 })
 
-pub new_node_is : (node_type : NodeType) (nodes : List Node) (words : List (List ℕ)) (made : Node) → node_of node_type nodes words ≡ Ok made → IsNewNode nodes made
+pub new_node_is : (limits : Limits) (node_type : NodeType) (nodes : List Node) (words : List (List ℕ)) (made : Node)
+    → node_of limits node_type nodes words ≡ Ok made → IsNewNode limits nodes made
 unfolding node_of
-new_node_is node_type nodes [] made h = cc
-new_node_is node_type nodes (a ∷ []) made h = cc
-new_node_is node_type nodes (a ∷ b ∷ []) made h = cc
-new_node_is node_type nodes (a ∷ b ∷ c ∷ []) made h = encoded_is node_type nodes a b c made h
-new_node_is node_type nodes (a ∷ b ∷ c ∷ d ∷ rest) made h = cc
+new_node_is limits node_type nodes [] made h = cc
+new_node_is limits node_type nodes (a ∷ []) made h = cc
+new_node_is limits node_type nodes (a ∷ b ∷ []) made h = cc
+new_node_is limits node_type nodes (a ∷ b ∷ c ∷ []) made h = encoded_is limits node_type nodes a b c made h
+new_node_is limits node_type nodes (a ∷ b ∷ c ∷ d ∷ rest) made h = cc
 
 pub record IsNewCable (nodes : List Node) (cables : List Cable) (cable : Cable) : Type 0 where
   pub first : is_cabled cables cable.first ≡ false

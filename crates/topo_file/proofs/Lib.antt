@@ -1,8 +1,11 @@
 pub mod NodeLemmas
 pub mod LimitLemmas
 pub mod MarkLemmas
+pub mod RoundLemmas
 pub mod WalkLemmas
 pub mod CableLemmas
 pub mod AcceptedLemmas
 pub mod SoundLemmas
 pub mod GuidLemmas
+pub mod WithinLemmas
+pub mod TopologyLemmas

@@ -11,7 +11,7 @@ use Rattle.std.proofs.lemmas.List.FromFn.{length-enumerate_from}
 use Rattle.fabric_parts.specs.declared.cable.Cable.{Cable}
 use Rattle.topo_file.specs.declared.node.Node.{Node}
 use Rattle.topo_file.specs.Node.{is_switch, is_switch_at, switch_count}
-use Rattle.topo_file.specs.Rounds.{is_marked, leads_to, spread, only, after_rounds}
+use Rattle.topo_file.specs.Rounds.{is_marked, kept, leads_to, spread, only, after_rounds}
 
 -- ---- the mark at a place
 mark_from : (f : ℕ × Node → Bool) (m i : ℕ) (nodes : List Node)
@@ -35,6 +35,9 @@ pub mark-spread : (nodes : List Node) (cables : List Cable) (marks : List Bool) 
 mark-spread nodes cables marks i =
     mark_at (λ p. is_switch p.1 && (is_marked marks p.0 || list_any (λ cable. leads_to marks p.0 cable) cables)) i nodes
     ∙ and_out (slice_get nodes i) (is_marked marks i || list_any (λ cable. leads_to marks i cable) cables)
+
+pub mark-kept : (nodes : List Node) (marks : List Bool) (i : ℕ) → is_marked (kept nodes marks) i ≡ (is_switch_at nodes i && is_marked marks i)
+mark-kept nodes marks i = mark_at (λ p. is_switch p.1 && is_marked marks p.0) i nodes ∙ and_out (slice_get nodes i) (is_marked marks i)
 
 same_place : (o : Option Node) (i place : ℕ) → option_map_or (λ n. i == place) o false ≡ true → i ≡ place
 same_place None i place h = absurd cc

@@ -12,11 +12,12 @@ use Rattle.step_results.proofs.TestLemmas.{same_either_way}
 use Rattle.std.proofs.lemmas.List.Elements.{All-nil, All-push}
 use Rattle.fabric_parts.specs.declared.cable.Cable.{Cable}
 use Rattle.fabric_parts.specs.declared.cable.PortRef.{PortRef}
+use Rattle.fabric_parts.specs.declared.limits.Limits.{Limits}
 use Rattle.topo_file.specs.declared.node.Node.{Node}
 use Rattle.topo_file.specs.declared.draft.Manager.{Manager}
 use Rattle.topo_file.specs.Node.{HasGuids, is_one_too_many, is_switch, is_switch_at, last_guid, shares_guid}
 use Rattle.fabric_parts.specs.Cable.{ends_at, is_cabled, is_same_port}
-use Rattle.topo_file.specs.Sound.{is_named, is_port, is_sized, ends_at_ports, is_manager_port, joins_right, on_adapter, shares_name, shares_port, AreRoots, AreSound, IsSoundSoFar}
+use Rattle.topo_file.specs.Sound.{is_named, is_port, is_sized_within, ends_at_ports, is_manager_port, joins_right, on_adapter, shares_name, shares_port, AreRoots, AreSoundWithin, IsSoundSoFar}
 use Rattle.topo_file.specs.Topology.{DraftState, is_root, nothing}
 use Rattle.topo_file.proofs.AcceptedLemmas.{IsNewNode, IsNewCable}
 use Rattle.topo_file.proofs.LimitLemmas.{within_limits_more}
@@ -73,8 +74,8 @@ name_turned (a ∷ one) [] = refl
 name_turned (a ∷ one) (b ∷ other) = ap₂ (λ (x y : Bool). x && y) (same_either_way a b) (name_turned one other)
 
 -- before the first line
-pub nothing_sound : IsSoundSoFar nothing
-nothing_sound = record {
+pub nothing_sound : (limits : Limits) → IsSoundSoFar (nothing limits)
+nothing_sound limits = record {
   lines = record {
     names = refl;
     own_names = IsDistinct-nil shares_name;
@@ -105,16 +106,16 @@ joins_still nodes node (cable ∷ cables) ends joins =
     let j = and_parts (joins_right nodes cable) _ joins in
     and_from (joins_right (nodes ++ node ∷ []) cable) _ (join_still nodes node cable e.0 j.0) (joins_still nodes node cables e.1 j.1)
 
-lines_still : (nodes : List Node) (node : Node) (cables : List Cable) → AreSound nodes cables → HasGuids node
-    → is_one_too_many nodes node.node_type node.ports ≡ false → IsNewNode nodes node
-    → AreSound (nodes ++ node ∷ []) cables
-lines_still nodes node cables sound guids room new = record {
+lines_still : (limits : Limits) (nodes : List Node) (node : Node) (cables : List Cable) → AreSoundWithin limits nodes cables → HasGuids node
+    → is_one_too_many limits nodes node.node_type node.ports ≡ false → IsNewNode limits nodes node
+    → AreSoundWithin limits (nodes ++ node ∷ []) cables
+lines_still limits nodes node cables sound guids room new = record {
   names = list_all_push is_named nodes node sound.names new.named;
   own_names = distinct_more shares_name (λ a b. name_turned a.name b.name) nodes node sound.own_names new.own_name;
   guids = All-push HasGuids nodes node sound.guids guids;
   own_guids = distinct_more shares_guid shares_turned nodes node sound.own_guids new.own;
-  sizes = list_all_push is_sized nodes node sound.sizes new.sized;
-  limits = within_limits_more nodes node sound.limits room;
+  sizes = list_all_push (is_sized_within limits) nodes node sound.sizes new.sized;
+  limits = within_limits_more limits nodes node sound.limits room;
   ends = ends_still nodes node cables sound.ends;
   joins = joins_still nodes node cables sound.ends sound.joins;
   own_ports = sound.own_ports;
@@ -152,10 +153,10 @@ sound_rooted so_far root sound switch own = record {
 
 -- a node with GUIDs of its own and room for it leaves all sound
 pub sound_still : (so_far : DraftState) (node : Node) → IsSoundSoFar so_far → HasGuids node
-    → is_one_too_many so_far.nodes node.node_type node.ports ≡ false → IsNewNode so_far.nodes node
+    → is_one_too_many so_far.limits so_far.nodes node.node_type node.ports ≡ false → IsNewNode so_far.limits so_far.nodes node
     → IsSoundSoFar (record so_far { nodes = so_far.nodes ++ node ∷ [] })
 sound_still so_far node sound guids room new = record {
-  lines = lines_still so_far.nodes node so_far.cables sound.lines guids room new;
+  lines = lines_still so_far.limits so_far.nodes node so_far.cables sound.lines guids room new;
   roots = roots_still so_far.nodes node so_far.roots sound.roots;
   manager = manager_still so_far.nodes node so_far.manager sound.manager;
 }

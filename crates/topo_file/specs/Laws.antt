@@ -3,7 +3,8 @@ use Rattle.std.specs.Prelude.{ℕ, ◌≡◌, ◌↔◌, true, false, List, [], 
 use Rattle.fabric_parts.specs.declared.cable.Cable.{Cable}
 use Rattle.topo_file.specs.declared.node.Node.{Node}
 use Rattle.topo_file.specs.Connectivity.{AllJoined, is_connected}
-use Rattle.topo_file.specs.Node.{IsGuidOf, IsWithinLimits, is_one_too_many, shares_guid}
+use Rattle.fabric_parts.specs.declared.limits.Limits.{Limits}
+use Rattle.topo_file.specs.Node.{IsGuidOf, IsWithin, is_one_too_many, shares_guid}
 
 -- the test that computes says whether walks over cables join every two switches
 abbrev pub ConnectedMeansJoined : Type 0
@@ -12,8 +13,8 @@ ConnectedMeansJoined = (nodes : List Node) (cables : List Cable) → is_connecte
 -- behind nodes within the limits one more is taken exactly where the limits then still hold: no sooner refused, and no later
 abbrev pub LimitsAreMet : Type 0
 LimitsAreMet =
-    (nodes : List Node) (node : Node) → IsWithinLimits nodes
-    → is_one_too_many nodes node.node_type node.ports ≡ false ↔ IsWithinLimits (nodes ++ node ∷ [])
+    (limits : Limits) (nodes : List Node) (node : Node) → IsWithin limits nodes
+    → is_one_too_many limits nodes node.node_type node.ports ≡ false ↔ IsWithin limits (nodes ++ node ∷ [])
 
 -- two nodes are reported to share a GUID exactly where some GUID is one of both
 abbrev pub SharedGuidsAreReported : Type 0

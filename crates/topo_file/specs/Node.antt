@@ -6,9 +6,11 @@ use Rattle.std.specs.Str.{bytes_eq}
 use Rattle.fabric_parts.specs.declared.cable.PortRef.{PortRef}
 use Rattle.fabric_parts.specs.declared.node_type.NodeType.{NodeType}
 use Rattle.fabric_parts.specs.declared.node_type.NodeType.TheVariants.{Switch, ChannelAdapter}
+use Rattle.fabric_parts.specs.Limits.{most_adapter_ports, most_switches}
 use Rattle.fabric_parts.specs.NodeType.{is_switch_type}
 use Rattle.topo_file.specs.declared.node.Node.{Node}
-use Rattle.fabric_parts.specs.declared.limits.TheConstants.{SWITCHES, ADAPTER_PORTS}
+use Rattle.fabric_parts.specs.declared.limits.Limits.{Limits}
+use Rattle.fabric_parts.specs.declared.limits.Limits.TheVariants.{Simulated}
 
 abbrev pub is_switch : Node → Bool
 is_switch node = is_switch_type node.node_type
@@ -70,10 +72,14 @@ abbrev pub adapter_ports : List Node → ℕ
 adapter_ports nodes = sum_by (λ node. port_guids node.node_type node.ports) nodes
 
 -- so many nodes are there already that no such node may follow these
-abbrev pub is_one_too_many : List Node → NodeType → ℕ → Bool
-is_one_too_many nodes Switch ports = nat_le SWITCHES (switch_count nodes)
-is_one_too_many nodes ChannelAdapter ports = nat_lt ADAPTER_PORTS (adapter_ports nodes + ports)
+abbrev pub is_one_too_many : Limits → List Node → NodeType → ℕ → Bool
+is_one_too_many limits nodes Switch ports = nat_le (most_switches limits) (switch_count nodes)
+is_one_too_many limits nodes ChannelAdapter ports = nat_lt (most_adapter_ports limits) (adapter_ports nodes + ports)
 
 -- no limit is passed
+abbrev pub IsWithin : Limits → List Node → Type 0
+IsWithin limits nodes = (switch_count nodes ≤ most_switches limits) × (adapter_ports nodes ≤ most_adapter_ports limits)
+
+-- no limit of simulated fabrics is passed
 abbrev pub IsWithinLimits : List Node → Type 0
-IsWithinLimits nodes = (switch_count nodes ≤ SWITCHES) × (adapter_ports nodes ≤ ADAPTER_PORTS)
+IsWithinLimits nodes = IsWithin Simulated nodes

@@ -1,7 +1,7 @@
 -- How the code finds whether cables join all switches: marks spread from the first switch, round by round. What it
 -- finds is `is_connected` of Connectivity, and no other definition stands on this one.
-use Rattle.std.specs.Prelude.{ℕ, zero, suc, Bool, true, false, not, ◌==◌, ◌&&◌, ◌||◌, List, map, slice_get, Option, Some, None, position, unwrap_or}
-use Rattle.std.specs.List.{list_any, list_all, enumerate_from}
+use Rattle.std.specs.Prelude.{ℕ, zero, suc, Bool, true, false, not, ◌==◌, ◌&&◌, ◌||◌, List, length, map, slice_get, Option, Some, None, position, unwrap_or}
+use Rattle.std.specs.List.{list_any, list_all, enumerate_from, zip}
 use Rattle.fabric_parts.specs.declared.cable.Cable.{Cable}
 use Rattle.topo_file.specs.declared.node.Node.{Node}
 use Rattle.topo_file.specs.Node.{is_switch, switch_count}
@@ -19,6 +19,17 @@ leads_to marks place cable =
 abbrev pub spread : List Node → List Cable → List Bool → List Bool
 spread nodes cables marks =
     map (λ p. is_switch p.1 && (is_marked marks p.0 || list_any (λ cable. leads_to marks p.0 cable) cables)) (enumerate_from 0 nodes)
+
+-- the switches that are marked already
+abbrev pub kept : List Node → List Bool → List Bool
+kept nodes marks = map (λ p. is_switch p.1 && is_marked marks p.0) (enumerate_from 0 nodes)
+
+-- the same places are marked
+abbrev pub is_same_mark : Bool × Bool → Bool
+is_same_mark pair = (pair.0 && pair.1) || (not pair.0 && not pair.1)
+
+abbrev pub is_same : List Bool → List Bool → Bool
+is_same one other = (length one == length other) && list_all is_same_mark (zip one other)
 
 -- before the first round this place alone is marked
 abbrev pub only : List Node → ℕ → List Bool

@@ -11,7 +11,9 @@ use Rattle.text_words.specs.Words.{Port, is_name, port_in}
 use Rattle.fabric_parts.specs.declared.cable.Cable.{Cable}
 use Rattle.fabric_parts.specs.declared.cable.PortRef.{PortRef}
 use Rattle.fabric_parts.specs.Cable.{is_cabled}
-use Rattle.fabric_parts.specs.NodeType.{most_ports}
+use Rattle.fabric_parts.specs.Limits.{most_ports_within}
+use Rattle.fabric_parts.specs.declared.limits.Limits.{Limits}
+use Rattle.fabric_parts.specs.declared.limits.Limits.TheVariants.{Simulated}
 use Rattle.topo_file.specs.declared.fault.TopologyCause.{TopologyCause}
 use Rattle.topo_file.specs.declared.fault.TopologyCause.TheVariants.{Malformed, DuplicateName, DuplicateGuid, UnknownNode, NoSuchPort, PortTaken}
 use Rattle.topo_file.specs.declared.fault.TopologyCause.TheVariants.{WrongCableEnds, WrongManager, Disconnected, OverLimit, ManagerUncabled}
@@ -32,8 +34,9 @@ pub record TopologyState : Type 0 where
   pub roots : List ℕ
   pub sm : PortRef
 
--- what the lines so far declare
+-- what the lines so far declare, and the limits that they are held to
 pub record DraftState : Type 0 where
+  pub limits : Limits
   pub nodes : List Node
   pub cables : List Cable
   pub roots : List ℕ
@@ -56,23 +59,23 @@ port_of word = ok_or (port_in word) Malformed
 
 -- ---- lines: `switch NAME GUID PORTS` and `adapter NAME GUID PORTS`.
 -- A node has a name that no node before it has, GUIDs that are free, and room below the limits.
-abbrev pub new_node : List Node → Node → Result Node TopologyCause
-new_node nodes node =
+abbrev pub new_node : Limits → List Node → Node → Result Node TopologyCause
+new_node limits nodes node =
     if is_some (place_of node.name nodes) then Err DuplicateName
     else (if lacks_guids nodes node then Err DuplicateGuid
-    else (if is_one_too_many nodes node.node_type node.ports then Err OverLimit
+    else (if is_one_too_many limits nodes node.node_type node.ports then Err OverLimit
     else Ok node))
 
-unfoldable pub node_encoded : NodeType → List Node → List ℕ → List ℕ → List ℕ → Result Node TopologyCause
-node_encoded node_type nodes name guid ports = do
+unfoldable pub node_encoded : Limits → NodeType → List Node → List ℕ → List ℕ → List ℕ → Result Node TopologyCause
+node_encoded limits node_type nodes name guid ports = do
   named ← name_of name
   number ← number_up_to (2 ^ 64 - 1) guid
-  count ← number_up_to (most_ports node_type) ports
-  new_node nodes (record { name = named; node_type = node_type; guid = number; ports = count })
+  count ← number_up_to (most_ports_within limits node_type) ports
+  new_node limits nodes (record { name = named; node_type = node_type; guid = number; ports = count })
 
-unfoldable pub node_of : NodeType → List Node → List (List ℕ) → Result Node TopologyCause
-node_of node_type nodes (name ∷ guid ∷ ports ∷ []) = node_encoded node_type nodes name guid ports
-node_of node_type nodes _ = Err Malformed
+unfoldable pub node_of : Limits → NodeType → List Node → List (List ℕ) → Result Node TopologyCause
+node_of limits node_type nodes (name ∷ guid ∷ ports ∷ []) = node_encoded limits node_type nodes name guid ports
+node_of limits node_type nodes _ = Err Malformed
 
 -- `cable PORT PORT`, of two ports that have none yet
 abbrev pub new_cable : List Node → List Cable → PortRef → PortRef → Result Cable TopologyCause
@@ -148,8 +151,8 @@ with_manager so_far reported = reported >>= λ manager. Ok (record so_far { mana
 unfoldable pub after_words : ℕ → DraftState → List (List ℕ) → Result DraftState TopologyCause
 after_words number so_far [] = Ok so_far
 after_words number so_far (first ∷ rest) =
-    if bytes_eq first (codes "switch") then with_node so_far (node_of Switch so_far.nodes rest)
-    else (if bytes_eq first (codes "adapter") then with_node so_far (node_of ChannelAdapter so_far.nodes rest)
+    if bytes_eq first (codes "switch") then with_node so_far (node_of so_far.limits Switch so_far.nodes rest)
+    else (if bytes_eq first (codes "adapter") then with_node so_far (node_of so_far.limits ChannelAdapter so_far.nodes rest)
     else (if bytes_eq first (codes "cable") then with_cable so_far (cable_of so_far.nodes so_far.cables rest)
     else (if bytes_eq first (codes "root") then with_root so_far (root_of so_far.nodes so_far.roots rest)
     else (if bytes_eq first (codes "sm") then with_manager so_far (manager_of so_far.nodes so_far.manager number rest)
@@ -174,13 +177,17 @@ whole all = do
   plan_of all manager
 
 -- before the first line nothing is declared
-abbrev pub nothing : DraftState
-nothing = record { nodes = []; cables = []; roots = []; manager = None }
+abbrev pub nothing : Limits → DraftState
+nothing limits = record { limits = limits; nodes = []; cables = []; roots = []; manager = None }
 
 -- what all lines declare
-abbrev pub declarations_of : List ℕ → Result DraftState (AtLine TopologyCause)
-declarations_of text = after_lines after_line 1 nothing (lines text)
+abbrev pub declarations_within : Limits → List ℕ → Result DraftState (AtLine TopologyCause)
+declarations_within limits text = after_lines after_line 1 (nothing limits) (lines text)
 
 -- what the text describes, or its first fault
-unfoldable pub topology_of : List ℕ → Result TopologyState (AtLine TopologyCause)
-topology_of text = declarations_of text >>= whole
+unfoldable pub topology_within : Limits → List ℕ → Result TopologyState (AtLine TopologyCause)
+topology_within limits text = declarations_within limits text >>= whole
+
+-- what it describes of a fabric that is to be simulated
+abbrev pub topology_of : List ℕ → Result TopologyState (AtLine TopologyCause)
+topology_of text = topology_within Simulated text

@@ -1,12 +1,12 @@
 //! Whether cables join all switches.
 
-ghost use Rattle.std.specs.Prelude.{◌≡◌, ◌↔◌, ◌==◌, ◌||◌, true, IfOk, map, position};
-ghost use Rattle.std.specs.List.{enumerate_from, list_any};
-ghost use Rattle.topo_file.specs.Node.{is_switch, switch_count};
+ghost use Rattle.std.specs.Prelude.{ℕ, ◌≡◌, ◌↔◌, ◌==◌, ◌&&◌, ◌||◌, true, IfOk, length, map, nat_lt, position};
+ghost use Rattle.std.specs.List.{enumerate_from, list_all, zip};
+ghost use Rattle.topo_file.specs.Node.{is_switch, is_switch_at, switch_count};
 ghost use Rattle.topo_file.specs.Connectivity.{AllJoined, is_connected};
-ghost use Rattle.topo_file.specs.Rounds.{after_rounds, is_marked, leads_to, marks_all, only, leads_to_all, spread};
+ghost use Rattle.topo_file.specs.Rounds.{after_rounds, is_marked, is_same, is_same_mark, kept, leads_to_all, marks_all, only, spread};
 
-use crate::node::{Node, switch_count};
+use crate::node::{Node, is_switch_at, switch_count};
 use fabric_parts::Cable;
 use std::alloc::{AllocError, Global};
 
@@ -37,7 +37,8 @@ fn first_switch(nodes: &[Node]) -> Option<usize>
     nodes.iter().position(|node| node.is_switch())
 }
 
-/// The switches that are reached from this place in as many rounds as there are switches.
+/// The switches that are reached from this place in as many rounds as there are switches. After a round that marks no
+/// other switch none does.
 fn after_rounds(
     alloc: Global,
     nodes: &[Node],
@@ -48,9 +49,34 @@ fn after_rounds(
 {
     let mut marks = only(alloc, nodes, place)?;
     for _ in 0..switch_count(nodes) {
-        marks = spread(alloc, nodes, cables, &marks)?;
+        let next = spread(alloc, nodes, cables, &marks)?;
+        if is_same(&next, &marks) {
+            return Ok(next);
+        }
+        marks = next;
     }
     Ok(marks)
+}
+
+/// Whether the same places are marked.
+fn is_same(one: &[bool], other: &[bool]) -> bool
+    ensures { result ≡ is_same one.now other.now }
+{
+    one.len() == other.len() && is_same_at_each(one, other)
+}
+
+fn is_same_at_each(one: &[bool], other: &[bool]) -> bool
+    ensures { result ≡ list_all is_same_mark (zip one.now other.now) }
+{
+    one.iter()
+        .zip(other.iter())
+        .all(|(a, b)| is_same_mark(*a, *b))
+}
+
+fn is_same_mark(a: bool, b: bool) -> bool
+    ensures { result ≡ is_same_mark (a, b) }
+{
+    (a && b) || (!a && !b)
 }
 
 fn only(alloc: Global, nodes: &[Node], place: usize) -> Result<Vec<bool>, AllocError>
@@ -72,30 +98,35 @@ fn spread(
 ) -> Result<Vec<bool>, AllocError>
     ensures { IfOk result (λ next. next.items ≡ spread nodes.now cables.now marks.now) }
 {
+    let mut next = kept(alloc, nodes, marks)?;
+    for cable in cables {
+        mark_along(&mut next, nodes, marks, cable.first.node, cable.second.node);
+        mark_along(&mut next, nodes, marks, cable.second.node, cable.first.node);
+    }
+    Ok(next)
+}
+
+/// The switches that are marked.
+fn kept(alloc: Global, nodes: &[Node], marks: &[bool]) -> Result<Vec<bool>, AllocError>
+    ensures { IfOk result (λ next. next.items ≡ kept nodes.now marks.now) }
+{
     nodes
         .iter()
         .enumerate()
-        .map(|(place, node)| node.is_switch() && is_reached(cables, marks, place))
+        .map(|(place, node)| node.is_switch() && is_marked(marks, place))
         .collect(alloc)
 }
 
-fn is_reached(cables: &[Cable], marks: &[bool], place: usize) -> bool
-    ensures { result ≡ (is_marked marks.now place || list_any (λ cable. leads_to marks.now place cable) cables.now) }
+/// Marks the end of a cable if it is a switch and the other end was marked.
+#[tactic(auto, using(crate::proofs::RoundLemmas::marked_more, crate::proofs::RoundLemmas::marked_none))]
+fn mark_along(next: &mut Vec<bool>, nodes: &[Node], marks: &[bool], from: usize, to: usize)
+    ensures length { length next.new.items ≡ length next.old.items }
+    ensures marks { (place : ℕ) → is_marked next.new.items place
+        ≡ (is_marked next.old.items place || ((to == place) && ((is_marked marks.now from && is_switch_at nodes.now to) && nat_lt to (length next.old.items)))) }
 {
-    is_marked(marks, place) || some_leads_to(cables, marks, place)
-}
-
-fn some_leads_to(cables: &[Cable], marks: &[bool], place: usize) -> bool
-    ensures { result ≡ list_any (λ cable. leads_to marks.now place cable) cables.now }
-{
-    cables.iter().any(|cable| leads_to(marks, place, cable))
-}
-
-fn leads_to(marks: &[bool], place: usize, cable: &Cable) -> bool
-    ensures { result ≡ leads_to marks.now place cable.now }
-{
-    (cable.first.node == place && is_marked(marks, cable.second.node))
-        || (cable.second.node == place && is_marked(marks, cable.first.node))
+    if is_marked(marks, from) && is_switch_at(nodes, to) && to < next.len() {
+        next[to] = true;
+    }
 }
 
 fn is_marked(marks: &[bool], place: usize) -> bool

@@ -12,8 +12,8 @@ ghost use Rattle.topo_file.specs.Topology.{is_root, new_node, new_cable, new_roo
 
 use crate::cable::{CableList, may_join, port_at};
 use crate::fault::TopologyCause;
-use crate::node::{NewNode, NodeList, is_one_too_many, is_switch_at, lacks_guids};
-use fabric_parts::{Cable, PortRef};
+use crate::node::{NewNode, NodeList, is_switch_at, lacks_guids};
+use fabric_parts::{Cable, Limits, NodeType, PortRef};
 use std::alloc::Global;
 use std::marker::Model;
 
@@ -27,44 +27,53 @@ pub(crate) struct Manager {
 /// What the lines so far declare.
 #[derive(Drop)]
 pub(crate) struct Draft {
+    pub(crate) limits: Limits,
     pub(crate) nodes: NodeList,
     pub(crate) cables: CableList,
     // The places of their switches among the nodes.
     pub(crate) roots: Vec<usize>,
     pub(crate) manager: Option<Manager>,
+    // How many switches there are, and how many ports the adapters have, all together.
+    pub(crate) switches: usize,
+    pub(crate) ports: usize,
 }
 
 impl Model for Draft {
+    ghost use Rattle.std.specs.Prelude.{◌≡◌};
+    ghost use Rattle.topo_file.specs.Node.{adapter_ports, switch_count};
     ghost use Rattle.topo_file.specs.Topology.{DraftState};
     ghost use Rattle.topo_file.specs.Sound.{IsSoundSoFar};
 
     ghost Value = { DraftState };
 
-    ghost view = { λ draft. record { nodes = draft.nodes; cables = draft.cables; roots = draft.roots.items; manager = draft.manager } };
+    ghost view = { λ draft. record { limits = draft.limits; nodes = draft.nodes; cables = draft.cables; roots = draft.roots.items; manager = draft.manager } };
 
     ghost invariant = { λ draft. IsSoundSoFar
-        (record { nodes = draft.nodes; cables = draft.cables; roots = draft.roots.items; manager = draft.manager }) };
+        (record { limits = draft.limits; nodes = draft.nodes; cables = draft.cables; roots = draft.roots.items; manager = draft.manager })
+        × (draft.switches ≡ switch_count draft.nodes) × (draft.ports ≡ adapter_ports draft.nodes) };
 }
 
 impl Draft {
-    #[tactic(auto, using(crate::proofs::SoundLemmas::nothing_sound))]
-    pub(crate) fn new(alloc: Global) -> Draft
-        ensures { result ≡ nothing }
+    pub(crate) fn new(alloc: Global, limits: Limits) -> Draft
+        ensures { result ≡ nothing limits }
     {
         Draft {
+            limits,
             nodes: NodeList::new(alloc),
             cables: CableList::new(alloc),
             roots: Vec::new(alloc),
             manager: None,
+            switches: 0,
+            ports: 0,
         }
     }
 
     /// Judges a node against those before it.
     pub(crate) fn new_node(&self, node: &NewNode) -> Result<(), TopologyCause>
-        ensures value { seen_by (λ _. seen node.now) result ≡ new_node self.now.nodes (seen node.now) }
+        ensures value { seen_by (λ _. seen node.now) result ≡ new_node self.now.limits self.now.nodes (seen node.now) }
         ensures new { IfOk result (λ _. place_of node.now.name.now self.now.nodes ≡ None) }
         ensures guids { OnOk result (HasGuids (seen node.now)) }
-        ensures room { OnOk result (is_one_too_many self.now.nodes node.now.node_type node.now.ports ≡ false) }
+        ensures room { OnOk result (is_one_too_many self.now.limits self.now.nodes node.now.node_type node.now.ports ≡ false) }
     {
         let nodes = self.nodes.as_slice();
         if self.nodes.place_of(node.name).is_some() {
@@ -73,10 +82,23 @@ impl Draft {
         if lacks_guids(nodes, node) {
             return Err(TopologyCause::DuplicateGuid);
         }
-        if is_one_too_many(nodes, node.node_type, node.ports) {
+        if self.is_one_too_many(node.node_type, node.ports) {
             return Err(TopologyCause::OverLimit);
         }
         Ok(())
+    }
+
+    /// Whether one more node of this type is past the limits.
+    #[tactic(auto, using(crate::proofs::WithinLemmas::few_ports))]
+    fn is_one_too_many(&self, node_type: NodeType, ports: u8) -> bool
+        ensures { result ≡ is_one_too_many self.now.limits self.now.nodes node_type ports }
+    {
+        match node_type {
+            NodeType::Switch => self.switches >= self.limits.switches(),
+            NodeType::ChannelAdapter => {
+                self.ports + usize::from(ports) > self.limits.adapter_ports()
+            }
+        }
     }
 
     /// The cable between two ports, judged against what was declared before it.

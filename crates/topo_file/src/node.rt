@@ -1,12 +1,12 @@
 //! The nodes of a topology.
 
 ghost use Rattle.std.specs.Prelude.{◌≡◌, ◌≤◌, ◌<◌, ◌^◌, ◌+◌, length, [], ◌∷◌, ◌++◌, None, IfOk, OnOk, OnErr};
-ghost use Rattle.topo_file.specs.Node.{adapter_ports, is_one_too_many, is_switch, is_switch_at, lacks_guids, last_guid, name_at, place_of, port_guid, port_guids, ports_at, shares_guid, switch_count};
+ghost use Rattle.topo_file.specs.Node.{is_switch, is_switch_at, lacks_guids, last_guid, name_at, place_of, port_guid, port_guids, ports_at, shares_guid, switch_count};
 ghost use Rattle.std.specs.List.{list_any};
 ghost use Rattle.topo_file.specs.NewNode.{seen};
 ghost use Rattle.fabric_parts.specs.declared.limits.TheConstants.{NAME_BYTES};
 
-use fabric_parts::{ADAPTER_PORTS, NodeType, SWITCHES};
+use fabric_parts::NodeType;
 use indexmap::IndexSet;
 use std::alloc::{AllocError, Global};
 use std::marker::Model;
@@ -235,25 +235,4 @@ pub(crate) fn switch_count(nodes: &[Node]) -> usize
     ensures { result ≡ switch_count nodes.now }
 {
     nodes.iter().filter(|node| node.is_switch()).count()
-}
-
-/// How many ports the adapters have, all together.
-fn adapter_ports(nodes: &[Node]) -> u128
-    ensures { result ≡ adapter_ports nodes.now }
-{
-    nodes
-        .iter()
-        .map(|node| u128::from(port_guids(node.node_type, node.ports)))
-        .sum()
-}
-
-/// Whether one more node of this type is past the limits of a fabric.
-pub(crate) fn is_one_too_many(nodes: &[Node], node_type: NodeType, ports: u8) -> bool
-    ensures { result ≡ is_one_too_many nodes.now node_type ports }
-{
-    match node_type {
-        NodeType::Switch => switch_count(nodes) >= SWITCHES,
-        NodeType::ChannelAdapter => adapter_ports(nodes)
-            > ADAPTER_PORTS as u128 - u128::from(ports),
-    }
 }

@@ -5,17 +5,18 @@ ghost use Rattle.fabric_parts.specs.declared.limits.TheConstants.{NAME_BYTES};
 ghost use Rattle.text_words.specs.Words.{seen as port_seen};
 ghost use Rattle.topo_file.specs.Node.{HasGuids, is_one_too_many, is_switch_at, place_of};
 ghost use Rattle.topo_file.specs.NewNode.{seen};
-ghost use Rattle.topo_file.specs.Sound.{ends_at_ports, is_manager_port};
+ghost use Rattle.topo_file.specs.Sound.{IsSoundWithin, ends_at_ports, is_manager_port};
 ghost use Rattle.step_results.specs.Gives.{LineGives, seen_by};
 ghost use Rattle.step_results.specs.TextGives.{TextGives};
-ghost use Rattle.topo_file.specs.Topology.{name_of, port_of, number_up_to, node_encoded, node_of, cable_encoded, cable_of, root_encoded, root_of, manager_encoded, manager_of, is_root, with_node, with_cable, with_root, with_manager, after_words, after_line, whole, topology_of};
+ghost use Rattle.topo_file.specs.Topology.{name_of, port_of, number_up_to, node_encoded, node_of, cable_encoded, cable_of, root_encoded, root_of, manager_encoded, manager_of, is_root, with_node, with_cable, with_root, with_manager, after_words, after_line, whole, topology_of, topology_within};
 
 use crate::connectivity::is_connected;
 use crate::draft::{Draft, Manager};
 use crate::fault::{TopoFault, TopologyCause};
+use crate::large_topology::LargeTopology;
 use crate::node::NewNode;
 use crate::topology::Topology;
-use fabric_parts::{Cable, NodeType};
+use fabric_parts::{Cable, Limits, NodeType};
 use std::alloc::Global;
 use step_results::LineError;
 use text_words::{LineReader, PortWord, Words, is_name, number_in, port_in, read_lines};
@@ -28,11 +29,11 @@ impl Draft {
         node_type: NodeType,
         words: Words<'a>,
     ) -> Result<NewNode<'a>, TopologyCause>
-        ensures value { seen_by seen result ≡ node_of node_type self.now.nodes words.entry }
+        ensures value { seen_by seen result ≡ node_of self.now.limits node_type self.now.nodes words.entry }
         ensures new { IfOk result (λ node. place_of node.name.now self.now.nodes ≡ None) }
         ensures short { IfOk result (λ node. length node.name.now ≤ NAME_BYTES) }
         ensures guids { IfOk result (λ node. HasGuids (seen node)) }
-        ensures room { IfOk result (λ node. is_one_too_many self.now.nodes node.node_type node.ports ≡ false) }
+        ensures room { IfOk result (λ node. is_one_too_many self.now.limits self.now.nodes node.node_type node.ports ≡ false) }
     {
         let mut words = words;
         let (Some(name), Some(guid), Some(ports), None) = (
@@ -54,15 +55,15 @@ impl Draft {
         guid: &[u8],
         ports: &[u8],
     ) -> Result<NewNode<'a>, TopologyCause>
-        ensures value { seen_by seen result ≡ node_encoded node_type self.now.nodes name.now guid.now ports.now }
+        ensures value { seen_by seen result ≡ node_encoded self.now.limits node_type self.now.nodes name.now guid.now ports.now }
         ensures new { IfOk result (λ node. place_of node.name.now self.now.nodes ≡ None) }
         ensures short { IfOk result (λ node. length node.name.now ≤ NAME_BYTES) }
         ensures guids { IfOk result (λ node. HasGuids (seen node)) }
-        ensures room { IfOk result (λ node. is_one_too_many self.now.nodes node.node_type node.ports ≡ false) }
+        ensures room { IfOk result (λ node. is_one_too_many self.now.limits self.now.nodes node.node_type node.ports ≡ false) }
     {
         let name = name_of(name)?;
         let guid = number_up_to(u64::MAX, guid)?;
-        let ports = number_up_to(u64::from(node_type.most_ports()), ports)? as u8;
+        let ports = number_up_to(u64::from(self.limits.ports_of(node_type)), ports)? as u8;
         let node = NewNode {
             name,
             node_type,
@@ -155,10 +156,14 @@ impl Draft {
         node_type: NodeType,
         words: Words<'_>,
     ) -> Result<(), LineError<TopologyCause>>
-        ensures { LineGives (λ _. self.new) result (with_node self.old (node_of node_type self.old.nodes words.entry)) }
+        ensures { LineGives (λ _. self.new) result (with_node self.old (node_of self.old.limits node_type self.old.nodes words.entry)) }
     {
         let node = self.node_of(node_type, words)?;
         self.nodes.push(alloc, &node)?;
+        match node.node_type {
+            NodeType::Switch => self.switches += 1,
+            NodeType::ChannelAdapter => self.ports += usize::from(node.ports),
+        }
         Ok(())
     }
 
@@ -223,8 +228,9 @@ impl Draft {
 
     /// The topology, if all lines together describe one.
     #[tactic(auto, unfolding(crate::specs::Topology::whole))]
-    fn finish(self, alloc: Global) -> Result<Topology, TopoFault>
-        ensures { TextGives (λ topology. topology) result (whole self) }
+    fn finish(self, alloc: Global) -> Result<LargeTopology, TopoFault>
+        ensures value { TextGives (λ topology. topology) result (whole self) }
+        ensures sound { IfOk result (IsSoundWithin self.limits) }
     {
         let Some(manager) = self.manager else {
             return Err(TopoFault::At {
@@ -244,7 +250,7 @@ impl Draft {
                 cause: TopologyCause::Disconnected,
             });
         }
-        Ok(Topology {
+        Ok(LargeTopology {
             nodes: self.nodes,
             cables: self.cables,
             roots: self.roots,
@@ -297,14 +303,23 @@ fn number_up_to(top: u64, word: &[u8]) -> Result<u64, TopologyCause>
     }
 }
 
-/// The topology that a text describes, or its first fault with the line.
+/// The topology that a text describes, or its first fault with the line; a fabric past the limits is a fault.
 ///
 /// Lines are judged in turn, each after those before it; `specs/Topology.antt` says how. Time is
 /// linear in the length of the text, and only names are copied.
-#[tactic(auto, unfolding(crate::specs::Topology::topology_of))]
+#[tactic(auto, unfolding(crate::specs::Topology::topology_within))]
+pub fn read_within(alloc: Global, text: &[u8], limits: Limits) -> Result<LargeTopology, TopoFault>
+    ensures value { TextGives (λ topology. topology) result (topology_within limits text.now) }
+    ensures sound { IfOk result (IsSoundWithin limits) }
+{
+    let draft = read_lines(alloc, text, Draft::new(alloc, limits))?;
+    draft.finish(alloc)
+}
+
+/// The topology of a simulated fabric that a text describes, or its first fault with the line; see [`read_within`].
 pub fn read(alloc: Global, text: &[u8]) -> Result<Topology, TopoFault>
     ensures { TextGives (λ topology. topology) result (topology_of text.now) }
 {
-    let draft = read_lines(alloc, text, Draft::new(alloc))?;
-    draft.finish(alloc)
+    let all = read_within(alloc, text, Limits::Simulated)?;
+    Ok(Topology { all })
 }

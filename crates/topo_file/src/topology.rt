@@ -1,4 +1,4 @@
-//! A topology that was read.
+//! A topology whose fabric can be simulated.
 
 ghost use Rattle.std.specs.Prelude.{◌≡◌, ◌+◌, ◌≤◌, true, false, All, IfSome, nat_eq};
 ghost use Rattle.std.specs.List.{list_all, IsDistinct};
@@ -8,30 +8,22 @@ ghost use Rattle.topo_file.specs.Connectivity.{AllJoined};
 ghost use Rattle.topo_file.specs.Node.{HasGuids, IsWithinLimits, is_switch_at, place_of, port_guid_at, ports_at, shares_guid};
 ghost use Rattle.topo_file.specs.Sound.{IsSound, ends_at_ports, is_manager_port, is_named, is_sized, joins_right, shares_name, shares_port};
 
-use crate::cable::{CableList, port_at};
-use crate::node::{Node, NodeList, is_switch_at};
+use crate::large_topology::LargeTopology;
+use crate::node::Node;
 use fabric_parts::{Cable, PortRef};
 use std::marker::Model;
 
-/// The nodes and cables of a fabric, the roots of its routes, and the port that the subnet manager runs on.
+/// A topology within [`Limits::Simulated`](fabric_parts::Limits::Simulated): the nodes and cables of a fabric, the roots of
+/// its routes, and the port that the subnet manager runs on.
 #[derive(Debug)]
 pub struct Topology {
-    pub(crate) nodes: NodeList,
-    pub(crate) cables: CableList,
-    // The places of their switches among the nodes.
-    pub(crate) roots: Vec<usize>,
-    pub(crate) sm: PortRef,
+    pub(crate) all: LargeTopology,
 }
 
 // As derived, but by one call: else what owns one is proved to let go of each of its parts, on each way out.
 impl Drop for Topology {
     fn drop(self) {
-        let Topology {
-            nodes: _,
-            cables: _,
-            roots: _,
-            sm: _,
-        } = self;
+        let Topology { all: _ } = self;
     }
 }
 
@@ -41,11 +33,9 @@ impl Model for Topology {
 
     ghost Value = { TopologyState };
 
-    ghost view = { λ topology.
-        record { nodes = topology.nodes; cables = topology.cables; roots = topology.roots.items; sm = topology.sm } };
+    ghost view = { λ topology. topology.all };
 
-    ghost invariant = { λ topology. IsSound
-        (record { nodes = topology.nodes; cables = topology.cables; roots = topology.roots.items; sm = topology.sm }) };
+    ghost invariant = { λ topology. IsSound topology.all };
 }
 
 impl Topology {
@@ -54,7 +44,14 @@ impl Topology {
         ensures { IsSound self.now }
     {
         // What a value meets is known once a field is named.
-        let _ = &self.nodes;
+        let _ = &self.all;
+    }
+
+    /// The same as a topology of any size.
+    pub fn as_large(&self) -> &LargeTopology
+        ensures { result.now ≡ self.now }
+    {
+        &self.all
     }
 
     /// The nodes, in the order of their lines.
@@ -67,7 +64,7 @@ impl Topology {
         ensures sizes { list_all is_sized result.now ≡ true }
         ensures limits { IsWithinLimits result.now }
     {
-        self.nodes.as_slice()
+        self.all.nodes()
     }
 
     /// The cables, in the order of their lines.
@@ -78,7 +75,7 @@ impl Topology {
         ensures own_ports { IsDistinct shares_port result.now }
         ensures connected { AllJoined self.now.nodes result.now }
     {
-        self.cables.as_slice()
+        self.all.cables()
     }
 
     /// The roots that routes go up to, in the order of their lines: each is the place of a switch among the
@@ -88,7 +85,7 @@ impl Topology {
         ensures switches { list_all (is_switch_at self.now.nodes) result.now ≡ true }
         ensures own { IsDistinct nat_eq result.now }
     {
-        self.roots.as_slice()
+        self.all.roots()
     }
 
     /// The port that the subnet manager runs on, which is an adapter's and has a cable.
@@ -97,14 +94,14 @@ impl Topology {
         ensures port { is_manager_port self.now.nodes result ≡ true }
         ensures cabled { is_cabled self.now.cables result ≡ true }
     {
-        self.sm
+        self.all.sm()
     }
 
     /// Whether the node there is a switch.
     pub fn is_switch_at(&self, place: usize) -> bool
         ensures { result ≡ is_switch_at self.now.nodes place }
     {
-        is_switch_at(self.nodes.as_slice(), place)
+        self.all.is_switch_at(place)
     }
 
     /// The port of this number at the node there, if there is one.
@@ -112,7 +109,7 @@ impl Topology {
         ensures value { result ≡ port_at self.now.nodes place number }
         ensures within { IfSome result (λ port. port.port ≤ ports_at self.now.nodes port.node) }
     {
-        port_at(self.nodes.as_slice(), place, number)
+        self.all.port_at(place, number)
     }
 
     /// The GUID of a port of an adapter.
@@ -121,23 +118,20 @@ impl Topology {
         requires within { port.port ≤ ports_at self.now.nodes port.node }
         ensures { result ≡ port_guid_at self.now.nodes port }
     {
-        match self.nodes.as_slice().get(port.node) {
-            Some(node) => node.port_guid(port.port),
-            None => 0,
-        }
+        self.all.guid_of(port)
     }
 
     /// Whether the port has a cable, looked up in constant time.
     pub fn is_cabled(&self, port: PortRef) -> bool
         ensures { result ≡ is_cabled self.now.cables port }
     {
-        self.cables.is_cabled(port)
+        self.all.is_cabled(port)
     }
 
     /// Where the node of this name stands among the nodes, looked up in constant time.
     pub fn index_of(&self, name: &[u8]) -> Option<usize>
         ensures { result ≡ place_of name.now self.now.nodes }
     {
-        self.nodes.place_of(name)
+        self.all.index_of(name)
     }
 }

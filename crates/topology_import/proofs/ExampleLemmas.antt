@@ -6,8 +6,9 @@ use Rattle.fabric_parts.specs.declared.node_type.NodeType.TheVariants.{ChannelAd
 use Rattle.std.specs.Fmt.{digits}
 use Rattle.hex.specs.Hex.{encode_with}
 use Rattle.step_results.specs.AtLine.{after_lines}
+use Rattle.fabric_parts.specs.declared.limits.Limits.TheVariants.{Large}
 use Rattle.topo_file.specs.declared.node.Node.{Node}
-use Rattle.topo_file.specs.Topology.{TopologyState, after_line, after_words, cable_of, cable_encoded, manager_of, manager_encoded, node_of, node_encoded, topology_of, whole}
+use Rattle.topo_file.specs.Topology.{TopologyState, after_line, after_words, cable_of, cable_encoded, manager_of, manager_encoded, node_of, node_encoded, topology_within, whole}
 use Rattle.topology_import.specs.Agreement.{agrees}
 use Rattle.topology_import.specs.Ends.{ends}
 use Rattle.topology_import.specs.Examples.{EndsAreCounted, OthersAreRefused, PortsAreImported, two_hosts, two_hosts_text, TwoHostsAreImported, two_ports, two_ports_text}
@@ -33,8 +34,8 @@ reported : text_of two_hosts 33 ≡ two_hosts_text
 unfolding digits encode_with named text_with
 reported = refl
 
-read : topology_of two_hosts_text ≡ Ok plan
-unfolding adapter after_line after_lines after_words cable cable_of cable_encoded manager_of manager_encoded node_of node_encoded plan topology_of whole
+read : topology_within Large two_hosts_text ≡ Ok plan
+unfolding adapter after_line after_lines after_words cable cable_of cable_encoded manager_of manager_encoded node_of node_encoded plan topology_within whole
 read = refl
 
 agreed : agrees two_hosts (ends two_hosts) (planned_nodes two_hosts) 33 plan ≡ true
@@ -62,8 +63,8 @@ other_reported : text_of two_ports 258 ≡ two_ports_text
 unfolding digits encode_with named text_with
 other_reported = refl
 
-other_read : topology_of two_ports_text ≡ Ok other_plan
-unfolding after_line after_lines after_words cable_of cable_encoded manager_of manager_encoded node_of node_encoded other_plan topology_of whole
+other_read : topology_within Large two_ports_text ≡ Ok other_plan
+unfolding after_line after_lines after_words cable_of cable_encoded manager_of manager_encoded node_of node_encoded other_plan topology_within whole
 other_read = refl
 
 other_agreed : agrees two_ports (ends two_ports) (planned_nodes two_ports) 258 other_plan ≡ true
@@ -78,7 +79,7 @@ unfolding import_of
 ports_are_imported = record { asked = other_given; of_a_router = refl; of_none = refl }
 
 pub others_are_refused : OthersAreRefused
-unfolding after_line after_lines after_words cable_of cable_encoded digits encode_with import_of manager_of manager_encoded named node_of node_encoded text_with topology_of whole
+unfolding after_line after_lines after_words cable_of cable_encoded digits encode_with import_of manager_of manager_encoded named node_of node_encoded text_with topology_within whole
 others_are_refused = record { of_a_node = refl; of_port_0 = refl; too_large = refl; past_its_ports = refl }
 
 pub ends_are_counted : EndsAreCounted

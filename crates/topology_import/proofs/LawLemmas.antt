@@ -14,6 +14,7 @@ use Rattle.step_results.proofs.StepLemmas.{bind_ok, let_through, same_ok, unless
 use Rattle.fabric_parts.specs.declared.cable.Cable.{Cable}
 use Rattle.fabric_parts.specs.declared.cable.PortRef.{PortRef}
 use Rattle.fabric_parts.specs.Cable.{ends_at, is_cabled, is_same_port, port}
+use Rattle.fabric_parts.specs.declared.limits.Limits.TheVariants.{Large}
 use Rattle.netdiscover_file.specs.declared.node.Node.{Node as FoundNode}
 use Rattle.netdiscover_file.specs.declared.port.PortLine.{PortLine}
 use Rattle.netdiscover_file.specs.declared.ends.FarEnd.{FarEnd}
@@ -26,7 +27,7 @@ use Rattle.netdiscover_file.proofs.OtherEndLemmas.{one_other_end}
 use Rattle.topo_file.specs.declared.fault.TopologyCause.{TopologyCause}
 use Rattle.topo_file.specs.declared.node.Node.{Node}
 use Rattle.topo_file.specs.Node.{is_switch, port_guid}
-use Rattle.topo_file.specs.Topology.{TopologyState, topology_of}
+use Rattle.topo_file.specs.Topology.{TopologyState, topology_within}
 use Rattle.topology_import.specs.declared.cables.CableMeant.{CableMeant}
 use Rattle.topology_import.specs.declared.planned.Planned.{Planned}
 use Rattle.topology_import.specs.Agreement.{agrees, are_as_planned, has_cable, has_ends, is_between, is_cable_of, is_end_port, is_port_of, is_reported}
@@ -256,8 +257,8 @@ as_planned : (discovery : DiscoveryState) (planned : List Planned) (manager : �
     → are_as_planned planned plan.nodes ≡ true
 as_planned discovery planned manager plan passes = (and_parts (are_as_planned planned plan.nodes) _ passes).0
 
-still_read : (a b : List ℕ) (plan : TopologyState) → a ≡ b → topology_of a ≡ Ok plan → topology_of b ≡ Ok plan
-still_read a b plan same is = ap topology_of (sym same) ∙ is
+still_read : (a b : List ℕ) (plan : TopologyState) → a ≡ b → topology_within Large a ≡ Ok plan → topology_within Large b ≡ Ok plan
+still_read a b plan same is = ap (topology_within Large) (sym same) ∙ is
 
 still_asked : (o : Option ℕ) (a b : ℕ) → o ≡ Some a → a ≡ b → o ≡ Some b
 still_asked o a b is same = is ∙ ap Some same
@@ -272,7 +273,7 @@ given discovery manager text sound h =
     let second = bind_ok (unless (guid_fault discovery.nodes (firsts (ends discovery))) first.0) (λ port. text_read discovery port) text first.2 in
     let same = (unless_ok (guid_fault discovery.nodes (firsts (ends discovery))) first.0 second.0 second.1).1 in
     let it = judged_ok discovery (planned_nodes discovery) (cables_meant discovery) second.0 (text_of discovery second.0)
-    (topology_of (text_of discovery second.0)) text second.2 in
+    (topology_within Large (text_of discovery second.0)) text second.2 in
     record {
       guid = second.0;
       asked = still_asked (asked_for manager discovery.initiator) first.0 second.0 asked same;

@@ -1,5 +1,6 @@
 pub mod IndexLemmas
 pub mod LoopLemmas
+pub mod PairLemmas
 pub mod NameLemmas
 pub mod TextLemmas
 pub mod LawLemmas

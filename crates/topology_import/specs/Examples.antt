@@ -93,7 +93,7 @@ one_host guid = record { nodes = leaf ∷ host guid 6 ∷ []; ports = down 1 gui
 pub record OthersAreRefused : Type 0 where
   pub of_a_node : import_of (one_host 16) None ≡ Err (record { line = 7; cause = GuidTaken 17 16 })
   pub of_port_0 : import_of (one_host 17) None ≡ Err (record { line = 7; cause = GuidTaken 18 17 })
-  pub too_large : import_of (record (one_host 32) { nodes = record leaf { ports = 37 } ∷ host 32 6 ∷ [] }) None
+  pub too_large : import_of (record (one_host 32) { nodes = record leaf { ports = 255 } ∷ host 32 6 ∷ [] }) None
       ≡ Err (record { line = 3; cause = Refused topology.Malformed })
   pub past_its_ports : import_of (record (one_host 32) { ports = down 5 32 4 ∷ up 1 32 5 7 ∷ [] }) None
       ≡ Err (record { line = 4; cause = Refused topology.NoSuchPort })

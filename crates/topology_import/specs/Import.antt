@@ -2,10 +2,11 @@
 use Rattle.std.specs.Prelude.{ℕ, List, Option, Some, None, is_some, Result, Ok, Err, if◌then◌else◌}
 use Rattle.step_results.specs.AtLine.{AtLine, on_line}
 use Rattle.step_results.specs.Steps.{◌>>=◌, unless}
+use Rattle.fabric_parts.specs.declared.limits.Limits.TheVariants.{Large}
 use Rattle.netdiscover_file.specs.declared.port.PortLine.{PortLine}
 use Rattle.netdiscover_file.specs.Discovery.{DiscoveryState}
 use Rattle.topo_file.specs.declared.fault.TopologyCause.{TopologyCause}
-use Rattle.topo_file.specs.Topology.{TopologyState, topology_of}
+use Rattle.topo_file.specs.Topology.{TopologyState, topology_within}
 use Rattle.topology_import.specs.declared.cables.CableMeant.{CableMeant}
 use Rattle.topology_import.specs.declared.planned.Planned.{Planned}
 use Rattle.topology_import.specs.declared.fault.ImportCause.{ImportCause}
@@ -38,7 +39,7 @@ judged discovery ends nodes cables manager text (Err fault) =
 abbrev pub text_read : DiscoveryState → ℕ → Result (List ℕ) (AtLine ImportCause)
 text_read discovery manager =
     judged discovery (ends discovery) (planned_nodes discovery) (cables_meant discovery) manager (text_of discovery manager)
-    (topology_of (text_of discovery manager))
+    (topology_within Large (text_of discovery manager))
 
 unfoldable pub import_of : DiscoveryState → Option ℕ → Result (List ℕ) (AtLine ImportCause)
 import_of discovery manager = do

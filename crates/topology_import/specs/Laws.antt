@@ -3,13 +3,14 @@ use Rattle.std.specs.Prelude.{ℕ, Bool, ◌≡◌, ◌≤◌, true, false, List
 use Rattle.fabric_parts.specs.declared.cable.Cable.{Cable}
 use Rattle.fabric_parts.specs.declared.cable.PortRef.{PortRef}
 use Rattle.fabric_parts.specs.Cable.{is_cabled}
+use Rattle.fabric_parts.specs.declared.limits.Limits.TheVariants.{Large}
 use Rattle.netdiscover_file.specs.declared.port.PortLine.{PortLine}
 use Rattle.netdiscover_file.specs.Agreement.{is_one_cable}
 use Rattle.netdiscover_file.specs.Discovery.{DiscoveryState}
 use Rattle.netdiscover_file.specs.Sound.{IsSound}
 use Rattle.topo_file.specs.declared.node.Node.{Node}
 use Rattle.topo_file.specs.Node.{is_switch, port_guid}
-use Rattle.topo_file.specs.Topology.{TopologyState, topology_of}
+use Rattle.topo_file.specs.Topology.{TopologyState, topology_within}
 use Rattle.topology_import.specs.declared.planned.Planned.{Planned}
 use Rattle.topology_import.specs.Agreement.{agrees, are_as_planned, is_between, is_end_port}
 use Rattle.topology_import.specs.Ends.{counted, ends}
@@ -60,7 +61,7 @@ pub record IsGiven (discovery : DiscoveryState) (manager : Option ℕ) (text : L
   pub guid : ℕ
   pub asked : asked_for manager discovery.initiator ≡ Some guid
   pub plan : TopologyState
-  pub read : topology_of text ≡ Ok plan
+  pub read : topology_within Large text ≡ Ok plan
   pub nodes : are_as_planned (planned_nodes discovery) plan.nodes ≡ true
   pub is_of : IsTopologyOf discovery guid plan
 

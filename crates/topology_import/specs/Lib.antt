@@ -6,6 +6,7 @@ pub mod Cables
 pub mod Text
 pub mod Fault
 pub mod Agreement
+pub mod PortPairs
 pub mod Import
 pub mod Laws
 pub mod WrongRules

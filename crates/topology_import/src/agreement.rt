@@ -1,17 +1,19 @@
 //! Whether a topology that was read is that of a discovery.
 
-ghost use Rattle.std.specs.Prelude.{◌≡◌, ◌+◌};
+ghost use Rattle.std.specs.Prelude.{◌≡◌, ◌+◌, ◌&&◌, IfOk};
 ghost use Rattle.std.specs.List.{list_all, range_with_len, zip};
 ghost use Rattle.topo_file.specs.Node.{is_switch_at, port_guid, port_guid_at};
 ghost use Rattle.topology_import.specs.Ends.{counted, is_above};
-ghost use Rattle.topology_import.specs.Agreement.{agrees, are_as_planned, guid_at, has_cable, has_ends, is_as_planned, is_between, is_cable_of, is_end_port, is_port_of, is_switch_port, is_reported};
+ghost use Rattle.topology_import.specs.Agreement.{agrees, are_as_planned, guid_at, has_cable, has_ends, is_as_planned, is_end_port, is_reported};
+ghost use Rattle.topology_import.specs.PortPairs.{joins_cable, joins_line};
 
 use crate::ends::{EndList, counts};
-use crate::nodes::switch_guid_at;
 use crate::planned::Planned;
+use crate::port_pairs::{PortKey, PortPairs};
 use fabric_parts::{Cable, PortRef};
 use netdiscover_file::{Discovery, PortLine};
-use topo_file::{Node, Topology};
+use std::alloc::{AllocError, Global};
+use topo_file::{LargeTopology, Node};
 
 fn is_as_planned(planned: &Planned, node: &Node) -> bool
     ensures { result ≡ is_as_planned (planned.now, node.now) }
@@ -60,7 +62,7 @@ fn all_have_ends(ends: &EndList, nodes: &[Node]) -> bool
     nodes.iter().all(|node| has_ends(ends, node))
 }
 
-fn guid_at(nodes: &[Node], place: usize) -> u64
+pub(crate) fn guid_at(nodes: &[Node], place: usize) -> u64
     ensures { result ≡ guid_at nodes.now place }
 {
     match nodes.get(place) {
@@ -69,7 +71,7 @@ fn guid_at(nodes: &[Node], place: usize) -> u64
     }
 }
 
-fn is_switch_at(nodes: &[Node], place: usize) -> bool
+pub(crate) fn is_switch_at(nodes: &[Node], place: usize) -> bool
     ensures { result ≡ is_switch_at nodes.now place }
 {
     match nodes.get(place) {
@@ -79,7 +81,7 @@ fn is_switch_at(nodes: &[Node], place: usize) -> bool
 }
 
 /// The GUID of a port of the adapter there, which may be past 64 bits.
-fn port_guid_at(nodes: &[Node], port: PortRef) -> u128
+pub(crate) fn port_guid_at(nodes: &[Node], port: PortRef) -> u128
     ensures { result ≡ port_guid_at nodes.now port }
 {
     match nodes.get(port.node) {
@@ -101,105 +103,83 @@ fn is_end_port(nodes: &[Node], port: PortRef, guid: u64) -> bool
     !is_switch_at(nodes, port.node) && port_guid_at(nodes, port) == u128::from(guid)
 }
 
-/// Whether it is the port of this number at the switch of this GUID.
-fn is_switch_port(nodes: &[Node], port: PortRef, guid: u64, number: u8) -> bool
-    ensures { result ≡ is_switch_port nodes.now port guid number }
-{
-    is_switch_at(nodes, port.node) && (guid_at(nodes, port.node) == guid && port.port == number)
-}
-
-/// Whether it is the port that a line reports.
-fn is_port_of(discovery: &Discovery, nodes: &[Node], line: &PortLine, port: PortRef) -> bool
-    ensures { result ≡ is_port_of discovery.now nodes.now line.now port }
-{
-    match line.guid {
-        Some(guid) => is_end_port(nodes, port, guid),
-        None => {
-            let guid = switch_guid_at(discovery.nodes(), line.port.node);
-            is_switch_port(nodes, port, guid, line.port.port)
-        }
-    }
-}
-
-fn is_between(
-    discovery: &Discovery,
-    nodes: &[Node],
-    cable: &Cable,
-    line: &PortLine,
-    other: &PortLine,
-) -> bool
-    ensures { result ≡ is_between discovery.now nodes.now cable.now line.now other.now }
-{
-    (is_port_of(discovery, nodes, line, cable.first)
-        && is_port_of(discovery, nodes, other, cable.second))
-        || (is_port_of(discovery, nodes, line, cable.second)
-            && is_port_of(discovery, nodes, other, cable.first))
-}
-
-/// Whether the cable joins the port of a line to that to which the line leads.
-fn is_cable_of(discovery: &Discovery, nodes: &[Node], line: &PortLine, cable: &Cable) -> bool
-    ensures { result ≡ is_cable_of discovery.now nodes.now line.now cable.now }
+/// Whether the port of a line, and that to which it leads, are joined.
+fn joins_line(discovery: &Discovery, pairs: &PortPairs, line: &PortLine) -> bool
+    ensures { result ≡ joins_line discovery.now pairs.now line.now }
 {
     match discovery.far_line(&line.far) {
-        Some(other) => is_between(discovery, nodes, cable, line, other),
+        Some(other) => pairs.joins(
+            PortKey::of_line(discovery, line),
+            PortKey::of_line(discovery, other),
+        ),
         None => false,
     }
 }
 
-fn has_cable(discovery: &Discovery, plan: &Topology, line: &PortLine) -> bool
-    ensures { result ≡ has_cable discovery.now plan.now line.now }
-{
-    let nodes = plan.nodes();
-    plan.cables()
-        .iter()
-        .any(|cable| is_cable_of(discovery, nodes, line, cable))
-}
-
-fn all_have_cables(discovery: &Discovery, plan: &Topology) -> bool
-    ensures { result ≡ list_all (has_cable discovery.now plan.now) (counted discovery.now) }
+fn joins_lines(discovery: &Discovery, pairs: &PortPairs) -> bool
+    ensures { result ≡ list_all (joins_line discovery.now pairs.now) (counted discovery.now) }
 {
     let nodes = discovery.nodes();
     discovery
         .ports()
         .iter()
         .filter(|line| counts(nodes, *line))
-        .all(|line| has_cable(discovery, plan, line))
+        .all(|line| joins_line(discovery, pairs, line))
 }
 
-fn is_reported(discovery: &Discovery, plan: &Topology, cable: &Cable) -> bool
-    ensures { result ≡ is_reported discovery.now plan.now cable.now }
+/// Whether the ends of a cable are joined.
+fn joins_cable(nodes: &[Node], pairs: &PortPairs, cable: &Cable) -> bool
+    ensures { result ≡ joins_cable nodes.now pairs.now cable.now }
 {
-    let found = discovery.nodes();
+    pairs.joins(
+        PortKey::of_port(nodes, cable.first),
+        PortKey::of_port(nodes, cable.second),
+    )
+}
+
+fn joins_cables(plan: &LargeTopology, pairs: &PortPairs) -> bool
+    ensures { result ≡ list_all (joins_cable plan.now.nodes pairs.now) plan.now.cables }
+{
     let nodes = plan.nodes();
-    discovery
-        .ports()
-        .iter()
-        .filter(|line| counts(found, *line))
-        .any(|line| is_cable_of(discovery, nodes, line, cable))
-}
-
-fn all_are_reported(discovery: &Discovery, plan: &Topology) -> bool
-    ensures { result ≡ list_all (is_reported discovery.now plan.now) plan.now.cables }
-{
     plan.cables()
         .iter()
-        .all(|cable| is_reported(discovery, plan, cable))
+        .all(|cable| joins_cable(nodes, pairs, cable))
+}
+
+/// Whether each line that counts has its cable, and each cable is that of such a line.
+#[tactic(auto, using(crate::proofs::PairLemmas::lines_have, crate::proofs::PairLemmas::cables_are))]
+fn joins_alike(
+    alloc: Global,
+    discovery: &Discovery,
+    plan: &LargeTopology,
+) -> Result<bool, AllocError>
+    ensures { IfOk result (λ answer. answer
+        ≡ (list_all (has_cable discovery.now plan.now) (counted discovery.now) && list_all (is_reported discovery.now plan.now) plan.now.cables)) }
+{
+    let cables = PortPairs::of_cables(alloc, plan)?;
+    let lines = PortPairs::of_lines(alloc, discovery)?;
+    Ok(joins_lines(discovery, &cables) && joins_cables(plan, &lines))
 }
 
 /// Whether the topology has the planned nodes, adapters with the end ports of the discovery alone, the cables of the lines that
 /// count and no others, the subnet manager on the end port of this GUID, and no roots.
 pub(crate) fn agrees(
+    alloc: Global,
     discovery: &Discovery,
     ends: &EndList,
     planned: &[Planned],
     manager: u64,
-    plan: &Topology,
-) -> bool
-    ensures { result ≡ agrees discovery.now ends.now planned.now manager plan.now }
+    plan: &LargeTopology,
+) -> Result<bool, AllocError>
+    ensures { IfOk result (λ answer. answer ≡ agrees discovery.now ends.now planned.now manager plan.now) }
 {
-    are_as_planned(planned, plan.nodes())
-        && (all_have_ends(ends, plan.nodes())
-            && (all_have_cables(discovery, plan)
-                && (all_are_reported(discovery, plan)
-                    && (is_end_port(plan.nodes(), plan.sm(), manager) && plan.roots().is_empty()))))
+    let nodes = plan.nodes();
+    let joined = joins_alike(alloc, discovery, plan)?;
+    Ok(
+        are_as_planned(planned, nodes)
+            && all_have_ends(ends, nodes)
+            && joined
+            && is_end_port(nodes, plan.sm(), manager)
+            && plan.roots().is_empty(),
+    )
 }

@@ -4,7 +4,8 @@ ghost use Rattle.std.specs.Prelude.{◌≡◌, IfOk};
 ghost use Rattle.step_results.specs.AtLine.{on_line};
 ghost use Rattle.step_results.specs.TextGives.{TextGives};
 ghost use Rattle.step_results.specs.Steps.{unless};
-ghost use Rattle.topo_file.specs.Topology.{topology_of};
+ghost use Rattle.fabric_parts.specs.declared.limits.Limits.TheVariants.{Large};
+ghost use Rattle.topo_file.specs.Topology.{topology_within};
 ghost use Rattle.topology_import.specs.Ends.{ends as ends_of, firsts as firsts_of};
 ghost use Rattle.topology_import.specs.Import.{asked_for, if_end_port, import_of, judged, text_read};
 ghost use Rattle.topology_import.specs.Laws.{IsGiven};
@@ -18,6 +19,7 @@ use crate::names::named;
 use crate::nodes::{adapter_guid, first_taken, nodes_meant};
 use crate::planned::PlannedList;
 use crate::text::{source_of, text_with};
+use fabric_parts::Limits;
 use netdiscover_file::{Discovery, PortLine};
 use std::alloc::Global;
 use topo_file::TopoFault;
@@ -71,22 +73,34 @@ fn if_free(discovery: &Discovery, firsts: &[PortLine], manager: u64) -> Result<u
     }
 }
 
-/// A text, if the topology that is read of it is that of the discovery.
-fn read_back(
-    alloc: Global,
-    discovery: &Discovery,
-    ends: &EndList,
-    nodes: &PlannedList,
-    cables: &[CableMeant],
+/// What the text of a discovery is to say.
+#[derive(Clone, Copy)]
+struct Wanted<'a> {
+    discovery: &'a Discovery,
+    ends: &'a EndList,
+    nodes: &'a PlannedList,
+    cables: &'a [CableMeant],
+    /// The GUID of the subnet manager's port.
     manager: u64,
-    text: Vec<u8>,
-) -> Result<Vec<u8>, ImportFault>
+}
+
+/// A text, if the topology that is read of it is that of the discovery.
+fn read_back(alloc: Global, wanted: &Wanted<'_>, text: Vec<u8>) -> Result<Vec<u8>, ImportFault>
     ensures { TextGives (λ text. text.items) result
-        (judged discovery.now ends.now nodes.now cables.now manager text.items (topology_of text.items)) }
+        (judged wanted.now.discovery.now wanted.now.ends.now wanted.now.nodes.now wanted.now.cables.now wanted.now.manager text.items
+        (topology_within Large text.items)) }
 {
-    match topo_file::read(alloc, text.as_slice()) {
+    let nodes = wanted.nodes.as_slice();
+    match topo_file::read_within(alloc, text.as_slice(), Limits::Large) {
         Ok(plan) => {
-            if !agrees(discovery, ends, nodes.as_slice(), manager, &plan) {
+            if !agrees(
+                alloc,
+                wanted.discovery,
+                wanted.ends,
+                nodes,
+                wanted.manager,
+                &plan,
+            )? {
                 return Err(ImportFault::At {
                     line: 0,
                     cause: ImportCause::Unlike,
@@ -96,7 +110,7 @@ fn read_back(
         }
         Err(TopoFault::NoMemory) => Err(ImportFault::NoMemory),
         Err(TopoFault::At { line, cause }) => Err(ImportFault::At {
-            line: source_of(nodes.as_slice(), cables, line),
+            line: source_of(nodes, wanted.cables, line),
             cause: ImportCause::Refused(cause),
         }),
     }
@@ -117,7 +131,14 @@ fn text_read(
     let nodes = named(alloc, discovery.nodes(), &meant)?;
     let cables = cables_meant(alloc, discovery, ends)?;
     let text = text_with(alloc, discovery, ends, &nodes, &cables, manager)?;
-    read_back(alloc, discovery, ends, &nodes, &cables, manager, text)
+    let wanted = Wanted {
+        discovery,
+        ends,
+        nodes: &nodes,
+        cables: &cables,
+        manager,
+    };
+    read_back(alloc, &wanted, text)
 }
 
 /// The topology text of a discovery, with the subnet manager on the port of that GUID or, where none is given, on the one at

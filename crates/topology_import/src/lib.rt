@@ -17,6 +17,7 @@ mod laws;
 mod names;
 mod nodes;
 mod planned;
+mod port_pairs;
 mod text;
 
 pub use crate::fault::{ImportCause, ImportFault};

@@ -3,4 +3,4 @@ use Rattle.dump_file.proofs.SoundLemmas.{nothing_sound}
 use Rattle.dump_file.proofs.draft.Draft.new.Goals as goal
 
 pub invariant_of-result : goal.invariant_of-result
-invariant_of-result c = rw (c.new.ensures, c.new-2.ensures.items) (nothing_sound, λ lid. rw c.new-3.ensures.empty refl)
+invariant_of-result c = rw (c.new.ensures, c.new-2.ensures.items) (nothing_sound, λ lid. rw c.new-3.ensures refl)

@@ -1,6 +1,7 @@
-use Rattle.std.proofs.Common.{◌≡◌, map, take}
-use Rattle.route_audit.specs.Channels.{nexts}
+use Rattle.std.proofs.Common.{◌≡◌, flat_map, map, take}
+use Rattle.topo_file.specs.Connectivity.{switches}
+use Rattle.route_audit.specs.Channels.{channels_of, nexts}
 use Rattle.route_audit.proofs.net.Net.dependencies.Given as goal
 
-abbrev pub invariant-loop-channel : goal.invariant-loop-channel
-invariant-loop-channel l = l.graph.items ≡ map (nexts l.self l.lids) (take l.channel-index l.all)
+abbrev pub invariant-loop-place : goal.invariant-loop-place
+invariant-loop-place l = l.graph.items ≡ flat_map (λ place. map (nexts l.self l.lids) (channels_of l.self place)) (take l.place-index (switches l.self.plan.nodes))

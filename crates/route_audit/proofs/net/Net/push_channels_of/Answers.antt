@@ -3,7 +3,7 @@ use Rattle.std.specs.List.{range_with_len}
 use Rattle.fabric_parts.specs.declared.cable.PortRef.{PortRef}
 use Rattle.topo_file.specs.declared.node.Node.{Node}
 use Rattle.topo_file.specs.Node.{ports_at}
-use Rattle.route_audit.specs.Exits.{channel_behind}
+use Rattle.route_audit.specs.Waits.{channel_behind}
 use Rattle.route_audit.proofs.ChannelLemmas.{all_behind, flat_onto}
 use Rattle.route_audit.proofs.net.Net.push_channels_of.Goals as goal
 

@@ -1,6 +1,6 @@
 use Rattle.std.proofs.Common.{◌≡◌, ◌++◌, flat_map}
 use Rattle.std.specs.List.{range_with_len}
-use Rattle.route_audit.specs.Exits.{channel_behind}
+use Rattle.route_audit.specs.Waits.{channel_behind}
 use Rattle.route_audit.proofs.net.Net.push_channels_of.Given as goal
 
 abbrev pub invariant-loop-number : goal.invariant-loop-number

@@ -14,6 +14,9 @@ invariant_of-self-2 c =
     ap (λ draft. ends_at_ports draft.nodes cable) c.self.view_is ∙ c.in_ok-cable.ensures.ends in
     let made : cable_of inside.nodes inside.cables words ≡ Ok cable =
     ap (λ draft. cable_of draft.nodes draft.cables words) c.self.view_is ∙ sym c.in_ok-cable.ensures.value in
-    rw c.in_ok-push.ensures.ok
-    (sound_with (record { nodes = inside.nodes; cables = inside.cables; roots = inside.roots.items; manager = inside.manager }) cable c.self.invariant ends
-    (new_cable_is inside.nodes inside.cables words cable made))
+    rw c.in_ok-push.ensures.ok (
+      (sound_with (record { limits = inside.limits; nodes = inside.nodes; cables = inside.cables; roots = inside.roots.items; manager = inside.manager }) cable c.self.invariant.0 ends
+          (new_cable_is inside.nodes inside.cables words cable made)),
+      c.self.invariant.1,
+      c.self.invariant.2,
+    )

@@ -12,5 +12,8 @@ invariant_of-self-2 c =
     ap (λ draft. is_switch_at draft.nodes root) c.self.view_is ∙ c.in_ok-root.ensures.switch in
     let own : is_root inside.roots.items root ≡ false =
     ap (λ draft. is_root draft.roots root) c.self.view_is ∙ c.in_ok-root.ensures.own in
-    rw c.in_ok-push.ensures.items
-    (sound_rooted (record { nodes = inside.nodes; cables = inside.cables; roots = inside.roots.items; manager = inside.manager }) root c.self.invariant switch own)
+    rw c.in_ok-push.ensures.items (
+      (sound_rooted (record { limits = inside.limits; nodes = inside.nodes; cables = inside.cables; roots = inside.roots.items; manager = inside.manager }) root c.self.invariant.0 switch own),
+      c.self.invariant.1,
+      c.self.invariant.2,
+    )

@@ -1,0 +1,10 @@
+pub mod Registrations
+pub mod JoinStates
+pub mod Entered
+pub mod Left
+pub mod WrongRules
+pub mod Named
+pub mod Reasons
+pub mod GroupReasons
+pub mod RecordReasons
+pub mod Refused

@@ -1,0 +1,6 @@
+use Rattle.std.proofs.Common.{refl}
+use Rattle.topo_file.proofs.SoundLemmas.{nothing_sound}
+use Rattle.topo_file.proofs.draft.Draft.new.Goals as goal
+
+pub invariant_of-result : goal.invariant_of-result
+invariant_of-result c = rw (c.new.ensures, c.new-2.ensures, c.new-3.ensures.items) (nothing_sound c.args.limits, refl, refl)
