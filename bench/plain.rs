@@ -665,11 +665,14 @@ fn follow(topology: &Topology, tables: &[Vec<u8>], lid: usize, end: (usize, usiz
     known
 }
 
+/// A port number has one byte.
+const PORTS: usize = 256;
+
 /// Whether channels wait for one another in a circle, along these LIDs.
 fn has_circle(topology: &Topology, tables: &[Vec<u8>], lids: &[usize]) -> bool {
     let far = &topology.far;
-    let number_of = |node: usize, port: usize| node * 37 + port;
-    let mut waits: Vec<Vec<usize>> = vec![Vec::new(); topology.nodes.len() * 37];
+    let number_of = |node: usize, port: usize| node * PORTS + port;
+    let mut waits: Vec<Vec<usize>> = vec![Vec::new(); topology.nodes.len() * PORTS];
     let mut waiting = vec![0usize; waits.len()];
     let mut channels = 0;
     for (node, it) in topology.nodes.iter().enumerate().filter(|(_, it)| it.is_switch) {
@@ -692,9 +695,9 @@ fn has_circle(topology: &Topology, tables: &[Vec<u8>], lids: &[usize]) -> bool {
     }
     // take away what nothing waits for, until nothing is left or a circle is
     let is_channel = |k: &usize| {
-        topology.nodes[k / 37].is_switch
-            && far[k / 37]
-                .get(k % 37)
+        topology.nodes[k / PORTS].is_switch
+            && far[k / PORTS]
+                .get(k % PORTS)
                 .copied()
                 .flatten()
                 .is_some_and(|end| topology.nodes[end.0].is_switch)
