@@ -82,6 +82,36 @@ fn a_run_that_asks_is_reported_or_memory_is_refused(rt: HostRuntime) -> Result<(
     Ok(())
 }
 
+/// Near h3 are the SM port, a full member of the default partition, h1, a full member of P1, and h3 itself. h2 is a limited
+/// member of both, as h3 is.
+const NEAR_H3: [u64; 3] = [0x101, 0x111, 0x131];
+
+/// The ports near h3, unless an allocation failed.
+fn near_h3(rt: &impl Abort, alloc: Global) -> Option<Vec<u64>> {
+    match bring_up(alloc, TWO_SWITCHES.as_bytes(), Some(PARTITIONS.as_bytes())) {
+        Ok(subnet) => subnet.near(0x131).ok(),
+        Err(fault) => {
+            assert_eq!(rt; fault, RunFault::NoMemory);
+            None
+        }
+    }
+}
+
+/// Of two lists at most one is refused memory.
+#[test]
+fn near_ports_are_listed_or_memory_is_refused(rt: HostRuntime) -> Result<(), Fail> {
+    let first = near_h3(&rt, rt.alloc());
+    let second = near_h3(&rt, rt.alloc());
+    assert!(rt; first.is_some() || second.is_some());
+    if let Some(guids) = first {
+        assert_eq!(rt; guids.as_slice(), NEAR_H3.as_slice());
+    }
+    if let Some(guids) = second {
+        assert_eq!(rt; guids.as_slice(), NEAR_H3.as_slice());
+    }
+    Ok(())
+}
+
 fn is_carried_out(rt: &impl Abort, subnet: &mut Subnet, command: &Command) {
     match subnet.step(command) {
         Ok(events) => assert_eq!(rt; events.len(), 1),
