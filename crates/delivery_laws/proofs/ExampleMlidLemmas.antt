@@ -31,7 +31,7 @@ abbrev pub has_first_alone : Node → Bool
 has_first_alone (Switch held) = list_all is_first_alone held.masks
 has_first_alone (Adapter ports) = true
 
-no_bit : (rest : List ℕ) (k bit : ℕ) (found : Option ℕ) → slice_get rest k ≡ found → list_all (λ mask. mask == 0) rest ≡ true
+pub no_bit : (rest : List ℕ) (k bit : ℕ) (found : Option ℕ) → slice_get rest k ≡ found → list_all (λ mask. mask == 0) rest ≡ true
     → option_map_or (λ mask. bit_at mask bit == 1) found false ≡ false
 no_bit rest k bit None is all = refl
 no_bit rest k bit (Some mask) is all =

@@ -7,3 +7,4 @@ pub mod ByMlidLemmas
 pub mod ExampleFreeLemmas
 pub mod ExampleLemmas
 pub mod ExampleMlidLemmas
+pub mod IdleLemmas

@@ -60,13 +60,13 @@ abbrev pub cable : (a b c d : ℕ) → Cable
 cable a b c d = record { first = record { node = a; port = b }; second = record { node = c; port = d } }
 
 -- switches A and B at places 0 and 1, joined by their ports 3, and then h0 and h1 on A, h2 and h3 on B, and h4 without a
--- cable. The LIDs are 1 of h0, where the subnet manager runs, 2 of A, 3 of B, and 4, 5 and 6 of h1, h2 and h3. The first
--- multicast LID is that of a group of which h0, h1 and h2 are members
-abbrev pub two_switches : FabricState
-two_switches = record {
+-- cable. The LIDs are 1 of h0, where the subnet manager runs, 2 of A, 3 of B, and 4, 5 and 6 of h1, h2 and h3. A and B have
+-- these bits for the first multicast LID
+abbrev pub two_switches_with : (bits_of_a bits_of_b : ℕ) → FabricState
+two_switches_with bits_of_a bits_of_b = record {
   nodes =
-      switch_with 0x10 (255 ∷ 1 ∷ 0 ∷ 3 ∷ 2 ∷ 3 ∷ 3 ∷ []) 0b1110
-      ∷ switch_with 0x20 (255 ∷ 3 ∷ 3 ∷ 0 ∷ 3 ∷ 1 ∷ 2 ∷ []) 0b1010
+      switch_with 0x10 (255 ∷ 1 ∷ 0 ∷ 3 ∷ 2 ∷ 3 ∷ 3 ∷ []) bits_of_a
+      ∷ switch_with 0x20 (255 ∷ 3 ∷ 3 ∷ 0 ∷ 3 ∷ 1 ∷ 2 ∷ []) bits_of_b
       ∷ adapter_with 0x100 1 Cabled
       ∷ adapter_with 0x110 4 Cabled
       ∷ adapter_with 0x120 5 Cabled
@@ -79,5 +79,12 @@ two_switches = record {
 }
 
 -- what is sent to the first multicast LID the members of its group receive, by their GUIDs
+abbrev pub received_by : List ℕ → ℕ → ℕ → Bool
+received_by members mlid guid = (mlid == FIRST_MULTICAST_LID) && list_any (λ member. guid == member) members
+
+-- of which h0, h1 and h2 are members
+abbrev pub two_switches : FabricState
+two_switches = two_switches_with 0b1110 0b1010
+
 abbrev pub receives : ℕ → ℕ → Bool
-receives mlid guid = (mlid == FIRST_MULTICAST_LID) && list_any (λ member. guid == member) (0x101 ∷ 0x111 ∷ 0x121 ∷ [])
+receives = received_by (0x101 ∷ 0x111 ∷ 0x121 ∷ [])

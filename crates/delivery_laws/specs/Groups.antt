@@ -50,3 +50,19 @@ pub record ForwardsByMlid (fabric : FabricState) (receives : ℕ → ℕ → Boo
   -- and never back to the port that sends
   pub away : (mlid : ℕ) (from : PortRef) (sender : AdapterState) (begin : IsCabledPort fabric from sender) (way : List PortRef)
       → GoesByMasks fabric.nodes fabric.cables mlid begin.far way from → ⊥
+
+-- ---- and no bit in vain: over the cable of its port, and from there by the bits of that MLID, a port is reached that receives
+-- what is sent there
+pub record LeadsToReceiver (fabric : FabricState) (receives : ℕ → ℕ → Bool) (mlid : ℕ) (here : PortRef) : Type 0 where
+  pub next : PortRef
+  pub cable : far_end fabric.cables here ≡ Some next
+  pub at : PortRef
+  pub way : List PortRef
+  pub goes : GoesByMasks fabric.nodes fabric.cables mlid next way at
+  pub port : AdapterState
+  pub cabled : IsCabledPort fabric at port
+  pub member : receives mlid port.port_guid ≡ true
+
+abbrev pub HasNoIdleBits : FabricState → (receives : ℕ → ℕ → Bool) → Type 0
+HasNoIdleBits fabric receives =
+    (mlid : ℕ) (here : PortRef) → is_in_masks_at fabric.nodes mlid here ≡ true → LeadsToReceiver fabric receives mlid here

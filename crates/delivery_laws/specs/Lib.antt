@@ -4,3 +4,4 @@ pub mod Forwards
 pub mod Groups
 pub mod Laws
 pub mod Examples
+pub mod WrongRules

@@ -5,6 +5,7 @@ ghost use Rattle.delivery_laws.specs.Forwards.{ForwardsByLid};
 ghost use Rattle.delivery_laws.specs.Groups.{ForwardsByMlid};
 ghost use Rattle.delivery_laws.specs.Laws.{DeliveriesAreOneList, UnicastGoesOneWay, UnicastReachesOnePort};
 ghost use Rattle.delivery_laws.specs.Laws.{OtherLidsReachNobody, PacketsGoByLid, PacketsGoByMlid};
+ghost use Rattle.delivery_laws.specs.WrongRules.{BitsTowardsNobodyAreIdle};
 
 /// A unicast packet goes on from a port to one port at most, and so reaches at most one port of a channel adapter.
 pub fn unicast_goes_one_way()
@@ -40,4 +41,10 @@ pub fn the_two_switch_fabric_forwards_by_lid()
 /// It forwards by multicast LID too, to a group of three ports, of which one is on the second switch.
 pub fn the_two_switch_fabric_forwards_by_mlid()
     ensures { ForwardsByMlid two_switches receives }
+{}
+
+/// A switch that sends what is for a group to a switch beyond which nobody receives has an idle bit (`HasNoIdleBits`), though
+/// packets reach the same ports.
+pub fn bits_towards_nobody_are_idle()
+    ensures { BitsTowardsNobodyAreIdle }
 {}

@@ -4,7 +4,7 @@
 //! tables: those to which some walk leads by what switches hold, and that accept its key. `specs/Forwards.antt`
 //! says what tables have to hold, so that a packet goes by its LID; that it does then is [`packets_go_by_lid`].
 //! `specs/Groups.antt` says what masks have to hold, so that a packet to a multicast LID goes to its receivers; that
-//! it does then is [`packets_go_by_mlid`]. Forwarding by tables and masks, and enforcement, are those of the IBA volume 1,
+//! it does then is [`packets_go_by_mlid`], and when no bit of theirs is set in vain. Forwarding by tables and masks, and enforcement, are those of the IBA volume 1,
 //! chapter 14.
 #![tactic(auto)]
 
@@ -12,7 +12,7 @@ mod laws;
 mod numbers;
 
 pub use crate::laws::{
-    deliveries_are_one_list, packets_go_by_lid, packets_go_by_mlid,
+    bits_towards_nobody_are_idle, deliveries_are_one_list, packets_go_by_lid, packets_go_by_mlid,
     the_two_switch_fabric_forwards_by_lid, the_two_switch_fabric_forwards_by_mlid,
     unicast_goes_one_way,
 };

@@ -59,9 +59,9 @@ new_row so_far heading row =
     else (if is_said_otherwise (rows_so_far so_far) row then Err TwoEndPorts
     else Ok row)
 
-unfoldable pub row_reported : ℕ → DraftState → Heading → List ℕ → Result Row DumpCause
-row_reported number so_far heading text = do
-  row ← row_in number text
+unfoldable pub row_reported : DraftState → Heading → List ℕ → Result Row DumpCause
+row_reported so_far heading text = do
+  row ← row_in text
   new_row so_far heading row
 
 abbrev pub with_rows : DraftState → List Row → DraftState
@@ -118,9 +118,9 @@ after_between number so_far text =
     else (if starts_with nat_eq text (codes "*** WARNING ***") then Ok so_far
     else Err Malformed))
 
-abbrev pub after_rows : ℕ → DraftState → Heading → List ℕ → Result DraftState DumpCause
-after_rows number so_far heading text =
-    if starts_with nat_eq text (codes "0x") then with_row so_far (row_reported number so_far heading text)
+abbrev pub after_rows : DraftState → Heading → List ℕ → Result DraftState DumpCause
+after_rows so_far heading text =
+    if starts_with nat_eq text (codes "0x") then with_row so_far (row_reported so_far heading text)
     else with_table so_far heading (count_reported so_far.rows text)
 
 abbrev pub after_multicast : DraftState → List ℕ → Result DraftState DumpCause
@@ -132,7 +132,7 @@ abbrev pub after_text : Stage → ℕ → DraftState → List ℕ → Result Dra
 after_text Between number so_far text = after_between number so_far text
 after_text (FirstTitle heading) number so_far text = if_title (bytes_eq text (codes "  Lid  Out   Destination")) so_far (SecondTitle heading)
 after_text (SecondTitle heading) number so_far text = if_title (bytes_eq text (codes "       Port     Info")) so_far (Rows heading)
-after_text (Rows heading) number so_far text = after_rows number so_far heading text
+after_text (Rows heading) number so_far text = after_rows so_far heading text
 after_text Multicast number so_far text = after_multicast so_far text
 
 -- a line with nothing on it, or one that begins with `#`, is passed over

@@ -26,26 +26,26 @@ pub record HeadingsAreRead : Type 0 where
   pub by_opensm : heading_in 1 (codes "Unicast lids [0-6] of switch Lid 2 guid 0x0000000000000010 ('R1'):") ≡ Err Malformed
 
 abbrev one_row : Row
-one_row = record { line = 4; lid = 3; port = 3; destination = ChannelAdapter 0x111 }
+one_row = record { lid = 3; port = 3; destination = ChannelAdapter 0x111 }
 
 -- an entry of 255, of which nothing is reported, and one of 254, whose end port has the greatest GUID
 abbrev closed_row : Row
-closed_row = record { line = 5; lid = 4; port = 255; destination = NotReported }
+closed_row = record { lid = 4; port = 255; destination = NotReported }
 
 abbrev last_port_row : Row
-last_port_row = record { line = 6; lid = 5; port = 254; destination = Router 0xffffffffffffffff }
+last_port_row = record { lid = 5; port = 254; destination = Router 0xffffffffffffffff }
 
 -- a row, and whether it may stand behind another; the last line
 pub record RowsAreRead : Type 0 where
-  pub adapter : row_in 4 (codes "0x0003 003 : (Channel Adapter portguid 0x0000000000000111: 'it's (old): 'h1'')") ≡ Ok one_row
-  pub switch : row_in 5 (codes "0x0004 000 : (Switch portguid 0x0000000000000020: 'R2')") ≡ Ok (record { line = 5; lid = 4; port = 0; destination = Switch 0x20 })
-  pub router : row_in 6 (codes "0x0005 007 : (Router portguid 0x7cfe9003009f0a11: 'gateway 1')") ≡ Ok (record { line = 6; lid = 5; port = 7; destination = Router 0x7cfe9003009f0a11 })
-  pub further : row_in 5 (codes "0x0004 003 : (path #2 out of 2: portguid 0x0000000000000111)") ≡ Ok (record { line = 5; lid = 4; port = 3; destination = FurtherLid 0x111 })
-  pub nobody : row_in 5 (codes "0x0015 002 : (node info not available fabric scan)") ≡ Ok (record { line = 5; lid = 21; port = 2; destination = Nobody })
-  pub illegal : row_in 5 (codes "0x0001 255 : (illegal port)") ≡ Ok (record { line = 5; lid = 1; port = 255; destination = NotReported })
-  pub illegal_path : row_in 4 (codes "0x0000 255 : (path #0 - illegal port)") ≡ Ok (record { line = 4; lid = 0; port = 255; destination = NotReported })
-  pub last_port : row_in 6 (codes "0x0005 254 : (Router portguid 0xffffffffffffffff: '')") ≡ Ok last_port_row
-  pub without_end : row_in 4 (codes "0x0003 003") ≡ Err EndNotReported
+  pub adapter : row_in (codes "0x0003 003 : (Channel Adapter portguid 0x0000000000000111: 'it's (old): 'h1'')") ≡ Ok one_row
+  pub switch : row_in (codes "0x0004 000 : (Switch portguid 0x0000000000000020: 'R2')") ≡ Ok (record { lid = 4; port = 0; destination = Switch 0x20 })
+  pub router : row_in (codes "0x0005 007 : (Router portguid 0x7cfe9003009f0a11: 'gateway 1')") ≡ Ok (record { lid = 5; port = 7; destination = Router 0x7cfe9003009f0a11 })
+  pub further : row_in (codes "0x0004 003 : (path #2 out of 2: portguid 0x0000000000000111)") ≡ Ok (record { lid = 4; port = 3; destination = FurtherLid 0x111 })
+  pub nobody : row_in (codes "0x0015 002 : (node info not available fabric scan)") ≡ Ok (record { lid = 21; port = 2; destination = Nobody })
+  pub illegal : row_in (codes "0x0001 255 : (illegal port)") ≡ Ok (record { lid = 1; port = 255; destination = NotReported })
+  pub illegal_path : row_in (codes "0x0000 255 : (path #0 - illegal port)") ≡ Ok (record { lid = 0; port = 255; destination = NotReported })
+  pub last_port : row_in (codes "0x0005 254 : (Router portguid 0xffffffffffffffff: '')") ≡ Ok last_port_row
+  pub without_end : row_in (codes "0x0003 003") ≡ Err EndNotReported
   pub top_follows : may_follow 4 (one_row ∷ []) 4 ≡ true
   pub same_does_not : may_follow 4 (one_row ∷ []) 3 ≡ false
   pub past_the_top_does_not : may_follow 4 (one_row ∷ []) 5 ≡ false
@@ -76,7 +76,7 @@ two_tables =
     ++ codes "*** WARNING ***: AM_KEY not set\n"
 
 abbrev first_table : Table
-first_table = record { line = 3; guid = 0x10; top = 5; rows = record one_row { line = 6 } ∷ record closed_row { line = 8 } ∷ [] }
+first_table = record { line = 3; guid = 0x10; top = 5; rows = one_row ∷ closed_row ∷ [] }
 
 pub record TextsAreRead : Type 0 where
   pub whole : dump_of two_tables ≡ Ok (record { tables = first_table ∷ record { line = 16; guid = 0x20; top = 0; rows = [] } ∷ [] })

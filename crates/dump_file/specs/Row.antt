@@ -15,14 +15,14 @@ abbrev pub cut_behind_port : List ℕ → Option (List ℕ × List ℕ) → Resu
 cut_behind_port text (Some parts) = Ok parts
 cut_behind_port text None = port_in text >>= λ port. Err EndNotReported
 
-unfoldable pub row_in : ℕ → List ℕ → Result Row DumpCause
-row_in line text = do
+unfoldable pub row_in : List ℕ → Result Row DumpCause
+row_in text = do
   first ← cut 32 text
   lid ← lid_in first.0
   second ← cut_behind_port first.1 (cut_at (λ byte. byte == 32) first.1)
   port ← port_in second.0
   destination ← destination_in second.1
-  Ok (record { line = line; lid = lid; port = port; destination = destination })
+  Ok (record { lid = lid; port = port; destination = destination })
 
 -- ---- the row's entry is a port; 255 leads nowhere, on purpose
 abbrev pub is_valid : Row → Bool

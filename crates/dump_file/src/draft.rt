@@ -101,17 +101,12 @@ impl Draft {
 
     /// The row that a line reports, of the table that is open.
     #[tactic(auto, unfolding(crate::specs::Dump::row_reported))]
-    pub(crate) fn row_reported(
-        &self,
-        number: usize,
-        heading: Heading,
-        text: &[u8],
-    ) -> Result<Row, DumpCause>
-        ensures value { result ≡ row_reported number self.now heading text.now }
+    pub(crate) fn row_reported(&self, heading: Heading, text: &[u8]) -> Result<Row, DumpCause>
+        ensures value { result ≡ row_reported self.now heading text.now }
         ensures rising { IfOk result (λ reported. may_follow heading.top self.now.rows reported.lid ≡ true) }
         ensures one_end { IfOk result (λ reported. is_said_otherwise (rows_so_far self.now) reported ≡ false) }
     {
-        let row = row_in(number, text)?;
+        let row = row_in(text)?;
         self.new_row(heading, row)
     }
 

@@ -28,16 +28,11 @@ impl Draft {
         Ok(())
     }
 
-    fn take_row(
-        &mut self,
-        number: usize,
-        heading: Heading,
-        text: &[u8],
-    ) -> Result<(), LineError<DumpCause>>
+    fn take_row(&mut self, heading: Heading, text: &[u8]) -> Result<(), LineError<DumpCause>>
         requires open { heading_of self.old.stage ≡ Some heading }
-        ensures { LineGives (λ _. self.new) result (with_row self.old (row_reported number self.old heading text.now)) }
+        ensures { LineGives (λ _. self.new) result (with_row self.old (row_reported self.old heading text.now)) }
     {
-        let row = self.row_reported(number, heading, text)?;
+        let row = self.row_reported(heading, text)?;
         self.push(row)?;
         Ok(())
     }
@@ -77,15 +72,14 @@ impl Draft {
     fn take_in_table(
         &mut self,
         alloc: Global,
-        number: usize,
         heading: Heading,
         text: &[u8],
     ) -> Result<(), LineError<DumpCause>>
         requires open { heading_of self.old.stage ≡ Some heading }
-        ensures { LineGives (λ _. self.new) result (after_rows number self.old heading text.now) }
+        ensures { LineGives (λ _. self.new) result (after_rows self.old heading text.now) }
     {
         if text.starts_with(b"0x") {
-            return self.take_row(number, heading, text);
+            return self.take_row(heading, text);
         }
         self.take_count(alloc, heading, text)
     }
@@ -132,7 +126,7 @@ impl Draft {
                 let is_title = text == b"       Port     Info".as_slice();
                 self.take_title(is_title, Stage::Rows(heading))
             }
-            Stage::Rows(heading) => self.take_in_table(alloc, number, heading, text),
+            Stage::Rows(heading) => self.take_in_table(alloc, heading, text),
             Stage::Multicast => self.take_multicast(text),
         }
     }

@@ -15,8 +15,6 @@ use text_words::cut_at;
 /// The entry of a LID, as its row reports it.
 #[derive(Clone, Copy, Debug, PartialEq, Eq)]
 pub struct Row {
-    /// The line.
-    pub line: usize,
     /// The LID.
     pub lid: u16,
     /// The port by which the switch forwards to it, 0 where it takes what is sent to it itself; 255 where it
@@ -70,8 +68,8 @@ fn cut_behind_port(text: &[u8]) -> Result<(&[u8], &[u8]), DumpCause>
 
 /// The row that a line reports.
 #[tactic(auto, unfolding(crate::specs::Row::row_in))]
-pub(crate) fn row_in(line: usize, text: &[u8]) -> Result<Row, DumpCause>
-    ensures { result ≡ row_in line text.now }
+pub(crate) fn row_in(text: &[u8]) -> Result<Row, DumpCause>
+    ensures { result ≡ row_in text.now }
 {
     let (lid, rest) = cut(b' ', text)?;
     let lid = lid_in(lid)?;
@@ -79,7 +77,6 @@ pub(crate) fn row_in(line: usize, text: &[u8]) -> Result<Row, DumpCause>
     let port = port_in(port)?;
     let destination = destination_in(reported)?;
     Ok(Row {
-        line,
         lid,
         port,
         destination,

@@ -1,7 +1,8 @@
 -- What a run prints of one port.
-use Rattle.std.specs.Prelude.{ℕ, ◌≡◌, List, ◌++◌, codes, filter, map, nat_eq, Option, Some, Ok}
+use Rattle.std.specs.Prelude.{ℕ, ◌≡◌, false, List, ◌∷◌, ◌++◌, codes, filter, map, nat_eq, Option, Some, Ok}
 use Rattle.std.specs.List.{starts_with}
 use Rattle.line_parts.specs.Ports.{port_text}
+use Rattle.script_lines.specs.Script.{command_of}
 use Rattle.subnet_core.specs.Fate.{up_from}
 use Rattle.subnet_core.specs.EventLines.{line_text, report_text}
 use Rattle.subnet_core.specs.Inventory.{InventoryState, inventory_of}
@@ -9,7 +10,7 @@ use Rattle.subnet_core.specs.Stream.{commands_before_fault}
 use Rattle.subnet_core.specs.declared.fault.RunFault.{RunFault}
 use Rattle.subnet_model.specs.Delivery.{port_with_guid}
 use Rattle.subnet_model.specs.Near.{is_near}
-use Rattle.subnet_model.specs.Restriction.{commands_of, events_at}
+use Rattle.subnet_model.specs.Restriction.{acts_in, commands_of, events_at}
 use Rattle.subnet_model.specs.declared.command.Command.{Command}
 use Rattle.subnet_model.specs.declared.event.PortEvent.{PortEvent}
 use Rattle.subnet_model.specs.declared.subnet_port.SubnetPort.{SubnetPort}
@@ -39,5 +40,16 @@ PrintedLinesKeepPartitionsApart =
     (first second : List ℕ)
     → inventory_of topology partitions ≡ Ok inventory → port_with_guid inventory.configuration.ports p ≡ Some port
     → near_commands inventory p first ≡ near_commands inventory p second
+    → lines_at port (output_in (run_in (up_from (inventory_of topology partitions) stop) first))
+    ≡ lines_at port (output_in (run_in (up_from (inventory_of topology partitions) stop) second))
+
+-- and a line that a far port sends can be put anywhere into a script: no line of that port changes
+abbrev pub FarLinesChangeNothing : Type 0
+FarLinesChangeNothing =
+    (topology : List ℕ) (partitions : Option (List ℕ)) (stop : Option RunFault) (inventory : InventoryState) (p : ℕ) (port : SubnetPort)
+    (first second : List ℕ) (before after : List (List ℕ)) (line : List ℕ) (command : Command)
+    → inventory_of topology partitions ≡ Ok inventory → port_with_guid inventory.configuration.ports p ≡ Some port
+    → lines first ≡ before ++ after → lines second ≡ before ++ (line ∷ after)
+    → command_of inventory.plan line ≡ Ok (Some command) → acts_in (is_near inventory.configuration.ports p) command ≡ false
     → lines_at port (output_in (run_in (up_from (inventory_of topology partitions) stop) first))
     ≡ lines_at port (output_in (run_in (up_from (inventory_of topology partitions) stop) second))

@@ -6,7 +6,7 @@ ghost use Rattle.data_packet.specs.Refusal.{code_of as refusal_code};
 ghost use Rattle.data_packet.specs.declared.refusal.Refusal.{Refusal as AnyRefusal};
 ghost use Rattle.fabric_cli.specs.Explained.{IsExplained, NamesCode};
 ghost use Rattle.fabric_cli.specs.Laws.{FilesThatAgreeAreJudgedAlike, OneEndingComesOfTexts, RunsEndAsReports};
-ghost use Rattle.fabric_cli.specs.Printed.{APortsLinesAreItsEvents, PrintedLinesKeepPartitionsApart};
+ghost use Rattle.fabric_cli.specs.Printed.{APortsLinesAreItsEvents, FarLinesChangeNothing, PrintedLinesKeepPartitionsApart};
 ghost use Rattle.fabric_cli.specs.declared.faults.Stop.{Stop as AnyStop};
 
 /// Every line that is printed for an error has after `fault` a code that `fabric explain` explains. It also explains every
@@ -37,6 +37,11 @@ pub fn a_ports_lines_are_its_events()
 /// lines of that port, byte for byte: those that begin with its name.
 pub fn printed_lines_keep_partitions_apart()
     ensures { PrintedLinesKeepPartitionsApart }
+{}
+
+/// A line that a port far from another sends can be put anywhere into a script: the run prints the same lines of the other port.
+pub fn far_lines_change_nothing()
+    ensures { FarLinesChangeNothing }
 {}
 
 /// Commands on a subnet, except those that look at its fabric or at the loss of a cable, have one result: unless the status

@@ -41,6 +41,8 @@ pub struct Fabric {
     cabling: Cabling,
     adapter_ports: IndexMap<u64, PortRef>,
     manager: PortRef,
+    // In no definition: what a fabric does depends on it nowhere.
+    exchanges: u64,
 }
 
 // As derived, but by one call: else what owns one is proved to let go of each of its parts, on each way out.
@@ -51,6 +53,7 @@ impl Drop for Fabric {
             cabling: _,
             adapter_ports: _,
             manager: _,
+            exchanges: _,
         } = self;
     }
 }
@@ -96,6 +99,7 @@ impl Fabric {
             cabling,
             adapter_ports,
             manager: topology.sm(),
+            exchanges: 0,
         })
     }
 
@@ -106,6 +110,12 @@ impl Fabric {
     {
         // What a value meets is known once a field is named.
         let _ = &self.manager;
+    }
+
+    /// How many SMPs were sent over it since it was made. Nothing is proved of it: it is there for tests of how many a change
+    /// costs.
+    pub fn exchanges(&self) -> u64 {
+        self.exchanges
     }
 
     /// Its nodes, with what they hold.
@@ -329,6 +339,7 @@ impl SmpWire for Fabric {
     ghost fabric = { λ fabric. Some fabric };
 
     fn exchange(&mut self, smp: &Mad) -> Option<Mad> {
+        self.exchanges = self.exchanges.wrapping_add(1);
         exchange(&mut self.nodes, &self.cabling, self.manager, smp)
     }
 }

@@ -1,4 +1,4 @@
-//! By which port a switch forwards a unicast packet, by the tables that SMPs wrote.
+//! By which port a switch forwards a unicast packet, and by which ports one to a group, by the tables that SMPs wrote.
 
 use crate::fixtures::{attribute_with, packet, request};
 use crate::switch_agent::TestSwitch;
@@ -153,5 +153,45 @@ fn is_enforced(
 fn the_entry_port_enforces_inbound_and_the_other_outbound(rt: HostRuntime) {
     for (number, enforcement, dlid, out, is_concerned) in ENFORCING {
         is_enforced(&rt, number, enforcement, dlid, out, is_concerned);
+    }
+}
+
+/// Which port enforces partitions, and which way, for packets of a group that come in at port 1; and a bit for each port by which
+/// those leave that it does not let pass. The masks have ports 1, 2 and 3.
+const SPREAD: [(u8, u8, u64); 7] = [
+    (1, INBOUND, 0),
+    (1, OUTBOUND, 0b1100),
+    (2, INBOUND, 0b1100),
+    (2, OUTBOUND, 0b1000),
+    (2, INBOUND + OUTBOUND, 0b1000),
+    (3, OUTBOUND, 0b0100),
+    (4, INBOUND + OUTBOUND, 0b1100),
+];
+
+/// By which ports a packet to the first multicast LID leaves the switch whose port of that number enforces partitions so.
+fn spread_by(number: u8, enforcement: u8, keys: &[u8], key: u16) -> Option<u64> {
+    let mut node = switch_with(number, enforcement, keys);
+    put(
+        &mut node,
+        SmpAttribute::MulticastForwardingTable,
+        0,
+        0,
+        &[0, 0b1110],
+    );
+    let packet = packet(0xc000, key)?;
+    Some(node.multicast_out(1, &packet))
+}
+
+fn is_spread(rt: &impl Abort, number: u8, enforcement: u8, left: u64) {
+    for (keys, key, passes) in ENFORCED {
+        let out = if passes { 0b1100 } else { left };
+        assert_eq!(rt; spread_by(number, enforcement, &keys, key), Some(out));
+    }
+}
+
+#[test]
+fn a_group_is_enforced_where_it_comes_in_and_at_each_port_out(rt: HostRuntime) {
+    for (number, enforcement, left) in SPREAD {
+        is_spread(&rt, number, enforcement, left);
     }
 }

@@ -25,7 +25,7 @@ abbrev pub destination_of : List PlannedNode → ℕ → Destination
 destination_of nodes guid = if is_switchs nodes guid then destinations.Switch guid else destinations.ChannelAdapter guid
 
 abbrev pub row_for : List PlannedNode → ℕ → ℕ → ℕ → Row
-row_for nodes lid guid entry = record { line = 0; lid = lid; port = entry; destination = destination_of nodes guid }
+row_for nodes lid guid entry = record { lid = lid; port = entry; destination = destination_of nodes guid }
 
 -- 255 leads nowhere, and has no row
 abbrev pub row_if : List PlannedNode → ℕ → ℕ → ℕ → List Row

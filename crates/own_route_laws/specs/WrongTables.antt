@@ -50,7 +50,7 @@ abbrev pub ring_adapter : ℕ → Node
 ring_adapter guid = record { name = codes "h"; node_type = ChannelAdapter; guid = guid; ports = 1 }
 
 abbrev pub ring_row : ℕ → ℕ → Row
-ring_row lid number = record { line = 0; lid = lid; port = number; destination = destinations.ChannelAdapter (256 * lid + 1) }
+ring_row lid number = record { lid = lid; port = number; destination = destinations.ChannelAdapter (256 * lid + 1) }
 
 abbrev pub ring_table : ℕ → ℕ → ℕ → ℕ → Table
 ring_table guid first second third =

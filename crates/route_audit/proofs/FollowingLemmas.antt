@@ -4,7 +4,7 @@ use Rattle.std.proofs.Common.{Option, Some, None, is_some, option_map}
 use Rattle.std.proofs.lemmas.List.{append-nil, append_assoc}
 use Rattle.route_audit.specs.declared.following.Turn.{Turn}
 use Rattle.route_audit.specs.declared.following.Turn.TheVariants as turns
-use Rattle.route_audit.specs.Following.{back, end_within, if_goes, loop_from, switch_total, then_end, turn}
+use Rattle.route_audit.specs.Following.{back, end_within, if_goes, then_end, turn}
 use Rattle.route_audit.specs.Net.{NetState}
 
 -- one switch more

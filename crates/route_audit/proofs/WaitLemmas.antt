@@ -1,11 +1,11 @@
 -- Dependencies, by the ports that LIDs take one after the other.
-use Rattle.std.proofs.Common.{◌≡◌, ◌∙◌, ap, refl, sym, ℕ, ◌+◌, ◌*◌, ◌<◌, ◌≤◌, inl, inr, Bool, true, false, ◌==◌, ◌&&◌, ◌||◌, List, [], ◌∷◌, ◌++◌, length, drop, map, filter, flat_map, get_or, slice_set, arith}
-use Rattle.std.proofs.Common.{Option, Some, None, add-one, drop-cons}
+use Rattle.std.proofs.Common.{◌≡◌, ◌∙◌, ap, refl, sym, ℕ, ◌+◌, ◌<◌, inl, inr, Bool, true, false, ◌==◌, ◌&&◌, ◌||◌, List, [], ◌∷◌, ◌++◌, length, drop, map, filter, flat_map, arith}
+use Rattle.std.proofs.Common.{Option, Some, None}
 use Rattle.std.specs.List.{enumerate_from, list_any, range_with_len}
 use Rattle.std.specs.Option.{option_map_or}
-use Rattle.std.proofs.lemmas.Bool.{cases_Bool, eq-eqb, false≢true}
+use Rattle.std.proofs.lemmas.Bool.{cases_Bool, eq-eqb}
 use Rattle.std.proofs.lemmas.Bool.Decides.{nat_tests}
-use Rattle.std.proofs.lemmas.List.{append_assoc, drop_all, map-append}
+use Rattle.std.proofs.lemmas.List.{append_assoc, map-append}
 use Rattle.fabric_parts.specs.Cable.{far_end, port}
 use Rattle.fabric_parts.specs.declared.cable.PortRef.{PortRef}
 use Rattle.topo_file.specs.Node.{is_switch_at}
@@ -13,10 +13,9 @@ use Rattle.route_audit.specs.declared.entry.Entry.{Entry}
 use Rattle.route_audit.specs.declared.entry.Entry.TheVariants.{Out, Missing, Unreported}
 use Rattle.route_audit.specs.Channels.{channels, depends, is_channel, is_out, leads_to, leaves_by, nexts}
 use Rattle.route_audit.specs.Net.{NetState, entry}
-use Rattle.route_audit.specs.Waits.{KnowsTaken, all_groups, are_ports, channel_behind, group_at, group_of, if_switch, is_taken, next_if, numbered_at, some_take, then_by, then_out, two_by, two_ports}
+use Rattle.route_audit.specs.Waits.{all_groups, are_ports, channel_behind, group_at, group_of, if_switch, is_taken, next_if, numbered_at, some_take, then_by, then_out, two_by, two_ports}
 use Rattle.route_audit.proofs.ChannelLemmas.{at_range, flat_onto}
 use Rattle.route_audit.proofs.EndlessLemmas.{within_nodes}
-use Rattle.route_audit.proofs.LidLemmas.{marked_more}
 
 -- ---- all LIDs
 pub record AreTaken (net : NetState) (lids : List ℕ) (place index : ℕ) (marks : List Bool) : Type 0 where

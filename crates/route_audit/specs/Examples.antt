@@ -57,7 +57,7 @@ an_aim = record { lid = 1; guid = Some 257; end = Some (port 2 1) }
 
 -- a row for a LID that nobody has
 abbrev strays : ℕ → Table
-strays number = record (a_table 16 1) { rows = record { line = 4; lid = 21; port = number; destination = Nobody } ∷ [] }
+strays number = record (a_table 16 1) { rows = record { lid = 21; port = number; destination = Nobody } ∷ [] }
 
 abbrev astray : ℕ → NetState
 astray number = record { plan = a_hole.plan; dump = record { tables = strays number ∷ [] } }

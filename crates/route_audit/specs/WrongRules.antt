@@ -35,7 +35,7 @@ a_switch name guid = record { name = name; node_type = Switch; guid = guid; port
 
 abbrev pub a_table : ℕ → ℕ → Table
 a_table guid number =
-    record { line = 1; guid = guid; top = 1; rows = record { line = 4; lid = 1; port = number; destination = destinations.ChannelAdapter 257 } ∷ [] }
+    record { line = 1; guid = guid; top = 1; rows = record { lid = 1; port = number; destination = destinations.ChannelAdapter 257 } ∷ [] }
 
 abbrev pub two_switches : ℕ → ℕ → NetState
 two_switches first second = record {
@@ -124,7 +124,7 @@ a_plan = record {
 }
 
 abbrev pub a_row : ℕ → ℕ → Destination → Row
-a_row lid number destination = record { line = 4; lid = lid; port = number; destination = destination }
+a_row lid number destination = record { lid = lid; port = number; destination = destination }
 
 -- LID 1 is the adapter's
 abbrev pub adapters_row : ℕ → Row

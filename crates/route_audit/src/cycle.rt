@@ -1,6 +1,6 @@
 //! Cycles among things that are numbered and depend on one another.
 
-ghost use Rattle.std.specs.Prelude.{◌≡◌, true, false, ◌==◌, ◌||◌, ◌&&◌, ◌<◌, ◌++◌, length, find, map, Some, None, ℕ, IfOk, IfSome, option_map, ◌∷◌};
+ghost use Rattle.std.specs.Prelude.{◌≡◌, true, false, ◌==◌, ◌||◌, ◌&&◌, ◌<◌, length, find, map, Some, None, ℕ, IfOk, IfSome, option_map, ◌∷◌};
 ghost use Rattle.std.specs.List.{list_any, range_with_len};
 ghost use Rattle.route_audit.specs.Cycle.{after, cycle, cycle_through, leads, next_home, shortest, way};
 ghost use Rattle.route_audit.specs.Marks.{IsHitBelow, KeepsCycles, both_marked, is_marked, peeled, round, rounds, some_leads, some_marked};

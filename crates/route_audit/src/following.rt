@@ -1,7 +1,7 @@
 //! What comes of a packet to a LID, by the entries that stand in the tables.
 
 ghost use Rattle.std.specs.Prelude.{◌≡◌, is_some, option_map, IfOk};
-ghost use Rattle.route_audit.specs.Following.{end_from, fate, fate_by, loop_from, switch_total, turn, turn_by, turn_to};
+ghost use Rattle.route_audit.specs.Following.{end_from, fate, fate_by, loop_from, turn, turn_by, turn_to};
 ghost use Rattle.route_audit.specs.Lookup.{all_turns, turn_known, turns_at, turns_of};
 ghost use Rattle.route_audit.specs.declared.entry.Entry.TheVariants.{Out};
 

@@ -9,7 +9,7 @@ ghost use Rattle.dump_file.specs.Table.{place_of};
 ghost use Rattle.topo_file.specs.Connectivity.{switches};
 ghost use Rattle.topo_file.specs.Node.{is_switch_at};
 ghost use Rattle.route_audit.specs.Lookup.{all_ends, all_entries, column, column_at, ends_at, table_places};
-ghost use Rattle.route_audit.specs.Net.{entry, entry_by, entry_in, is_left_out, row_at, row_of, table_at};
+ghost use Rattle.route_audit.specs.Net.{entry, entry_in, is_left_out, row_at, row_of, table_at};
 
 use crate::entry::{Entry, EntryList};
 use crate::far_ends::{EndList, far_ends};

@@ -1,7 +1,7 @@
 //! What packets come to from each switch to each LID that is an end port's.
 
 ghost use Rattle.std.specs.Prelude.{◌≡◌, ◌++◌, true, filter, IfOk, OnOk};
-ghost use Rattle.route_audit.specs.Pairs.{all_reached, between_adapters, count_of, in_transit, is_between_adapters, is_fate, pair_at, pairs_at, pairs_by, to_switches};
+ghost use Rattle.route_audit.specs.Pairs.{all_reached, between_adapters, count_of, in_transit, is_fate, pair_at, pairs_at, pairs_by, to_switches};
 ghost use Rattle.route_audit.specs.Attached.{carries_adapter};
 
 use crate::following::Fate;

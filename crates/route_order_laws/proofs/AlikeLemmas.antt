@@ -60,7 +60,7 @@ module _ (one other : Layout) (place : ℕ → ℕ) (is : IsLayout one) (to : Is
       end_low t d steps (next_low s t low parts.0) parts.1
 
   -- no switch is further away there
-  no_further : (passes too : ℕ → Bool) (s k m : ℕ) → ((d : ℕ) → d < length one.rows → passes d ≡ true → too (place d) ≡ true)
+  pub no_further : (passes too : ℕ → Bool) (s k m : ℕ) → ((d : ℕ) → d < length one.rows → passes d ≡ true → too (place d) ≡ true)
       → s < length one.rows → IsDistance one.rows passes s k → IsDistance other.rows too (place s) m → m ≤ k
   no_further passes too s k m so low near far =
       let d = near.some.0 in
@@ -150,7 +150,7 @@ all_guids one other back p is too from all =
     let same : get_or one.guids (back k) 0 ≡ x = from.guids k low ∙ get_or_from_slice_get other.guids k x 0 there in
     ap p (sym same) ∙ all_at p one.guids (back k) 0 all (omega (arith, below, is.count)))
 
-root_there : (one other : Layout) (roots : List ℕ) (place back : ℕ → ℕ) (d : ℕ) → IsLayout one → IsLayout other
+pub root_there : (one other : Layout) (roots : List ℕ) (place back : ℕ → ℕ) (d : ℕ) → IsLayout one → IsLayout other
     → IsPlacedIn one other place → IsPlacedIn other one back → d < length one.rows
     → is_root one.guids roots d ≡ true → is_root other.guids roots (place d) ≡ true
 root_there one other [] place back d is too to from low root =
@@ -160,7 +160,7 @@ root_there one other (first ∷ named) place back d is too to from low root =
     subst (λ (guid : ℕ). list_any (λ g. g == guid) (first ∷ named) ≡ true) (sym (to.guids d low)) root
 
 -- ---- both ways
-abbrev flip : (one other : Layout) → AreAlike one other → AreAlike other one
+abbrev pub flip : (one other : Layout) → AreAlike one other → AreAlike other one
 flip one other alike =
     record {
       one_is = alike.other_is;

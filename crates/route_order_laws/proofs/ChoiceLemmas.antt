@@ -20,7 +20,7 @@ use Rattle.route_order_laws.specs.Alike.{AreAlike, Layout, layout_of, placed_hom
 use Rattle.route_order_laws.specs.Laws.{ChoicesAreAlike, NextHopsAreTheFabrics}
 use Rattle.route_order_laws.specs.NextHops.{AreChosenFrom}
 
-own_place : (one other : Layout) (s t : ℕ) → (alike : AreAlike one other) → s < length one.rows → t < length one.rows
+pub own_place : (one other : Layout) (s t : ℕ) → (alike : AreAlike one other) → s < length one.rows → t < length one.rows
     → alike.place s ≡ alike.place t → s ≡ t
 own_place one other s t alike sl tl same = sym (alike.there_and_back s sl) ∙ ap alike.back same ∙ alike.there_and_back t tl
 
@@ -39,6 +39,16 @@ choices_are_alike one other roots ranks other_ranks next other_next s d alike mi
           each = alike.to_other.links;
         }
 
+-- where each LID is attached
+pub home_moved : (one other : Layout) (alike : AreAlike one other) (lid : ℕ)
+    → home_of other.homes lid ≡ option_map (placed_home alike.place) (home_of one.homes lid)
+home_moved one other alike lid = ap (λ (homes : List PortRef). home_of homes lid) alike.to_other.homes ∙ by (lid == 0)
+  where
+    by : (b : Bool) → (if b then None else slice_get (map (placed_home alike.place) one.homes) (lid - 1))
+        ≡ option_map (placed_home alike.place) (if b then None else slice_get one.homes (lid - 1))
+    by true = refl
+    by false = slice_get-map (placed_home alike.place) one.homes (lid - 1)
+
 -- ---- routes between switches, in two orders
 record AreBetween (roots : List ℕ) (one : Layout) (routes : SwitchRoutesState) : Type 0 where
   ranks : AreRanks one.rows one.guids roots routes.ranks
@@ -49,14 +59,6 @@ record AreBetween (roots : List ℕ) (one : Layout) (routes : SwitchRoutesState)
 
 module _ (one other : Layout) (roots : List ℕ) (mine theirs : SwitchRoutesState) (alike : AreAlike one other)
     (are : AreBetween roots one mine) (are_too : AreBetween roots other theirs) where
-  home_moved : (lid : ℕ) → home_of other.homes lid ≡ option_map (placed_home alike.place) (home_of one.homes lid)
-  home_moved lid = ap (λ (homes : List PortRef). home_of homes lid) alike.to_other.homes ∙ by (lid == 0)
-    where
-      by : (b : Bool) → (if b then None else slice_get (map (placed_home alike.place) one.homes) (lid - 1))
-          ≡ option_map (placed_home alike.place) (if b then None else slice_get one.homes (lid - 1))
-      by true = refl
-      by false = slice_get-map (placed_home alike.place) one.homes (lid - 1)
-
   towards : (s d : ℕ) → s < length one.rows → d < length one.rows → s ≢ d
       → port_towards theirs (alike.place d) (alike.place s) ≡ port_towards mine d s
   towards s d sl dl away =
@@ -83,7 +85,7 @@ module _ (one other : Layout) (roots : List ℕ) (mine theirs : SwitchRoutesStat
   next_hops_are_alike : (s lid : ℕ) → s < length one.rows → next_hop theirs (alike.place s) lid ≡ next_hop mine s lid
   next_hops_are_alike s lid sl =
       ap (λ (homes : List PortRef). hop_to theirs (alike.place s) (home_of homes lid)) are_too.homes
-      ∙ ap (hop_to theirs (alike.place s)) (home_moved lid)
+      ∙ ap (hop_to theirs (alike.place s)) (home_moved one other alike lid)
       ∙ hop_there s (home_of one.homes lid) sl (λ home at. home_low one other alike.place alike.one_is alike.to_other lid home at)
       ∙ ap (λ (homes : List PortRef). hop_to mine s (home_of homes lid)) (sym are.homes)
 

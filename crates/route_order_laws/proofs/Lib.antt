@@ -1,3 +1,4 @@
 pub mod AlikeLemmas
 pub mod OfFabricLemmas
 pub mod ChoiceLemmas
+pub mod TreeLemmas

@@ -495,3 +495,11 @@ pub meets : (fabric : FabricState) (one other : GraphState) (guids : List ℕ) (
 unfolding graphs_of_one_fabric_are_alike
 meets fabric one other guids guid k m good is too are are_too at at_too =
     switches_meet fabric one other good is too guid k m (has_switch fabric one is guid k at) (has_switch fabric other too guid m at_too)
+
+-- and the same node of the fabric stands at a place of the one and where that is in the other
+pub one_node_moves : (fabric : FabricState) (one other : GraphState) (guids : List ℕ) (k node : ℕ) → (good : IsGood fabric)
+    → (is : IsLayoutOf one fabric) → (too : IsLayoutOf other fabric) → (are : AreLids (end_ports one) guids)
+    → (are_too : AreLids (end_ports other) guids) → slice_get (nodes_of is.found) k ≡ Some node → is_switch_at fabric.nodes node ≡ true
+    → slice_get (nodes_of too.found) ((graphs_of_one_fabric_are_alike fabric one other guids good is too are are_too).place k) ≡ Some node
+unfolding graphs_of_one_fabric_are_alike
+one_node_moves fabric one other guids k node good is too are are_too there switch = moved_there fabric one other good is too k node there switch

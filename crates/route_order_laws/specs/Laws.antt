@@ -1,5 +1,5 @@
 -- What cablings that are alike share: the statements of the laws of `src/laws.rt`.
-use Rattle.std.specs.Prelude.{ℕ, ◌≡◌, ◌≢◌, ◌<◌, true, List, get_or, length, Option}
+use Rattle.std.specs.Prelude.{ℕ, ◌≡◌, ◌≢◌, ◌<◌, true, List, get_or, length, Option, option_map}
 use Rattle.lid_assign.specs.Lids.{AreLids, end_ports}
 use Rattle.smp_wire.specs.FabricState.{FabricState}
 use Rattle.smp_wire.specs.Good.{IsGood}
@@ -9,8 +9,10 @@ use Rattle.updn_routes.specs.Cabling.{is_cabling}
 use Rattle.updn_routes.specs.Choice.{AllChosen}
 use Rattle.updn_routes.specs.Fault.{IsRefused}
 use Rattle.updn_routes.specs.Order.{AreRanks, IsOrder, precedes}
+use Rattle.updn_routes.specs.Places.{placed_link}
 use Rattle.updn_routes.specs.Routes.{AllReached, LegalPath}
 use Rattle.updn_routes.specs.Subnet.{RoutesState}
+use Rattle.updn_routes.specs.Tree.{AreDepths, tree_link}
 use Rattle.route_order_laws.specs.Alike.{AreAlike, Layout, layout_of}
 use Rattle.route_order_laws.specs.NextHops.{AreChosenFrom, hop_by}
 
@@ -20,6 +22,21 @@ RanksAreAlike =
     (one other : Layout) (roots ranks other_ranks : List ℕ) (s : ℕ) → (alike : AreAlike one other)
     → AreRanks one.rows one.guids roots ranks → AreRanks other.rows other.guids roots other_ranks
     → s < length one.rows → get_or other_ranks (alike.place s) 0 ≡ get_or ranks s 0
+
+-- and one depth in the spanning tree
+abbrev pub DepthsAreAlike : Type 0
+DepthsAreAlike =
+    (one other : Layout) (roots depths other_depths : List ℕ) (s : ℕ) → (alike : AreAlike one other)
+    → AreDepths one.rows one.guids roots depths → AreDepths other.rows other.guids roots other_depths
+    → s < length one.rows → get_or other_depths (alike.place s) 0 ≡ get_or depths s 0
+
+-- whose link to its parent is by the same port, to the same switch
+abbrev pub TreesAreAlike : Type 0
+TreesAreAlike =
+    (one other : Layout) (roots depths other_depths : List ℕ) (s : ℕ) → (alike : AreAlike one other)
+    → AreDepths one.rows one.guids roots depths → AreDepths other.rows other.guids roots other_depths
+    → s < length one.rows
+    → tree_link other.rows other_depths (alike.place s) ≡ option_map (placed_link alike.place) (tree_link one.rows depths s)
 
 -- where a legal path leads from switch to switch in the one, one leads between their places in the other
 abbrev pub LegalPathsAreAlike : Type 0

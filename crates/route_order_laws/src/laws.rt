@@ -1,10 +1,16 @@
 //! What cablings that are alike share. Each function's contract is its law; it does nothing.
 
-ghost use Rattle.route_order_laws.specs.Laws.{ChoicesAreAlike, GraphsOfOneFabricAreAlike, LegalPathsAreAlike, NextHopsAreTheFabrics, NoneIsReachedAndRefused, OnePairIsRefused, RanksAreAlike};
+ghost use Rattle.route_order_laws.specs.Laws.{ChoicesAreAlike, DepthsAreAlike, GraphsOfOneFabricAreAlike, LegalPathsAreAlike, NextHopsAreTheFabrics, NoneIsReachedAndRefused, OnePairIsRefused, RanksAreAlike, TreesAreAlike};
 
 /// The ranks of switches do not depend on the order in which they stand.
 pub fn ranks_are_alike()
     ensures { RanksAreAlike }
+{}
+
+/// Nor do their depths in the spanning tree, and the links of that.
+pub fn trees_are_alike()
+    ensures depths { DepthsAreAlike }
+    ensures links { TreesAreAlike }
 {}
 
 /// Nor does between which of them legal paths lead.

@@ -11,4 +11,5 @@ mod laws;
 pub use crate::laws::{
     choices_are_alike, graphs_of_one_fabric_are_alike, legal_paths_are_alike,
     next_hops_are_the_fabrics, none_is_reached_and_refused, one_pair_is_refused, ranks_are_alike,
+    trees_are_alike,
 };

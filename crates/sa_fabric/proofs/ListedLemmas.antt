@@ -2,8 +2,10 @@
 use Rattle.std.proofs.Common.{ℕ, ◌≡◌, ◌∙◌, ap, subst, sym, Bool, true, false, List, Option}
 use Rattle.std.specs.Option.{option_map_or}
 use Rattle.fabric_parts.specs.Lid.{is_multicast}
+use Rattle.fabric_wire.specs.OfTopology.{fabric_of}
+use Rattle.fabric_wire.specs.Recabling.{cabling_of}
 use Rattle.delivery_laws.specs.Forwards.{IsCabledPort}
-use Rattle.delivery_laws.specs.Groups.{ForwardsByMlid}
+use Rattle.delivery_laws.specs.Groups.{ForwardsByMlid, HasNoIdleBits}
 use Rattle.fabric_parts.specs.declared.cable.PortRef.{PortRef}
 use Rattle.partition_file.specs.Sound.{IsSound as ArePartitions}
 use Rattle.partition_file.specs.declared.partition.Partition.{Partition}
@@ -15,19 +17,27 @@ use Rattle.sa_replies.specs.State.{IsRememberedOf}
 use Rattle.smp_wire.specs.FabricState.{FabricState}
 use Rattle.smp_wire.specs.Good.{IsGood}
 use Rattle.subnet_fabric.proofs.StandingListedLemmas.{a_standing_fabric_is_as_listed, is_brought_up}
+use Rattle.subnet_fabric.specs.BringUp.{root_guids}
 use Rattle.subnet_fabric.specs.Laws.{all_keys}
+use Rattle.subnet_fabric.specs.Recabled.{base_of, with_cables}
+use Rattle.subnet_fabric.specs.SetUp.{IsSetUpBy}
 use Rattle.subnet_model.specs.declared.subnet_port.SubnetPort.{SubnetPort}
 use Rattle.subnet_ports.proofs.EndPortLemmas.{end_ports_stand_in_order}
 use Rattle.subnet_ports.specs.Ports.{configuration_of, ports_of}
 use Rattle.subnet_sends.specs.OfFabric.{IsFabricOf}
 use Rattle.sweep.proofs.MetLemmas.{good_once}
+use Rattle.table_push.proofs.AllMaskLemmas.{all_masks_are_there}
+use Rattle.table_push.proofs.IdleBitLemmas.{brought_up_has_no_idle_bits}
 use Rattle.table_push.specs.BroughtUp.{IsBroughtUp}
 use Rattle.table_push.specs.BroughtUpLaws.{by_guid}
+use Rattle.table_push.specs.Laws.{HasMasksOf}
 use Rattle.topo_file.specs.Sound.{IsSound}
 use Rattle.topo_file.specs.Topology.{TopologyState}
-use Rattle.updn_routes.specs.Subnet.{RoutesState}
+use Rattle.updn_routes.specs.Subnet.{RoutesState, guids_of}
+use Rattle.updn_routes.specs.Tree.{AreDepths}
+use Rattle.updn_routes.specs.declared.link.Link.{Link}
 use Rattle.sa_fabric.proofs.GroupLemmas.{are_of_groups, few_numbers, listed_is_found, receivers_are_of_groups, receives_by_lid}
-use Rattle.sa_fabric.specs.Laws.{AServedFabricIsAsListed}
+use Rattle.sa_fabric.specs.Laws.{AServedFabricHasNoIdleBits, AServedFabricIsAsListed}
 use Rattle.sa_fabric.specs.Served.{IsServed, receives_at}
 
 -- what is served is up
@@ -98,6 +108,37 @@ module _ (plan : TopologyState) (partitions : List Partition) (state : SaState) 
   is_as_listed =
       is_fabric_too ports (by_guid routes.lids receives) (is_receiver_of state.partitions) fabric still_up.good agrees
       (receivers_are_of_groups ports state.partitions remembered.groups (few_numbers partitions plan state whole remembered)) by_lids
+
+  -- ---- and no bit is idle
+  abbrev set_up : IsSetUpBy (fabric_of (with_cables (cabling_of served.base).cables plan)) (root_guids plan) (all_keys ports) routes (base_of served.base)
+  set_up = served.stands.up.set_up
+
+  right : AreDepths routes.between.rows routes.between.guids (root_guids plan) routes.between.depths
+  right =
+      subst (λ (guids : List ℕ). AreDepths routes.between.rows guids (root_guids plan) routes.between.depths) (sym set_up.are.made.guids_are)
+      (subst (λ (rows : List (List Link)). AreDepths rows (guids_of routes.graph) (root_guids plan) routes.between.depths) (sym set_up.are.made.rows_are)
+      set_up.are.made.depths_are)
+
+  has_masks : HasMasksOf routes receives fabric
+  has_masks = subst (HasMasksOf routes receives) (sym served.masks) (all_masks_are_there routes receives served.base)
+
+  pub no_idle_bits : HasNoIdleBits fabric (is_receiver_of state.partitions)
+  no_idle_bits mlid here set =
+      let leads = brought_up_has_no_idle_bits routes (root_guids plan) (all_keys ports) fabric receives set_up.home right still_up has_masks mlid here set in
+      record {
+        next = leads.next;
+        cable = leads.cable;
+        at = leads.at;
+        way = leads.way;
+        goes = leads.goes;
+        port = leads.port;
+        cabled = leads.cabled;
+        member = sym (agrees mlid leads.at leads.port leads.cabled) ∙ leads.member;
+      }
+
+pub a_served_fabric_has_no_idle_bits : AServedFabricHasNoIdleBits
+a_served_fabric_has_no_idle_bits plan partitions state routes fabric sound whole is served =
+    no_idle_bits plan partitions state.remembered routes fabric sound whole is.remembered served
 
 pub a_served_fabric_is_as_listed : AServedFabricIsAsListed
 a_served_fabric_is_as_listed plan partitions state routes fabric sound whole is served =

@@ -1,5 +1,6 @@
 -- What holds of every fabric that is served: the statements of the laws of `src/laws.rt`.
 use Rattle.std.specs.Prelude.{◌≡◌, List}
+use Rattle.delivery_laws.specs.Groups.{HasNoIdleBits}
 use Rattle.fabric_wire.specs.Recabling.{cabling_of}
 use Rattle.partition_file.specs.Sound.{IsSound as ArePartitions}
 use Rattle.partition_file.specs.declared.partition.Partition.{Partition}
@@ -26,6 +27,14 @@ AServedFabricIsAsListed =
     → IsServed plan (ports_of partitions plan) state.remembered.partitions routes fabric
     → IsFabricOf (ports_of partitions plan) (is_receiver_of state.remembered.partitions) fabric
 
+-- and no bit of its masks is set in vain: each leads to a port that receives
+abbrev pub AServedFabricHasNoIdleBits : Type 0
+AServedFabricHasNoIdleBits =
+    (plan : TopologyState) (partitions : List Partition) (state : Administration) (routes : RoutesState) (fabric : FabricState)
+    → IsSound plan → ArePartitions partitions → IsStateOf (configuration_of partitions plan) state
+    → IsServed plan (ports_of partitions plan) state.remembered.partitions routes fabric
+    → HasNoIdleBits fabric (is_receiver_of state.remembered.partitions)
+
 -- before the first command nobody is in a group, and the fabric is served as it was brought up
 abbrev pub StartsAreServed : Type 0
 StartsAreServed =
@@ -33,9 +42,10 @@ StartsAreServed =
     → IsSound plan → ArePartitions partitions → IsBroughtUpBy plan (all_keys (ports_of partitions plan)) routes fabric
     → IsServed plan (ports_of partitions plan) (start_of (configuration_of partitions plan)) routes fabric
 
--- with the same cables in place it is served by one set of masks: nothing else than who receives decides what the fabric is
+-- with the same cables in place it is served by one set of masks: nothing else than who receives decides what the fabric is, and
+-- not the order in which a sweep found the switches either
 abbrev pub OneFabricIsServed : Type 0
 OneFabricIsServed =
-    (plan : TopologyState) (ports : List SubnetPort) (partitions : List PartitionGroups) (routes : RoutesState) (one other : FabricState)
-    → IsServed plan ports partitions routes one → IsServed plan ports partitions routes other → cabling_of one ≡ cabling_of other
-    → one ≡ other
+    (plan : TopologyState) (ports : List SubnetPort) (partitions : List PartitionGroups) (routes others : RoutesState) (one other : FabricState)
+    → IsSound plan → IsServed plan ports partitions routes one → IsServed plan ports partitions others other
+    → cabling_of one ≡ cabling_of other → one ≡ other

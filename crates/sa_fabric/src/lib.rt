@@ -17,5 +17,8 @@ mod received;
 
 pub use crate::administrator::Administrator;
 pub use crate::answering::{AnswerFault, answer};
-pub use crate::laws::{a_served_fabric_is_as_listed, one_fabric_is_served, starts_are_served};
+pub use crate::laws::{
+    a_served_fabric_has_no_idle_bits, a_served_fabric_is_as_listed, one_fabric_is_served,
+    starts_are_served,
+};
 pub use crate::recabling::{Listed, recable};

@@ -6,7 +6,8 @@ use Rattle.sa_groups.specs.JoinState.{JoinState}
 use Rattle.sa_groups.specs.Groups.{PartitionGroups}
 use Rattle.sa_groups.specs.Joining.{joined}
 use Rattle.sa_groups.specs.Sight.{Alike}
-use Rattle.sa_groups.specs.Examples.{adapter, full_member, parameters, ports, nobody, both, mgid, join_of, leave_of, mlids}
+use Rattle.sa_groups.specs.Examples.{full_member, parameters, ports, nobody, both, mgid, join_of, leave_of, mlids}
+use Rattle.subnet_model.specs.Examples.{adapter}
 use Rattle.sa_groups.specs.WrongRules.{OnePoolIsSeen, MgidsAloneAreSeen, LimitedKeepersAreSeen, SendersAreReached, ComersAreReported, AllNumbersAreReported}
 use Rattle.sa_groups.specs.ReceiverLaws.{same_answer}
 use Rattle.sa_groups.specs.Receivers.{is_among, receivers_of}

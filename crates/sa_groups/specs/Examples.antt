@@ -2,7 +2,7 @@
 -- partition of base 1, the other two limited members of it.
 use Rattle.std.specs.Prelude.{ℕ, true, false, List, [], ◌∷◌, Some, None, map, filter, flat_map, fold}
 use Rattle.std.specs.List.{range_with_len}
-use Rattle.fabric_parts.specs.declared.node_type.NodeType.TheVariants.{ChannelAdapter}
+use Rattle.subnet_model.specs.Examples.{adapter}
 use Rattle.subnet_model.specs.declared.subnet_port.SubnetPort.{SubnetPort}
 use Rattle.subnet_model.specs.declared.command.SendCommand.{SendCommand}
 use Rattle.subnet_model.specs.Configuration.{ConfigurationState}
@@ -11,18 +11,6 @@ use Rattle.sa_groups.specs.Groups.{GroupParameters, PartitionGroups, start_of}
 use Rattle.sa_groups.specs.Joining.{Join, joined}
 use Rattle.sa_groups.specs.Leaving.{Leave}
 use Rattle.sa_groups.specs.Delivery.{reaches_by_groups}
-
-abbrev pub adapter : ℕ → ℕ → List ℕ → SubnetPort
-adapter lid guid keys = record {
-  lid = lid;
-  guid = guid;
-  node_name = [];
-  node_guid = guid;
-  num_ports = 1;
-  number = 1;
-  node_type = ChannelAdapter;
-  keys = keys;
-}
 
 abbrev pub ports : List SubnetPort
 ports =

@@ -2,7 +2,8 @@
 -- has no part in; and that a node comes from the partition file.
 use Rattle.std.proofs.Common.{Bool, true, false, List, [], ◌∷◌, ◌≡◌, ap, refl}
 use Rattle.subnet_model.specs.declared.subnet_port.SubnetPort.{SubnetPort}
-use Rattle.sa_groups.specs.Examples.{adapter, ports, nobody, both}
+use Rattle.sa_groups.specs.Examples.{ports, nobody, both}
+use Rattle.subnet_model.specs.Examples.{adapter}
 use Rattle.sa_records.specs.NodeRecord.{node_record_selected}
 use Rattle.sa_services.specs.ServiceChange.{Deed, services_changed}
 use Rattle.sa_services.specs.Services.{no_services}

@@ -11,7 +11,7 @@ use Rattle.pkey_rules.specs.KeyTable.{same_base}
 use Rattle.subnet_model.specs.Configuration.{ConfigurationState}
 use Rattle.subnet_model.specs.Configured.{HoldsKnownKeys, IsConfigured, is_known_key, same_guid}
 use Rattle.subnet_model.specs.declared.subnet_port.SubnetPort.{SubnetPort}
-use Rattle.sa_groups.specs.Examples.{adapter}
+use Rattle.subnet_model.specs.Examples.{adapter}
 use Rattle.sa_services.specs.Services.{PortServices}
 use Rattle.sa_queries.specs.WrongRules.{CommonBasesAreNotShared, OwnFirstIsOutOfOrder}
 

@@ -4,7 +4,8 @@ use Rattle.sa_records.specs.declared.path_record.PathRecord.{PathRecord}
 use Rattle.sa_records.specs.PathMask as path_mask
 use Rattle.subnet_model.specs.declared.subnet_port.SubnetPort.{SubnetPort}
 use Rattle.sa_groups.specs.Groups.{Creator, start_of}
-use Rattle.sa_groups.specs.Examples.{adapter, ports, nobody, with_broadcast_group, parameters}
+use Rattle.sa_groups.specs.Examples.{ports, nobody, with_broadcast_group, parameters}
+use Rattle.subnet_model.specs.Examples.{adapter}
 use Rattle.sa_services.specs.Services.{Service, no_services}
 use Rattle.sa_services.specs.ServiceChange.{Deed, services_changed}
 use Rattle.sa_queries.specs.Gid.{gid_of}

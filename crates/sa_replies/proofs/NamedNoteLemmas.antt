@@ -23,7 +23,7 @@ use Rattle.sa_replies.specs.Answer.{Administration, Answered, after_rmpp, answer
 use Rattle.sa_replies.specs.Changed.{asks_for_group}
 use Rattle.sa_replies.specs.Joins.{group_named}
 use Rattle.sa_replies.specs.Laws.{asks_by, asks_for_service, is_of_transfer}
-use Rattle.sa_replies.specs.NamedNotes.{AreNamed, AreOfNamed, IsAllOf, IsReplyOf, group_asked_for, IsSegmentOf, NotesNameSources}
+use Rattle.sa_replies.specs.NamedNotes.{AreNamed, AreOfNamed, IsAllOf, IsReplyOf, group_asked_for, IsSegmentOf, NotesNameSources, StaysOrNamed}
 use Rattle.sa_replies.specs.Notes.{NotedByte, NotedMad, Notes, from_source, is_request, noted_bytes, noted_get, noted_if_got, noted_if_ok}
 use Rattle.sa_replies.specs.Notes.{noted_record, noted_reply, noted_request, noted_table, notes_after, with_notes}
 use Rattle.sa_replies.specs.Request.{Request, has_versions, is_about, is_response, request_in}
@@ -34,29 +34,29 @@ use Rattle.sa_replies.proofs.ReplySourceLemmas.{state_in}
 use Rattle.step_results.proofs.ElementLemmas.{each_always}
 
 module _ (ports : List SubnetPort) (own : SubnetPort) (state : SaState) (notes : Notes) where
-  abbrev StaysOrNamed : (ℕ → List Entry) → ℕ → Type 0
-  StaysOrNamed after p = (after p ≡ notes p) ⊎ AreNamed ports own state (after p)
+  abbrev IsSo : (ℕ → List Entry) → ℕ → Type 0
+  IsSo after p = StaysOrNamed ports own state notes after p
 
   named_selected : (most : Option ℕ) (query : Query) → AreNamed ports own state (selected most ports own state query)
   named_selected most query = record { each = selected_say_their_source most ports own state query; fit = selected_fit most ports own state query }
 
-  written : (entries : List Entry) → AreNamed ports own state entries → (p : ℕ) → StaysOrNamed (with_notes own.guid entries notes) p
+  written : (entries : List Entry) → AreNamed ports own state entries → (p : ℕ) → IsSo (with_notes own.guid entries notes) p
   written entries named p = elim (cases_Bool (p == own.guid)) [
-    | inl its ↦ rw its (inr named)
+    | inl its ↦ rw its (inr (eqb-true p own.guid its, named))
     | inr other ↦ rw other (inl refl)
   ]
 
   by_refusal : (refused : Option MadStatus) (entries : List Entry) → AreNamed ports own state entries → (p : ℕ)
-      → StaysOrNamed (noted_if_ok own.guid (unless_status refused (Ok entries)) notes) p
+      → IsSo (noted_if_ok own.guid (unless_status refused (Ok entries)) notes) p
   by_refusal None entries named p = written entries named p
   by_refusal (Some status) entries named p = inl refl
 
-  of_table : (query : Option Query) (p : ℕ) → StaysOrNamed (noted_table ports own state query notes) p
+  of_table : (query : Option Query) (p : ℕ) → IsSo (noted_table ports own state query notes) p
   of_table None p = inl refl
   of_table (Some query) p =
       by_refusal (refusal own query) (selected (paths_wanted query) ports own state query) (named_selected (paths_wanted query) query) p
 
-  of_request : (request : Request) (p : ℕ) → StaysOrNamed (noted_request ports own state request notes) p
+  of_request : (request : Request) (p : ℕ) → IsSo (noted_request ports own state request notes) p
   of_request request p = elim (cases_Bool (request.header.method == method_code GetTable)) [
     | inl table ↦ rw table (of_table (query_of request) p)
     | inr other ↦ rw other (inl refl)
@@ -156,7 +156,7 @@ remembered_by ports own payload state asks =
     ∙ left_by_result own request state (outcome ports own state.remembered request)
 
 module _ (ports : List SubnetPort) (own : SubnetPort) (payload : List ℕ) (state : Administration) (notes : Notes) where
-  for_each : (p : ℕ) → (notes_after ports own payload state notes p ≡ notes p) ⊎ AreNamed ports own state.remembered (notes_after ports own payload state notes p)
+  for_each : (p : ℕ) → StaysOrNamed ports own state.remembered notes (notes_after ports own payload state notes) p
   for_each p = elim (cases_Bool (is_request payload)) [
     | inl asks ↦ rw asks (of_request ports own state.remembered notes (request_in payload) p)
     | inr other ↦ rw other (inl refl)

@@ -19,7 +19,7 @@ use Rattle.sa_replies.specs.Transfers.{table_at}
 use Rattle.sa_replies.specs.Examples.{after, at_first, by, joining, making, nodes_wanted, path_wanted, service_asked_by, with_services}
 use Rattle.rmpp_core.proofs.ReadBackLemmas.{reply_below}
 use Rattle.sa_replies.specs.Notes.{no_notes}
-use Rattle.sa_replies.specs.WrongRules.{AllNodesReport, DeletesAreNotOfFile, JoinsAreOfTheMaker, NothingNotedIsLess, OneTableReports, SetsAreNotOfFile, TheFileIsNoSource}
+use Rattle.sa_replies.specs.WrongRules.{AllNodesReport, AskersAreNotedAlone, DeletesAreNotOfFile, JoinsAreOfTheMaker, NothingNotedIsLess, OneTableReports, SetsAreNotOfFile, TheFileIsNoSource}
 
 abbrev is_there : Option Transfer → Bool
 is_there None = false
@@ -56,7 +56,14 @@ pub the_file_is_no_source : TheFileIsNoSource
 unfolding field put_field reply_bytes request_in node_in node_record_bytes node_record_selected
 the_file_is_no_source law = elim ((law ports limited (nodes_wanted 5) at_first no_notes).noted_for 0x121) [
   | inl same ↦ let none : false ≡ true = ap is_empty same in absurd (cc)
-  | inr named ↦ let file : true ≡ false = ap is_by_file named.each.0 in absurd (cc)
+  | inr named ↦ let file : true ≡ false = ap is_by_file named.1.each.0 in absurd (cc)
+]
+
+pub askers_are_noted_alone : AskersAreNotedAlone
+unfolding field put_field reply_bytes request_in node_in node_record_bytes node_record_selected
+askers_are_noted_alone law = elim ((law ports limited (nodes_wanted 5) at_first no_notes).noted_for 0x111) [
+  | inl same ↦ let none : false ≡ true = ap is_empty same in absurd (cc)
+  | inr named ↦ let own : true ≡ false = ap (λ guid. guid == 0x111) named.0 in absurd (cc)
 ]
 
 -- ---- a limited member sets a service, deletes one, and joins a group that the full member made

@@ -10,7 +10,7 @@ use Rattle.rmpp_core.specs.Reply.{reply_bytes}
 use Rattle.pkey_rules.specs.KeyTable.{same_base}
 use Rattle.subnet_model.specs.Configuration.{ConfigurationState}
 use Rattle.subnet_model.specs.Configured.{HoldsKnownKeys, IsConfigured, same_guid}
-use Rattle.sa_groups.specs.Examples.{adapter}
+use Rattle.subnet_model.specs.Examples.{adapter}
 use Rattle.sa_replies.specs.Answer.{Answered}
 use Rattle.sa_replies.specs.Examples.{asking, header_of}
 use Rattle.sa_replies.specs.Reply.{no_rmpp}

@@ -75,12 +75,16 @@ abbrev pub IsAllOf : Creator → NotedMad → Type 0
 IsAllOf source one =
     is_data (rmpp_in one.mad) ≡ false → AllByRecursion (λ (noted : NotedByte). noted.source ≡ source) one.bytes
 
--- what is noted for each port stays, or is named so; segments have their parts of it; and so it is with the reply to a Get.
+-- what is noted for the port that asks stays, or is named so; what is noted for any other stays
+abbrev pub StaysOrNamed : List SubnetPort → SubnetPort → SaState → (before after : Notes) → (p : ℕ) → Type 0
+StaysOrNamed ports own state before after p = (after p ≡ before p) ⊎ ((p ≡ own.guid) × AreNamed ports own state (after p))
+
+-- so it is; segments have their parts of what is noted for the port that asks; and so it is with the reply to a Get.
 -- The reply to a join comes from who made the group, as it is after it; those to the Set of a service and to a Delete come
 -- from the port that asks
 pub record IsNamed (ports : List SubnetPort) (own : SubnetPort) (payload : List ℕ) (state : Administration) (notes : Notes)
     (noted : NotedAnswer) : Type 0 where
-  pub noted_for : (p : ℕ) → (noted.notes p ≡ notes p) ⊎ AreNamed ports own state.remembered (noted.notes p)
+  pub noted_for : (p : ℕ) → StaysOrNamed ports own state.remembered notes noted.notes p
   pub segments : AllByRecursion (IsSegmentOf (noted.notes own.guid)) noted.mads
   pub got : asks_by Get payload ≡ true → AllByRecursion (IsReplyOf ports own state.remembered) noted.mads
   pub joined : (group : MulticastGroup) → asks_for_group Set payload ≡ true

@@ -93,6 +93,15 @@ answer_noting_the_file ports own payload state notes = record {
 abbrev pub TheFileIsNoSource : Type 0
 TheFileIsNoSource = NamesSources answer_noting_the_file → ⊥
 
+-- ---- to note for every port what is noted for the one that asks
+abbrev pub answer_noting_for_all : NotedRule
+answer_noting_for_all ports own payload state notes = record (answer_noted ports own payload state notes) {
+  notes = λ p. (answer_noted ports own payload state notes).notes own.guid;
+}
+
+abbrev pub AskersAreNotedAlone : Type 0
+AskersAreNotedAlone = NamesSources answer_noting_for_all → ⊥
+
 -- ---- to note of the replies to requests by one method alone that all in them comes from this source
 abbrev pub from_alone : Creator → NotedMad → NotedMad
 from_alone source one = record {

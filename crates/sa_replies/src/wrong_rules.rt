@@ -1,7 +1,7 @@
 //! Wrong rules for answers, and the law that each breaks, so that a reader sees that the laws say something. Each
 //! function does nothing: its contract is the law.
 
-ghost use Rattle.sa_replies.specs.WrongRules.{AllNodesReport, DeletesAreNotOfFile, JoinsAreOfTheMaker, KeysAreNotSentBack, LostPlacesAreMissed, NothingNotedIsLess, OneTableReports, OthersAreAnswered, RefusalsKeepNoData, SetsAreNotOfFile, TheFileIsNoSource, TwiceIsNotOnce};
+ghost use Rattle.sa_replies.specs.WrongRules.{AllNodesReport, AskersAreNotedAlone, DeletesAreNotOfFile, JoinsAreOfTheMaker, KeysAreNotSentBack, LostPlacesAreMissed, NothingNotedIsLess, OneTableReports, OthersAreAnswered, RefusalsKeepNoData, SetsAreNotOfFile, TheFileIsNoSource, TwiceIsNotOnce};
 
 /// With one open table for all ports, a port learns that a port far from it asked for one.
 pub fn one_table_reports()
@@ -21,6 +21,11 @@ pub fn nothing_noted_is_less()
 /// Where all bytes are noted as those of the partition file, a table does not name the ports that its nodes come from.
 pub fn the_file_is_no_source()
     ensures { TheFileIsNoSource }
+{}
+
+/// A rule that notes for every port what is noted for the one that asks is refused: what is noted for the others stays.
+pub fn askers_are_noted_alone()
+    ensures { AskersAreNotedAlone }
 {}
 
 /// Where the reply to a Set is noted as the partition file's, a service that is set does not come from its port.

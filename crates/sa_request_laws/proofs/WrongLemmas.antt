@@ -14,7 +14,7 @@ use Rattle.subnet_model.specs.Configuration.{ConfigurationState}
 use Rattle.subnet_model.specs.Configured.{HoldsKnownKeys, IsConfigured, same_guid}
 use Rattle.subnet_model.specs.declared.subnet_port.SubnetPort.{SubnetPort}
 use Rattle.sa_groups.specs.Anchor.{is_by_file}
-use Rattle.sa_groups.specs.Examples.{adapter}
+use Rattle.subnet_model.specs.Examples.{adapter}
 use Rattle.sa_groups.specs.Groups.{Creator, MulticastGroup}
 use Rattle.sa_groups.specs.JoinState.{JoinState}
 use Rattle.sa_replies.specs.Answer.{Administration, answer}

@@ -82,13 +82,14 @@ module _ (ports : List SubnetPort) (own : SubnetPort) where
 
 -- ---- what is noted for a port stays, or is named by what was remembered
 abbrev StaysOrNamed : List SubnetPort → NotedState → Notes → ℕ → Type 0
-StaysOrNamed ports noted notes p = (notes p ≡ noted.notes p) ⊎ ((own : SubnetPort) × AreNamed ports own noted.state.remembered (notes p))
+StaysOrNamed ports noted notes p =
+    (notes p ≡ noted.notes p) ⊎ ((own : SubnetPort) × (p ≡ own.guid) × AreNamed ports own noted.state.remembered (notes p))
 
 mad_names : (ports : List SubnetPort) (own : SubnetPort) (mad : List ℕ) (noted : NotedState) (p : ℕ)
     → StaysOrNamed ports noted (noted_mad ports own mad noted).1.notes p
 mad_names ports own mad noted p = elim ((notes_name_sources ports own mad noted.state noted.notes).noted_for p) [
   | inl same ↦ inl same
-  | inr named ↦ inr (own, named)
+  | inr named ↦ inr (own, named.0, named.1)
 ]
 
 whole_names : (ports : List SubnetPort) (own : SubnetPort) (mad : List ℕ) (noted : NotedState) (p : ℕ)
@@ -147,13 +148,14 @@ after_one configuration noted [] command = refl
 after_one configuration noted (first ∷ commands) command = after_one configuration (noted_step configuration noted first).1 commands command
 
 module _ (configuration : ConfigurationState) where
-  still_named : (done : List Command) (command : Command) (entries : List Entry) → WereNamed configuration done entries
-      → WereNamed configuration (done ++ command ∷ []) entries
-  still_named done command entries were = record {
+  still_named : (done : List Command) (command : Command) (p : ℕ) (entries : List Entry) → WereNamed configuration done p entries
+      → WereNamed configuration (done ++ command ∷ []) p entries
+  still_named done command p entries were = record {
     before = were.before;
     after = were.after ++ command ∷ [];
     parts = sym (append_assoc were.before were.after (command ∷ [])) ∙ ap (λ commands. commands ++ command ∷ []) were.parts;
     own = were.own;
+    own_is = were.own_is;
     named = were.named;
   }
 
@@ -162,25 +164,26 @@ module _ (configuration : ConfigurationState) where
       let noted = noted_after configuration done in
       let next : noted_after configuration (done ++ command ∷ []) ≡ (noted_step configuration noted command).1 =
       after_one configuration (noted_start configuration) done command in
-      subst (λ (after : NotedState). (after.notes p ≡ []) ⊎ WereNamed configuration (done ++ command ∷ []) (after.notes p)) (sym next)
+      subst (λ (after : NotedState). (after.notes p ≡ []) ⊎ WereNamed configuration (done ++ command ∷ []) p (after.notes p)) (sym next)
       (by (steps_name_notes configuration noted command p))
     where
       here : NotedState
       here = noted_after configuration done
 
       by : StaysOrNamed configuration.ports here (noted_step configuration here command).1.notes p
-          → ((noted_step configuration here command).1.notes p ≡ []) ⊎ WereNamed configuration (done ++ command ∷ []) ((noted_step configuration here command).1.notes p)
+          → ((noted_step configuration here command).1.notes p ≡ []) ⊎ WereNamed configuration (done ++ command ∷ []) p ((noted_step configuration here command).1.notes p)
       by (inl same) = elim (good p) [
         | inl none ↦ inl (same ∙ none)
-        | inr were ↦ inr (subst (WereNamed configuration (done ++ command ∷ [])) (sym same) (still_named done command (here.notes p) were))
+        | inr were ↦ inr (subst (WereNamed configuration (done ++ command ∷ []) p) (sym same) (still_named done command p (here.notes p) were))
       ]
       by (inr named) = inr (record {
         before = done;
         after = command ∷ [];
         parts = refl;
         own = named.0;
+        own_is = named.1;
         named = subst (λ (state : _). AreNamed configuration.ports named.0 state.remembered ((noted_step configuration here command).1.notes p))
-            (notes_stand_beside_runs configuration done).state named.1;
+            (notes_stand_beside_runs configuration done).state named.2;
       })
 
   from_here : (done rest : List Command) → NotesAreOfAState configuration done → NotesAreOfAState configuration (done ++ rest)

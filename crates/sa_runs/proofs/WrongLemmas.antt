@@ -1,7 +1,7 @@
 -- A service of a limited member that another limited member is not shown, though the two are near each other by another partition.
 use Rattle.std.proofs.Common.{ℕ, Bool, true, false, ◌==◌, List, [], ◌∷◌, ◌≡◌, inl, inr, ap, refl}
 use Rattle.subnet_model.specs.Configuration.{ConfigurationState}
-use Rattle.sa_groups.specs.Examples.{adapter}
+use Rattle.subnet_model.specs.Examples.{adapter}
 use Rattle.sa_groups.specs.Groups.{Creator, GroupParameters, Membership, MulticastGroup}
 use Rattle.sa_replies.proofs.WrongStateLemmas.{alone}
 use Rattle.sa_services.specs.Services.{PortServices}
@@ -88,5 +88,5 @@ registrations_are_in_common law =
 pub nodes_are_no_files : NodesAreNoFiles
 nodes_are_no_files law = elim (law alone (noted_start alone) (ask 0x101 []) 0x101) [
   | inl same ↦ absurd cc
-  | inr named ↦ let of_file = named.1.each.0 in absurd cc
+  | inr named ↦ let of_file = named.2.each.0 in absurd cc
 ]

@@ -8,7 +8,8 @@ use Rattle.subnet_model.specs.declared.event.Outcome.{Outcome}
 use Rattle.subnet_model.specs.declared.event.Outcome.TheVariants.{Received, Refused}
 use Rattle.subnet_model.specs.Configuration.{ConfigurationState}
 use Rattle.subnet_model.specs.Report.{events_from, state_from, step_by}
-use Rattle.sa_groups.specs.Examples.{adapter, configuration}
+use Rattle.sa_groups.specs.Examples.{configuration}
+use Rattle.subnet_model.specs.Examples.{adapter}
 use Rattle.sa_groups.specs.Groups.{Creator}
 use Rattle.sa_records.specs.ServiceRecord.{service_record_bytes}
 use Rattle.sa_records.specs.ServiceMask as service_mask

@@ -38,19 +38,20 @@ abbrev pub IsNamedStep : ConfigurationState → NotedState → Command → Type 
 IsNamedStep configuration noted command =
     (own : SubnetPort) → port_with_guid configuration.ports (sender_of command) ≡ Some own → are_named_of configuration noted command own
 
--- ---- these records were named by what was remembered after some of the commands: a node and a path name their port, a service
--- its own, and a group who made it
-pub record WereNamed (configuration : ConfigurationState) (commands : List Command) (entries : List Entry) : Type 0 where
+-- ---- these records were named for the port of that GUID by what was remembered after some of the commands: a node and a path
+-- name their port, a service its own, and a group who made it
+pub record WereNamed (configuration : ConfigurationState) (commands : List Command) (p : ℕ) (entries : List Entry) : Type 0 where
   pub before : List Command
   pub after : List Command
   pub parts : before ++ after ≡ commands
   pub own : SubnetPort
+  pub own_is : p ≡ own.guid
   pub named : AreNamed configuration.ports own (remembered_after configuration before).remembered entries
 
 -- what is noted for a port after the commands is nothing, or was named so
 abbrev pub NotesAreOfAState : ConfigurationState → List Command → Type 0
 NotesAreOfAState configuration commands =
-    (p : ℕ) → ((noted_after configuration commands).notes p ≡ []) ⊎ WereNamed configuration commands ((noted_after configuration commands).notes p)
+    (p : ℕ) → ((noted_after configuration commands).notes p ≡ []) ⊎ WereNamed configuration commands p ((noted_after configuration commands).notes p)
 
 -- ---- so it is before and after each command of a run
 pub record IsRunNamed (configuration : ConfigurationState) (commands : List Command) : Type 0 where
@@ -61,12 +62,13 @@ pub record IsRunNamed (configuration : ConfigurationState) (commands : List Comm
 abbrev pub RunsNameSources : Type 0
 RunsNameSources = (configuration : ConfigurationState) (commands : List Command) → IsRunNamed configuration commands
 
--- ---- what a rule for the notes of a command owes: those of each port stay, or are named by what was remembered before it
+-- ---- what a rule for the notes of a command owes: those of each port stay, or are named for it by what was remembered before
 abbrev pub NamesNotes : NotedStepRule → Type 0
 NamesNotes rule =
     (configuration : ConfigurationState) (noted : NotedState) (command : Command) (p : ℕ)
     → ((rule configuration noted command).1.notes p ≡ noted.notes p)
-    ⊎ ((own : SubnetPort) × AreNamed configuration.ports own noted.state.remembered ((rule configuration noted command).1.notes p))
+    ⊎ ((own : SubnetPort) × (p ≡ own.guid)
+    × AreNamed configuration.ports own noted.state.remembered ((rule configuration noted command).1.notes p))
 
 -- ours pays it
 abbrev pub StepsNameNotes : Type 0

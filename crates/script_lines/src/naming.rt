@@ -8,7 +8,7 @@ ghost use Rattle.script_lines.specs.NamedPort.{place_if_cabled, switch_guid, swi
 use crate::script_cause::ScriptCause;
 use fabric_parts::PortRef;
 use text_words::port_in;
-use topo_file::{Node, Topology};
+use topo_file::{LargeTopology, Node, Topology};
 
 /// The place of the port that a word names, if there is one; a switch has ports from 1 here.
 #[tactic(auto, unfolding(crate::specs::NamedPort::named_place))]
@@ -27,7 +27,7 @@ pub(crate) fn named_place(topology: &Topology, word: &[u8]) -> Result<PortRef, S
 
 /// The GUID of the end port that a word names, if there is one.
 #[tactic(auto, unfolding(crate::specs::NamedPort::named_port))]
-pub fn named_port(topology: &Topology, word: &[u8]) -> Result<u64, ScriptCause>
+pub fn named_port(topology: &LargeTopology, word: &[u8]) -> Result<u64, ScriptCause>
     ensures { result ≡ named_port topology.now word.now }
 {
     let port = port_in(word).ok_or(ScriptCause::UnknownPort)?;
@@ -76,7 +76,7 @@ fn place_if_cabled(topology: &Topology, at: PortRef) -> Result<PortRef, ScriptCa
 }
 
 /// Port 0 of a switch.
-fn switch_port(topology: &Topology, place: usize, number: u128) -> Result<u64, ScriptCause>
+fn switch_port(topology: &LargeTopology, place: usize, number: u128) -> Result<u64, ScriptCause>
     ensures { result ≡ switch_port topology.now place number }
 {
     if number == 0 {
@@ -97,7 +97,7 @@ fn switch_guid(nodes: &[Node], place: usize) -> u64
 }
 
 /// A port of a channel adapter.
-fn adapter_port(topology: &Topology, place: usize, number: u128) -> Result<u64, ScriptCause>
+fn adapter_port(topology: &LargeTopology, place: usize, number: u128) -> Result<u64, ScriptCause>
     requires { is_switch_at topology.now.nodes place ≡ false }
     ensures { result ≡ adapter_port topology.now place number }
 {
@@ -107,7 +107,7 @@ fn adapter_port(topology: &Topology, place: usize, number: u128) -> Result<u64, 
     cabled_port(topology, at)
 }
 
-fn cabled_port(topology: &Topology, at: PortRef) -> Result<u64, ScriptCause>
+fn cabled_port(topology: &LargeTopology, at: PortRef) -> Result<u64, ScriptCause>
     requires adapter { is_switch_at topology.now.nodes at.node ≡ false }
     requires within { at.port ≤ ports_at topology.now.nodes at.node }
     ensures { result ≡ cabled_port topology.now at }

@@ -27,7 +27,6 @@ use Rattle.subnet_model.specs.Report.{state_from, step_by}
 use Rattle.subnet_model.specs.declared.command.Command.{Command}
 use Rattle.subnet_model.specs.declared.command.Command.TheVariants as command
 use Rattle.topo_file.specs.Topology.{TopologyState}
-use Rattle.updn_routes.specs.Subnet.{RoutesState}
 
 -- ---- commands one after another
 pub none_more : (old : SubnetState) → IsThrough [] old old
@@ -138,9 +137,7 @@ one_follows_all plan (command ∷ commands) was one other are are_too =
     (subst (λ (between : CablingState). AreCabledAfter plan commands between other) (sym same) are_too.2)
 
 pub one_fabric_is_left : OneFabricIsLeft
-one_fabric_is_left inventory commands one other is is_too same =
-    one_fabric_is_served inventory.plan inventory.configuration.ports (remembered_after inventory.configuration commands).remembered.partitions one.routes one.fabric other.fabric
-    is.served
-    (subst (λ (routes : RoutesState). IsServed inventory.plan inventory.configuration.ports (remembered_after inventory.configuration commands).remembered.partitions routes other.fabric)
-    (sym same) is_too.served)
+one_fabric_is_left inventory commands one other inventoried is is_too =
+    one_fabric_is_served inventory.plan inventory.configuration.ports (remembered_after inventory.configuration commands).remembered.partitions one.routes
+    other.routes one.fabric other.fabric inventoried.topology is.served is_too.served
     (one_follows_all inventory.plan commands _ (cabling_of one.fabric) (cabling_of other.fabric) is.cabling is_too.cabling)

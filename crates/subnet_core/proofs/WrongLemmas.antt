@@ -1,13 +1,13 @@
 -- Two ports that share no partition: the second event of a report is the first one where the other port does nothing; and one is not near the other.
 use Rattle.std.proofs.Common.{ℕ, ◌≡◌, zero, suc, true, false, List, [], ◌∷◌, ap}
-use Rattle.sa_groups.specs.Examples.{adapter}
+use Rattle.subnet_model.specs.Examples.{two_tenants}
 use Rattle.subnet_core.specs.WrongRules.{AllPortsAreNotNear, CountedEvent, CountedEventsReportOfFarPorts}
 use Rattle.subnet_model.specs.Configuration.{ConfigurationState}
 use Rattle.subnet_model.specs.declared.command.Command.{Command}
 use Rattle.subnet_model.specs.declared.command.Command.TheVariants.{Send}
 
 abbrev apart : ConfigurationState
-apart = record { ports = adapter 4 0x111 (0x8001 ∷ []) ∷ adapter 5 0x121 (0x8002 ∷ []) ∷ []; partitions = [] }
+apart = record { ports = two_tenants; partitions = [] }
 
 -- under a key that neither holds, so that each port refuses
 abbrev refused_of : ℕ → Command

@@ -1,5 +1,6 @@
 -- Who is in a subnet: its topology, and its end ports and partitions, from two texts alone.
 use Rattle.std.specs.Prelude.{ℕ, ◌≡◌, List, Option, Some, None, Result, Ok, Err}
+use Rattle.fabric_parts.specs.declared.limits.Limits.TheVariants.{Large}
 use Rattle.partition_file.specs.Members.{no_file}
 use Rattle.partition_file.specs.Partitions.{partitions_of}
 use Rattle.partition_file.specs.Sound.{IsSound as ArePartitions}
@@ -12,7 +13,7 @@ use Rattle.subnet_core.specs.declared.fault.RunFault.TheVariants.{NoMemory, Topo
 use Rattle.subnet_model.specs.Configuration.{ConfigurationState}
 use Rattle.subnet_ports.specs.Ports.{configuration_of}
 use Rattle.topo_file.specs.Sound.{IsSound}
-use Rattle.topo_file.specs.Topology.{TopologyState, topology_of}
+use Rattle.topo_file.specs.Topology.{TopologyState, topology_of, topology_within}
 
 -- nodes and cables; and the end ports by LID with their keys, and the partitions
 pub record InventoryState : Type 0 where
@@ -43,6 +44,13 @@ partitions_for None = Ok no_file
 unfoldable pub inventory_of : List ℕ → Option (List ℕ) → Result InventoryState RunFault
 inventory_of topology partitions = do
   plan ← of_text Topology (topology_of topology)
+  all ← partitions_for partitions
+  Ok (inventoried plan all)
+
+-- the same of a topology of any size, whose fabric need not be simulated
+unfoldable pub large_inventory_of : List ℕ → Option (List ℕ) → Result InventoryState RunFault
+large_inventory_of topology partitions = do
+  plan ← of_text Topology (topology_within Large topology)
   all ← partitions_for partitions
   Ok (inventoried plan all)
 

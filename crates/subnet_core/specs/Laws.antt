@@ -68,8 +68,8 @@ abbrev pub NearIsListed : Type 0
 NearIsListed = ListsNear near
 
 -- ---- what a script leaves
--- by the same routes it is one fabric
+-- is one fabric
 abbrev pub OneFabricIsLeft : Type 0
 OneFabricIsLeft =
-    (inventory : InventoryState) (commands : List Command) (one other : BroughtUpState) → IsUpAfter inventory commands one
-    → IsUpAfter inventory commands other → one.routes ≡ other.routes → one.fabric ≡ other.fabric
+    (inventory : InventoryState) (commands : List Command) (one other : BroughtUpState) → IsInventoried inventory
+    → IsUpAfter inventory commands one → IsUpAfter inventory commands other → one.fabric ≡ other.fabric

@@ -70,7 +70,7 @@ fn topology_of(alloc: Global, text: &[u8]) -> Result<Topology, RunFault>
     }
 }
 
-fn partitions_for(alloc: Global, text: Option<&[u8]>) -> Result<Partitions, RunFault>
+pub(crate) fn partitions_for(alloc: Global, text: Option<&[u8]>) -> Result<Partitions, RunFault>
     ensures { RunGives (λ partitions. partitions) result (partitions_for (option_copied text.entry)) }
 {
     let Some(text) = text else {
@@ -103,7 +103,7 @@ impl Inventory {
     pub fn named_port(&self, word: &[u8]) -> Result<u64, ScriptCause>
         ensures { result ≡ named_port self.now.plan word.now }
     {
-        named_port(&self.topology, word)
+        named_port(self.topology.as_large(), word)
     }
 
     /// Where the port of a channel adapter is that a word names: one that has a cable.

@@ -16,8 +16,8 @@ pub fn one_thing_becomes_of_a_fabric()
     ensures { OneThingBecomesOfAFabric }
 {}
 
-/// By the same routes one fabric is left by the commands of a script: which cables are in place, and all that its switches and
-/// ports hold then, follows from the topology, the partitions and these commands.
+/// One fabric is left by the commands of a script: which cables are in place, and all that its switches and ports hold then, follows
+/// from the topology, the partitions and these commands, and not from the order in which a sweep found the switches.
 pub fn one_fabric_is_left()
     ensures { OneFabricIsLeft }
 {}

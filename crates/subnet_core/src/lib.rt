@@ -6,7 +6,7 @@
 //! [`Subnet::parse`] and [`Subnet::step`] do the same piece by piece, and [`Report::text`] prints it. A subnet is brought
 //! up over the simulated fabric of its topology, and `specs/BringUp.antt` says when that fails; each step carries its
 //! command over that fabric (`specs/Senders.antt`), and gives the events, and leaves the memberships, that the list of ports
-//! gives (`specs/Answering.antt`). Who is in a subnet takes no fabric: [`read_inventory`] reads it, and [`Inventory::listing`] prints it (`specs/Listing.antt`).
+//! gives (`specs/Answering.antt`). Who is in a subnet takes no fabric: [`read_inventory`] reads it, of any size [`read_large_inventory`], and [`Inventory::listing`] prints it (`specs/Listing.antt`).
 #![tactic(auto)]
 
 mod acknowledging;
@@ -16,6 +16,7 @@ mod comparing;
 mod event_lines;
 mod fault;
 mod inventory;
+mod large_inventory;
 mod laws;
 mod leaving;
 mod listing;
@@ -30,6 +31,7 @@ pub use crate::bringing_up::bring_up;
 pub use crate::comparing::{Comparison, compare};
 pub use crate::fault::{RunFault, StepFault};
 pub use crate::inventory::{Inventory, read_inventory};
+pub use crate::large_inventory::{LargeInventory, read_large_inventory};
 pub use crate::laws::{
     all_ports_are_not_near, counted_events_report_of_far_ports, each_command_names_a_sender,
     near_is_listed, one_fabric_is_left, one_thing_becomes_of_a_fabric, report_lines_are_whole,

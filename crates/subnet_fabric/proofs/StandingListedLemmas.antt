@@ -7,6 +7,7 @@ use Rattle.fabric_parts.specs.declared.cable.PortRef.{PortRef}
 use Rattle.fabric_parts.specs.declared.node_type.NodeType.{NodeType}
 use Rattle.fabric_parts.specs.declared.node_type.NodeType.TheVariants as node_type
 use Rattle.fabric_wire.specs.Cabling.{CablingState, uncut}
+use Rattle.fabric_wire.proofs.OfTopologyGoodLemmas.{good as made_good}
 use Rattle.fabric_wire.specs.OfTopology.{fabric_of}
 use Rattle.fabric_wire.specs.Recabling.{cabling_of}
 use Rattle.delivery_laws.specs.Forwards.{ForwardsByLid, HoldsBackNothing, IsCabledPort}
@@ -16,8 +17,12 @@ use Rattle.port_model.specs.AdapterState.{AdapterState}
 use Rattle.partition_file.specs.Sound.{IsSound as ArePartitions}
 use Rattle.smp_wire.specs.FabricState.{FabricState}
 use Rattle.smp_wire.specs.Good.{IsGood}
+use Rattle.push_order_laws.proofs.PushLemmas.{masks_are_the_fabrics, pushes_are_the_fabrics}
+use Rattle.push_order_laws.specs.Laws.{AreRoutesIn}
+use Rattle.subnet_fabric.proofs.FoundLemmas.{laid_out}
 use Rattle.subnet_fabric.proofs.GroupLemmas.{a_fabric_with_groups_is_as_listed}
 use Rattle.subnet_fabric.proofs.ListedLemmas.{up}
+use Rattle.subnet_fabric.proofs.OneFateLemmas.{one_list}
 use Rattle.subnet_fabric.proofs.RecabledGroupLemmas.{masks_keep_it_up}
 use Rattle.subnet_fabric.proofs.RecabledLemmas.{brought_up_is_up_with_all}
 use Rattle.subnet_fabric.proofs.RecabledNodeLemmas.{cabled_same}
@@ -239,13 +244,28 @@ a_standing_fabric_is_as_listed plan partitions routes fabric receives sound whol
     is_as_listed plan partitions routes fabric receives sound whole standing groups
 
 pub one_fabric_stands : OneFabricStands
-one_fabric_stands plan keys routes receives one other stands stands_too same =
-    let base : base_of one ≡ base_of other =
-    stands.up.set_up.is ∙ ap (λ (c : CablingState). all_pushed routes keys (fabric_of (with_cables c.cables plan))) same ∙ sym stands_too.up.set_up.is in
+one_fabric_stands plan keys routes others receives one other sound stands stands_too same =
+    let in_use = with_cables (cabling_of one).cables plan in
+    let sound_now = what_is_up_is_sound plan (cabling_of one) (root_guids plan) keys routes one sound stands.up in
+    let up_too = subst (λ (c : CablingState). IsUpWith plan c (root_guids plan) keys others other) (sym same) stands_too.up in
+    let first = stands.up.set_up in
+    let second = up_too.set_up in
+    let lids = one_list in_use routes.graph others.graph routes.lids others.lids sound_now (laid_out (fabric_of in_use) routes.graph first.are.found)
+    (laid_out (fabric_of in_use) others.graph second.are.found) first.are.assigned second.are.assigned in
+    let mine : AreRoutesIn (fabric_of in_use) (root_guids plan) routes =
+    record { graph = first.are.found.of; home = first.home; made = first.are.made } in
+    let theirs : AreRoutesIn (fabric_of in_use) (root_guids plan) others =
+    record { graph = second.are.found.of; home = second.home; made = second.are.made } in
+    let base : base_of other ≡ base_of one =
+    second.is ∙ pushes_are_the_fabrics (fabric_of in_use) (root_guids plan) routes others keys (fabric_of in_use) (made_good in_use sound_now) mine theirs lids
+    ∙ sym first.is in
     let is = (masks_keep_it_up plan (cabling_of one) (root_guids plan) keys routes receives one stands.up).1 in
-    let is_too = (masks_keep_it_up plan (cabling_of other) (root_guids plan) keys routes receives other stands_too.up).1 in
-    let all : record (all_masks_pushed routes receives one) { cut = [] } ≡ record (all_masks_pushed routes receives other) { cut = [] } =
-    is ∙ ap (all_masks_pushed routes receives) base ∙ sym is_too in
+    let is_too = (masks_keep_it_up plan (cabling_of other) (root_guids plan) keys others receives other stands_too.up).1 in
+    let masked : all_masks_pushed others receives (base_of other) ≡ all_masks_pushed routes receives (base_of one) =
+    ap (all_masks_pushed others receives) base
+    ∙ masks_are_the_fabrics (fabric_of in_use) (root_guids plan) routes others receives (base_of one) (made_good in_use sound_now) mine theirs lids in
+    let all : record (all_masks_pushed routes receives one) { cut = [] } ≡ record (all_masks_pushed others receives other) { cut = [] } =
+    is ∙ sym masked ∙ sym is_too in
     λ i. record (all i) { cut = (same i).cut }
 
 pub one_cabling_follows : OneCablingFollows

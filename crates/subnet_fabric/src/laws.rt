@@ -81,7 +81,8 @@ pub fn a_standing_fabric_is_as_listed()
     ensures { AStandingFabricIsAsListed }
 {}
 
-/// What stands is one fabric for the same routes, keys, cables in place and groups, whatever was cut and mended before.
+/// What stands is one fabric for the same keys, cables in place and groups, whatever was cut and mended before, and in whatever order
+/// the sweep of its routes found the switches.
 pub fn one_fabric_stands()
     ensures { OneFabricStands }
 {}

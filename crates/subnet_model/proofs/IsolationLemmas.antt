@@ -27,7 +27,7 @@ use Rattle.subnet_model.specs.Report.{packet_of, received_by, unless_refused, an
 use Rattle.subnet_model.specs.Restriction.{acts_in, events_at}
 use Rattle.subnet_model.specs.Source.{is_lid_near, HasSlidNear, HaveSlidsNear, IsFromNear, ComesFromNear, same_lid}
 use Rattle.subnet_model.specs.Isolation.{Alike, Isolates, KeepsApart}
-use Rattle.subnet_model.specs.Laws.{Isolated}
+use Rattle.subnet_model.specs.Laws.{Isolated, SourcesAreRead}
 
 -- a step that keeps a port to itself brings it the same events when what is far from it is left out
 pub isolated : {S C E : Type 0} {start : S} {step : S → C → List E × S} {alike : S → S → Type 0} {is_near : C → Bool} {own_events : List E → List E}
@@ -603,3 +603,23 @@ pub slids_name_their_ports : (ports : List SubnetPort) (p : ℕ) (events : List 
     → ComesFromNear ports p events
 slids_name_their_ports ports p events distinct h =
     All-weaker (λ event. HasSlidNear ports p event.what) (λ event. IsFromNear ports p event.what) (λ event e. from_near ports p distinct event.what e) (events_at p events) h
+
+-- and where none of a LID near p is found, no port of that LID is near p
+pub sources_are_read : SourcesAreRead
+sources_are_read ports p packet distinct = elim (cases_Bool (is_lid_near ports p packet.slid)) [
+  | inl near ↦ from_near ports p distinct (Received packet) near ∙ sym near
+  | inr far ↦ none_found (find (λ port. port.lid == packet.slid) ports) refl far ∙ sym far
+]
+  where
+    none_found : (o : Option SubnetPort) → find (λ port. port.lid == packet.slid) ports ≡ o → is_lid_near ports p packet.slid ≡ false
+        → option_map_or (λ port. is_near ports p port.guid) o false ≡ false
+    none_found None found far = refl
+    none_found (Some port) found far = by (is_near ports p port.guid) refl
+      where
+        by : (b : Bool) → is_near ports p port.guid ≡ b → b ≡ false
+        by false near = refl
+        by true near =
+            let lid = found_passes (λ q. q.lid == packet.slid) ports port found in
+            let there = found_in (λ q. q.lid == packet.slid) (λ q. (q.lid == packet.slid) && is_near ports p q.guid) ports port found
+            (and_from (port.lid == packet.slid) (is_near ports p port.guid) lid near) in
+            absurd (both_ways (is_lid_near ports p packet.slid) far there)

@@ -1,3 +1,4 @@
 pub mod GroupLemmas
 pub mod IsolationLemmas
 pub mod KeptLemmas
+pub mod WrongLemmas

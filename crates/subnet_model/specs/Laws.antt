@@ -1,6 +1,7 @@
 -- What holds of every subnet and every list of commands.
 use Rattle.std.specs.Prelude.{ℕ, ◌≡◌, Bool, true, List, ◌∷◌, All}
 use Rattle.std.specs.List.{IsDistinct}
+use Rattle.data_packet.specs.declared.packet.Packet.{Packet}
 use Rattle.subnet_model.specs.declared.subnet_port.SubnetPort.{SubnetPort}
 use Rattle.subnet_model.specs.declared.command.CableCommand.{CableCommand}
 use Rattle.subnet_model.specs.declared.command.Command.{Command}
@@ -11,7 +12,7 @@ use Rattle.subnet_model.specs.Configuration.{ConfigurationState}
 use Rattle.subnet_model.specs.Near.{is_near}
 use Rattle.subnet_model.specs.Report.{step_by, report_by, state_from}
 use Rattle.subnet_model.specs.Restriction.{acts_in, commands_of, events_at}
-use Rattle.subnet_model.specs.Source.{ComesFromNear, HaveSlidsNear, is_lid_near, same_lid}
+use Rattle.subnet_model.specs.Source.{ComesFromNear, HaveSlidsNear, is_from_near, is_lid_near, same_lid}
 use Rattle.subnet_model.specs.Isolation.{Alike, Isolates, IsIsolated, KeepsApart}
 
 -- Whoever answers what is asked of subnet administration, and keeps ports apart: the step of a subnet keeps each port to
@@ -46,6 +47,16 @@ abbrev pub ThePortOfALidIsNear : Type 0
 ThePortOfALidIsNear =
     (ports : List SubnetPort) (p lid : ℕ) → IsDistinct same_lid ports → is_lid_near ports p lid ≡ true
     → All (λ port. port.lid ≡ lid → is_near ports p port.guid ≡ true) ports
+
+-- a rule for which packets come from near a port owes: it passes those whose SLID is the LID of a port near it, and no others
+abbrev pub ReadsSources : (List SubnetPort → ℕ → Packet → Bool) → Type 0
+ReadsSources comes_from_near =
+    (ports : List SubnetPort) (p : ℕ) (packet : Packet) → IsDistinct same_lid ports
+    → comes_from_near ports p packet ≡ is_lid_near ports p packet.slid
+
+-- ours pays it
+abbrev pub SourcesAreRead : Type 0
+SourcesAreRead = ReadsSources is_from_near
 
 -- so that each packet that p receives comes from a port near p
 abbrev pub SlidsNameTheirPorts : Type 0

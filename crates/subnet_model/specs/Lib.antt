@@ -12,3 +12,5 @@ pub mod Isolation
 pub use Rattle.pkey_rules.specs.PKey
 pub use Rattle.pkey_rules.specs.KeyTable
 pub mod Laws
+pub mod Examples
+pub mod WrongRules

@@ -2,7 +2,8 @@
 //! contract is the law.
 
 ghost use Rattle.subnet_model.specs.Groups.{GroupsReachOthers};
-ghost use Rattle.subnet_model.specs.Laws.{EveryKeeperIsolates, RestrictionsDropCables, SlidsNameTheirPorts, ThePortOfALidIsNear};
+ghost use Rattle.subnet_model.specs.Laws.{EveryKeeperIsolates, RestrictionsDropCables, SlidsNameTheirPorts, SourcesAreRead, ThePortOfALidIsNear};
+ghost use Rattle.subnet_model.specs.WrongRules.{DestinationsAreNoSources, NotAllComesFromNear};
 
 /// Whoever answers what is asked of the subnet administration: where it keeps ports apart, so does a subnet. A command
 /// of a port that is far from another brings that one no event, and leaves a state that is alike to it; one of a port
@@ -30,4 +31,15 @@ pub fn the_port_of_a_lid_is_near()
 /// Where no two ports have one LID, what a port receives comes from the ports near it.
 pub fn slids_name_their_ports()
     ensures { SlidsNameTheirPorts }
+{}
+
+/// Where no two ports have one LID, a packet comes from near a port if and only if its SLID is the LID of a port near it.
+pub fn sources_are_read()
+    ensures { SourcesAreRead }
+{}
+
+/// A rule that passes every packet as from near a port is refused, and so is one that reads the DLID for the SLID.
+pub fn far_sources_are_far()
+    ensures all { NotAllComesFromNear }
+    ensures destinations { DestinationsAreNoSources }
 {}

@@ -112,11 +112,16 @@ keyed_counted : (partitions : List Partition) (some : List EndPlace) → length 
 keyed_counted partitions [] = refl
 keyed_counted partitions (end_place ∷ some) = let rest = keyed_counted partitions some in omega arith
 
+pub as_many_ports : (partitions : List Partition) (plan : TopologyState) → length (ports_of partitions plan) ≡ length (end_places plan)
+as_many_ports partitions plan =
+    let all = in_order_counted plan (end_ports (end_places plan)) (keyed partitions (end_places plan)) [] in
+    let same = keyed_counted partitions (end_places plan) in
+    omega arith
+
 few_ports : (partitions : List Partition) (plan : TopologyState) → IsSound plan → length (ports_of partitions plan) ≤ 320
 few_ports partitions plan sound =
     let few = few_end_places plan sound.lines.limits.0 sound.lines.limits.1 in
-    let all = in_order_counted plan (end_ports (end_places plan)) (keyed partitions (end_places plan)) [] in
-    let same = keyed_counted partitions (end_places plan) in
+    let all = as_many_ports partitions plan in
     omega arith
 
 -- ---- all of it

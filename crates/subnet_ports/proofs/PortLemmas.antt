@@ -18,6 +18,7 @@ use Rattle.fabric_parts.specs.declared.cable.PortRef.{PortRef}
 use Rattle.fabric_parts.specs.declared.node_type.NodeType.{NodeType}
 use Rattle.fabric_parts.specs.declared.node_type.NodeType.TheVariants.{ChannelAdapter, Switch}
 use Rattle.fabric_parts.specs.Cable.{is_cabled}
+use Rattle.fabric_parts.specs.declared.limits.TheConstants.{LARGE_ADAPTER_PORTS, LARGE_SWITCHES}
 use Rattle.topo_file.specs.declared.node.Node.{Node}
 use Rattle.topo_file.specs.Node.{adapter_ports, port_guids, switch_count}
 use Rattle.topo_file.specs.Topology.{TopologyState}
@@ -104,6 +105,11 @@ few_from plan m (node ∷ nodes) =
 -- a subnet within the limits has few end ports
 pub few_end_places : (plan : TopologyState) → switch_count plan.nodes ≤ 64 → adapter_ports plan.nodes ≤ 256 → length (end_places plan) ≤ 320
 few_end_places plan switches ports = omega (arith, few_from plan 0 plan.nodes)
+
+-- and one of any size
+pub large_end_places : (plan : TopologyState) → switch_count plan.nodes ≤ LARGE_SWITCHES → adapter_ports plan.nodes ≤ LARGE_ADAPTER_PORTS
+    → length (end_places plan) ≤ LARGE_SWITCHES + LARGE_ADAPTER_PORTS
+large_end_places plan switches ports = omega (arith, few_from plan 0 plan.nodes, switches, ports)
 
 -- ---- end_places beside their keys
 -- the keys that were made for a list of end ports are those of the end_places

@@ -3,7 +3,8 @@
 ghost use Rattle.std.specs.Prelude.{◌≡◌, ◌+◌, ◌^◌, ◌<◌, ◌≤◌, [], ◌∷◌, ◌++◌, length, map, nat_le, All, IfOk, OnOk};
 ghost use Rattle.std.specs.List.{prefix_len, zip};
 ghost use Rattle.topo_file.specs.Node.{HasGuids, port_guid, ports_at};
-ghost use Rattle.fabric_parts.specs.declared.limits.TheConstants.{SWITCHES, ADAPTER_PORTS};
+ghost use Rattle.fabric_parts.specs.declared.limits.TheConstants.{LARGE_SWITCHES, LARGE_ADAPTER_PORTS};
+ghost use Rattle.partition_file.specs.Members.{AreSoundHeadings};
 ghost use Rattle.subnet_ports.specs.EndPorts.{AreEndPorts};
 ghost use Rattle.subnet_ports.specs.Ports.{switch_end_place, adapter_end_place, end_place_if_cabled, adapter_end_places, end_places_of_type, end_places, end_ports, type_of, guid_at, end_placed, with_port, with_end_place, in_order, configuration_of};
 ghost use Rattle.subnet_model.specs.Configured.{IsConfigured};
@@ -14,7 +15,7 @@ use partition_file::{Partitions, members};
 use pkey_rules::{EndPort, KeyTable, PARTITIONS};
 use std::alloc::{AllocError, Global};
 use subnet_model::{Configuration, NodeName, SubnetPort, lid_of};
-use topo_file::{Node, Topology, name_at, ports_at};
+use topo_file::{LargeTopology, Node, Topology, name_at, ports_at};
 
 /// Where an end port stands: the place of its node in the topology, and its number there.
 #[derive(Clone, Copy)]
@@ -37,6 +38,20 @@ pub fn configuration_of(
     ensures configured { IfOk result IsConfigured }
 {
     topology.known_sound();
+    let configuration = large_configuration_of(alloc, topology.as_large(), partitions)?;
+    Ok(configuration)
+}
+
+/// The same of a topology of any size, whose fabric need not be simulated.
+pub fn large_configuration_of(
+    alloc: Global,
+    topology: &LargeTopology,
+    partitions: &Partitions,
+) -> Result<Configuration, AllocError>
+    ensures value { IfOk result (λ configuration. configuration ≡ configuration_of partitions.now topology.now) }
+    ensures few { IfOk result (λ configuration. length configuration.ports ≤ LARGE_SWITCHES + LARGE_ADAPTER_PORTS) }
+    ensures headings { IfOk result (λ configuration. AreSoundHeadings configuration.partitions) }
+{
     let end_places = end_places(alloc, topology)?;
     let all = end_ports(alloc, &end_places)?;
     let (headings, keys) = members(alloc, partitions, &all)?.into_parts();
@@ -44,9 +59,9 @@ pub fn configuration_of(
     Ok(Configuration::new(ports, headings))
 }
 
-fn end_places(alloc: Global, topology: &Topology) -> Result<Vec<EndPlace>, AllocError>
+fn end_places(alloc: Global, topology: &LargeTopology) -> Result<Vec<EndPlace>, AllocError>
     ensures value { IfOk result (λ all. all.items ≡ end_places topology.now) }
-    ensures few { IfOk result (λ all. length all.items ≤ SWITCHES + ADAPTER_PORTS) }
+    ensures few { IfOk result (λ all. length all.items ≤ LARGE_SWITCHES + LARGE_ADAPTER_PORTS) }
 {
     let mut all = Vec::new(alloc);
     for (place, node) in topology.nodes().iter().enumerate() {
@@ -57,7 +72,7 @@ fn end_places(alloc: Global, topology: &Topology) -> Result<Vec<EndPlace>, Alloc
 
 fn push_end_places(
     all: &mut Vec<EndPlace>,
-    topology: &Topology,
+    topology: &LargeTopology,
     place: usize,
     node: &Node,
 ) -> Result<(), AllocError>
@@ -90,7 +105,7 @@ fn switch_end_place(place: usize, node: &Node) -> EndPlace
 
 fn push_adapter_end_places(
     all: &mut Vec<EndPlace>,
-    topology: &Topology,
+    topology: &LargeTopology,
     place: usize,
     node: &Node,
 ) -> Result<(), AllocError>
@@ -110,7 +125,7 @@ fn push_adapter_end_places(
 
 fn push_if_cabled(
     all: &mut Vec<EndPlace>,
-    topology: &Topology,
+    topology: &LargeTopology,
     node: &Node,
     at: PortRef,
 ) -> Result<(), AllocError>
@@ -154,7 +169,7 @@ fn in_order(
     end_places: &[EndPlace],
     keys: Vec<KeyTable<PARTITIONS>>,
 ) -> Result<Vec<SubnetPort>, AllocError>
-    requires { length all.now ≤ SWITCHES + ADAPTER_PORTS }
+    requires { length all.now ≤ LARGE_SWITCHES + LARGE_ADAPTER_PORTS }
     ensures { IfOk result (λ ports. ports.items ≡ in_order nodes.now all.now (zip end_places.now keys.items)) }
 {
     let mut ports = Vec::new(alloc);

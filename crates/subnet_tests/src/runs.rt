@@ -82,6 +82,63 @@ fn a_run_that_asks_is_reported_or_memory_is_refused(rt: HostRuntime) -> Result<(
     Ok(())
 }
 
+/// Requests of members, as h1 on switch A makes a group and the others, both on B, join and leave it; and how many SMPs the subnet
+/// manager sends for each: one for each block of a multicast forwarding table that changes.
+const COSTS: [(&str, u64); 8] = [
+    (
+        "ask h1/1 set member tid=1 mgid=0xff12000000000000000000000000000a \
+            portgid=0xfe800000000000000000000000000111 qkey=1 tclass=0 pkey=0x8001 sl=0 flow=0 join=1",
+        2,
+    ),
+    (
+        "ask h2/1 set member tid=2 mgid=0xff12000000000000000000000000000a \
+            portgid=0xfe800000000000000000000000000121 pkey=0x8001 join=1",
+        2,
+    ),
+    (
+        "ask h3/1 set member tid=3 mgid=0xff12000000000000000000000000000a \
+            portgid=0xfe800000000000000000000000000131 pkey=0x8001 join=1",
+        1,
+    ),
+    (
+        "ask h3/1 set member tid=4 mgid=0xff12000000000000000000000000000a \
+            portgid=0xfe800000000000000000000000000131 pkey=0x8001 join=1",
+        0,
+    ),
+    ("ask h2/1 table member tid=5", 0),
+    ("send h1/1 0xc020 0x8001 7 1:01", 0),
+    (
+        "ask h3/1 delete member tid=6 mgid=0xff12000000000000000000000000000a \
+            portgid=0xfe800000000000000000000000000131 pkey=0x8001 join=1",
+        1,
+    ),
+    (
+        "ask h2/1 delete member tid=7 mgid=0xff12000000000000000000000000000a \
+            portgid=0xfe800000000000000000000000000121 pkey=0x8001 join=1",
+        2,
+    ),
+];
+
+/// How many SMPs a line costs.
+fn cost(subnet: &mut Subnet, line: &str) -> Result<u64, Fail> {
+    let before = subnet.fabric().exchanges();
+    heard(subnet, line.as_bytes())?;
+    Ok(subnet.fabric().exchanges().wrapping_sub(before))
+}
+
+#[test]
+fn only_blocks_that_change_are_set(rt: HostRuntime) -> Result<(), Fail> {
+    let mut subnet = bring_up(
+        rt.alloc(),
+        TWO_SWITCHES.as_bytes(),
+        Some(PARTITIONS.as_bytes()),
+    )?;
+    for (line, smps) in COSTS {
+        assert_eq!(rt; cost(&mut subnet, line)?, smps);
+    }
+    Ok(())
+}
+
 /// Near h3 are the SM port, a full member of the default partition, h1, a full member of P1, and h3 itself. h2 is a limited
 /// member of both, as h3 is.
 const NEAR_H3: [u64; 3] = [0x101, 0x111, 0x131];

@@ -114,6 +114,11 @@ pub record IsHung (fabric : FabricState) (found : List Found) (one : GraphPort) 
   pub there : PortRef
   pub cable : far_end fabric.cables (port (node_at found one.at.node) one.at.port) ≡ Some there
   pub adapter : is_switch_at fabric.nodes there.node ≡ false
+  pub seen : Seen
+  pub seen_is : seen_at fabric there ≡ Some seen
+  pub guid_is : seen.port_guid ≡ one.port_guid
+  pub node_is : seen.node_guid ≡ one.node_guid
+  pub number_is : seen.local_port_num ≡ one.number
 
 pub is_hung : (fabric : FabricState) (graph : GraphState) (k : ℕ) (one : GraphPort) → (of : IsGraphOf graph fabric) → slice_get graph.ports k ≡ Some one
     → IsHung fabric of.layout.found one
@@ -124,6 +129,11 @@ is_hung fabric graph k one of there =
       there = a.behind.there;
       cable = ap (λ (p : PortRef). far_end fabric.cables (port (node_at of.layout.found p.node) p.port)) at ∙ a.behind.cable;
       adapter = a.behind.adapter;
+      seen = a.behind.seen;
+      seen_is = a.behind.seen_is;
+      guid_is = sym (ap (λ (p : GraphPort). p.port_guid) a.behind.is);
+      node_is = sym (ap (λ (p : GraphPort). p.node_guid) a.behind.is);
+      number_is = sym (ap (λ (p : GraphPort). p.number) a.behind.is);
     }
 
 -- at one port of a switch there is one

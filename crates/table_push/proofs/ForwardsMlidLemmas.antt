@@ -60,7 +60,7 @@ module _ (routes : RoutesState) (roots : List ℕ) (keys : List (List ℕ)) (fab
       at_it = ap (λ (n : ℕ). is_in_masks_at fabric.nodes mlid (port n here.port)) attachment.node
 
       reach : is_in_masks_at fabric.nodes mlid here ≡ true → IsReached routes receives attachment.place mlid here.port
-      reach set = bit_reaches routes fabric home.graph up.graph receives has attachment.place attachment.found attachment.there mlid here.port range.1 (at_it ∙ set)
+      reach set = bit_reaches routes fabric home.graph up.graph receives has attachment.place attachment.found attachment.there mlid here.port (at_it ∙ set)
 
       receives_it : IsReached routes receives attachment.place mlid here.port → receives mlid one.info.lid ≡ true
       receives_it one_lid = by (one_lid.home.node == attachment.place) refl

@@ -57,4 +57,5 @@ pub mod SpreadStepLemmas
 pub mod SpreadLeadLemmas
 pub mod SpreadAwayLemmas
 pub mod ForwardsMlidLemmas
+pub mod IdleBitLemmas
 pub mod AllMaskLemmas

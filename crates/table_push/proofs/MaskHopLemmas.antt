@@ -114,6 +114,19 @@ has_bits routes receives place mlid number is = by (slice_get (masks_of routes r
         by_made None made = absurd (none-some words made)
         by_made (Some position) made = by_words position words (same_Some (mask_of_position routes receives place position) words made) is
 
+-- and masks have bits of 48 ports
+bit_within : (routes : RoutesState) (receives : ℕ → ℕ → Bool) (place mlid number : ℕ) → is_in_masks (masks_of routes receives place) mlid number ≡ true
+    → number < 48
+bit_within routes receives place mlid number is = by (slice_get (masks_of routes receives place) (number / 16)) refl is
+  where
+    by : (o : Option (List ℕ)) → slice_get (masks_of routes receives place) (number / 16) ≡ o
+        → option_map_or (λ mask. bit_at mask (number % 16) == 1) (option_and_then (mask_of mlid) o) false ≡ true → number < 48
+    by None at is = absurd (false≢true is)
+    by (Some words) at is =
+        let few = slice_get_within (masks_of routes receives place) (number / 16) words at in
+        let count : length (masks_of routes receives place) ≡ 3 = length-map-range_with_len (mask_of_position routes receives place) 0 3 in
+        omega (arith, few, count)
+
 module _ (routes : RoutesState) (fabric : FabricState) (graph : IsGraph routes.graph) (of : IsGraphOf routes.graph fabric) (receives : ℕ → ℕ → Bool) (has : HasMasksOf routes receives fabric) where
   -- ---- the masks of a switch
   record Holds (place : ℕ) (found : Found) : Type 0 where
@@ -149,13 +162,19 @@ module _ (routes : RoutesState) (fabric : FabricState) (graph : IsGraph routes.g
       ∙ ap (λ (masks : List (List ℕ)). is_in_masks masks mlid number) one.masks
 
   -- a bit that is set leads to a LID that receives
-  pub bit_reaches : (place : ℕ) (found : Found) → slice_get of.layout.found place ≡ Some found → (mlid number : ℕ) → number ≤ 36
+  pub bit_reaches : (place : ℕ) (found : Found) → slice_get of.layout.found place ≡ Some found → (mlid number : ℕ)
       → is_in_masks_at fabric.nodes mlid (port found.node number) ≡ true → IsReached routes receives place mlid number
-  bit_reaches place found stands mlid number few is =
+  bit_reaches place found stands mlid number is =
       let set = sym (bit_of place found stands mlid number) ∙ is in
       let bits = has_bits routes receives place mlid number set in
       reached routes receives place mlid number
-      (sym (masks_are_read routes receives place mlid number bits.multicast bits.within (omega (arith, few))) ∙ set)
+      (sym (masks_are_read routes receives place mlid number bits.multicast bits.within (bit_within routes receives place mlid number set)) ∙ set)
+
+  -- and it is of an MLID that tables have
+  pub bits_at : (place : ℕ) (found : Found) → slice_get of.layout.found place ≡ Some found → (mlid number : ℕ)
+      → is_in_masks_at fabric.nodes mlid (port found.node number) ≡ true → HasBits mlid
+  bits_at place found stands mlid number is =
+      has_bits routes receives place mlid number (sym (bit_of place found stands mlid number) ∙ is)
 
   -- and where a LID that receives is reached the bit is set
   pub bit_is_set : (place : ℕ) (found : Found) → slice_get of.layout.found place ≡ Some found → (mlid number : ℕ) → number ≤ 36 → HasBits mlid

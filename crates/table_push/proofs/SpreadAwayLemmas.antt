@@ -14,7 +14,7 @@ use Rattle.table_push.specs.BroughtUp.{IsBroughtUp, RoutesLeadHome}
 use Rattle.table_push.specs.Laws.{HasMasksOf}
 use Rattle.table_push.proofs.MaskHopLemmas.{IsReached, bit_reaches}
 use Rattle.table_push.proofs.AttachmentLemmas.{IsAttached, is_no_switch, attached}
-use Rattle.table_push.proofs.SpreadStepLemmas.{by_side, faces_no_switch, home_within, no_bits, out_range, stands_switch}
+use Rattle.table_push.proofs.SpreadStepLemmas.{by_side, faces_no_switch, home_within, no_bits, stands_switch}
 use Rattle.table_push.proofs.TreeCableLemmas.{one_node, side_cable, within_rows}
 use Rattle.table_push.proofs.TreeHopLemmas.{hop_home, neighbour_of, parted, side_port}
 use Rattle.updn_routes.specs.Sides.{IsSide, Side, back, is_behind, neighbour}
@@ -81,7 +81,6 @@ module _ (routes : RoutesState) (roots : List ℕ) (keys : List (List ℕ)) (fab
       reach : IsReached routes receives s mlid copy.out
       reach =
           bit_reaches routes fabric home.graph up.graph receives has s found stands mlid copy.out
-          (out_range routes roots keys fabric home right up found.node copy.out next cable).1
           (ap (λ (n : ℕ). is_in_masks_at fabric.nodes mlid (port n copy.out)) node ∙ copy.group)
 
       -- out to the port of a channel adapter, which is another one

@@ -73,19 +73,32 @@ module _ (routes : RoutesState) (roots : List ℕ) (keys : List (List ℕ)) (fab
       (at ∷ [], (copies mlid t at end s found here at t.port stands node (hop_home routes roots home right s t is) away cable, refl))
 
   -- over a cable of the tree
-  record Step (mlid : ℕ) (t : PortRef) (here : PortRef) (far : ℕ) : Type 0 where
-    next : PortRef
-    there : Found
-    stands : Stands far there
-    node : there.node ≡ next.node
-    goes : Copies fabric.nodes fabric.cables mlid here next
-    away : tree_hop routes far t ≡ Some next.port → ⊥
+  pub record Step (mlid : ℕ) (t : PortRef) (s : ℕ) (found : Found) (here : PortRef) (far : ℕ) : Type 0 where
+    pub next : PortRef
+    pub there : Found
+    pub stands : Stands far there
+    pub node : there.node ≡ next.node
+    pub goes : Copies fabric.nodes fabric.cables mlid here next
+    pub number : ℕ
+    pub hop : tree_hop routes s t ≡ Some number
+    pub cable : far_end fabric.cables (port found.node number) ≡ Some next
+    pub away : tree_hop routes far t ≡ Some next.port → ⊥
 
-  step : (mlid : ℕ) (t at : PortRef) → IsEnd mlid t at → (s : ℕ) (found : Found) (here : PortRef) → Stands s found → found.node ≡ here.node
+  pub step : (mlid : ℕ) (t at : PortRef) → IsEnd mlid t at → (s : ℕ) (found : Found) (here : PortRef) → Stands s found → found.node ≡ here.node
       → (tree_hop routes s t ≡ Some here.port → ⊥) → (q : Side) → IsSide rows depths s q → is_behind rows depths s q t.node ≡ true
-      → (far : ℕ) → neighbour rows depths s q ≡ Some far → Step mlid t here far
+      → (far : ℕ) → neighbour rows depths s q ≡ Some far → Step mlid t s found here far
   step mlid t at end s found here stands node away q side behind far is =
-      record { next = next; there = one.there; stands = one.stands; node = refl; goes = goes; away = not_back (t.node == far) refl }
+      record {
+        next = next;
+        there = one.there;
+        stands = one.stands;
+        node = refl;
+        goes = goes;
+        number = one.out;
+        hop = hop;
+        cable = one.cable;
+        away = not_back (t.node == far) refl;
+      }
     where
       less : s < length rows
       less = within_rows routes roots fabric home right up.good up.graph s found stands

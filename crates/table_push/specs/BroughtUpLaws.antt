@@ -6,7 +6,7 @@ use Rattle.fabric_parts.specs.Lid.{is_multicast}
 use Rattle.fabric_parts.specs.declared.lid.TheConstants.{FIRST_MULTICAST_LID}
 use Rattle.lid_assign.specs.Lids.{lid_in}
 use Rattle.delivery_laws.specs.Forwards.{ForwardsByLid}
-use Rattle.delivery_laws.specs.Groups.{ForwardsByMlid}
+use Rattle.delivery_laws.specs.Groups.{ForwardsByMlid, HasNoIdleBits}
 use Rattle.smp_wire.specs.FabricState.{FabricState}
 use Rattle.smp_wire.specs.Good.{IsGood}
 use Rattle.fabric_parts.specs.declared.cable.PortRef.{PortRef}
@@ -42,6 +42,13 @@ BroughtUpForwardsByMlid =
     → RoutesLeadHome routes → AreDepths routes.between.rows routes.between.guids roots routes.between.depths
     → length keys ≡ length routes.lids → IsBroughtUp routes keys fabric → HasMasksOf routes receives fabric → AreOfGroups receives
     → ForwardsByMlid fabric (by_guid routes.lids receives)
+
+-- and no bit of theirs is set in vain
+abbrev pub BroughtUpHasNoIdleBits : Type 0
+BroughtUpHasNoIdleBits =
+    (routes : RoutesState) (roots : List ℕ) (keys : List (List ℕ)) (fabric : FabricState) (receives : ℕ → ℕ → Bool)
+    → RoutesLeadHome routes → AreDepths routes.between.rows routes.between.guids roots routes.between.depths
+    → IsBroughtUp routes keys fabric → HasMasksOf routes receives fabric → HasNoIdleBits fabric (by_guid routes.lids receives)
 
 -- all masks of a test leave a fabric up, and its switches have them then
 abbrev pub MasksKeepWhatIsUp : Type 0

@@ -1,6 +1,6 @@
 //! What holds after every push. The functions do nothing; their clauses are the theorems.
 
-ghost use Rattle.table_push.specs.BroughtUpLaws.{AllMasksAreThere, BroughtUpForwardsByLid, BroughtUpForwardsByMlid, MasksKeepWhatIsUp, PushesBringUp, PushesKeepTheEndPorts};
+ghost use Rattle.table_push.specs.BroughtUpLaws.{AllMasksAreThere, BroughtUpForwardsByLid, BroughtUpForwardsByMlid, BroughtUpHasNoIdleBits, MasksKeepWhatIsUp, PushesBringUp, PushesKeepTheEndPorts};
 ghost use Rattle.table_push.specs.Forget.{PushesForget, PushesReplace};
 ghost use Rattle.table_push.specs.SetUp.{EachPortIsServed, EachSwitchIsSetUp};
 ghost use Rattle.table_push.specs.Laws.{EverySwitchHasItsTable, MasksAreRead, PushesKeepTheGraph, MlidRangesAreTheirOwn, MlidRangesMakeAll, MlidRangesMakeTheWhole};
@@ -34,6 +34,12 @@ pub fn brought_up_forwards_by_lid()
 /// receiver, to no other port of a channel adapter, and never back to the port that sends.
 pub fn brought_up_forwards_by_mlid()
     ensures { BroughtUpForwardsByMlid }
+{}
+
+/// And no bit of these masks is set in vain: over the cable of its port, and from there by the bits of that multicast LID, a
+/// receiver is reached. So a switch sends what is for a group to another only if a member lies beyond it.
+pub fn brought_up_has_no_idle_bits()
+    ensures { BroughtUpHasNoIdleBits }
 {}
 
 /// A fabric that is brought up still is once its switches have all masks of some receivers, and then the masks of every

@@ -34,8 +34,8 @@ pub use crate::fault::PushFault;
 pub use crate::groups::port_masks;
 pub use crate::keys::push_keys;
 pub use crate::laws::{
-    brought_up_forwards_by_lid, brought_up_forwards_by_mlid, brought_up_is_as_routed,
-    every_switch_has_its_table, masks_are_read, masks_keep_what_is_up,
+    brought_up_forwards_by_lid, brought_up_forwards_by_mlid, brought_up_has_no_idle_bits,
+    brought_up_is_as_routed, every_switch_has_its_table, masks_are_read, masks_keep_what_is_up,
     mlid_ranges_are_of_the_whole, pushes_bring_up, pushes_forget, pushes_keep_the_graph,
 };
 pub use crate::linear::push_linear;

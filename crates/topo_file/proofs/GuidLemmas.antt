@@ -9,7 +9,7 @@ use Rattle.topo_file.specs.Node.{IsGuidOf, last_guid, shares_guid}
 is_guid : (a : Node) (guid : ℕ) → a.guid ≤ guid → guid ≤ last_guid a → IsGuidOf a guid
 is_guid a guid low high = (guid - a.guid, omega (arith, low, high), omega (arith, low))
 
-shared : (a b : Node) → a.guid ≤ last_guid b → b.guid ≤ last_guid a → (b_first : Bool) → nat_le a.guid b.guid ≡ b_first
+pub shared : (a b : Node) → a.guid ≤ last_guid b → b.guid ≤ last_guid a → (b_first : Bool) → nat_le a.guid b.guid ≡ b_first
     → (guid : ℕ) × IsGuidOf a guid × IsGuidOf b guid
 shared a b first second true is =
     (b.guid, is_guid a b.guid (leb-true a.guid b.guid is) second, is_guid b b.guid (omega arith) (omega arith))

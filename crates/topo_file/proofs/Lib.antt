@@ -7,5 +7,6 @@ pub mod CableLemmas
 pub mod AcceptedLemmas
 pub mod SoundLemmas
 pub mod GuidLemmas
+pub mod KnownGuidLemmas
 pub mod WithinLemmas
 pub mod TopologyLemmas

@@ -1,6 +1,5 @@
 -- What a topology within some limits has: they stay the same from line to line, and the large ones are passed by none.
-use Rattle.std.proofs.Common.{◌≡◌, ◌≤◌, ◌+◌, ◌∙◌, ℕ, Bool, true, false, ◌&&◌, nat_le, List, [], ◌∷◌, Option, Some, None, Result, Ok, Err, if◌then◌else◌, refl, sym, ap, arith, codes}
-use Rattle.std.specs.List.{list_all}
+use Rattle.std.proofs.Common.{◌≡◌, ◌≤◌, ◌+◌, ◌∙◌, ℕ, Bool, true, false, nat_le, List, [], ◌∷◌, Some, Result, Ok, Err, if◌then◌else◌, refl, sym, ap, arith, codes}
 use Rattle.std.specs.Option.{ok_or}
 use Rattle.std.specs.Str.{bytes_eq}
 use Rattle.std.proofs.lemmas.Bool.{and_from, and_parts, le-leb, leb-true}
@@ -18,7 +17,7 @@ use Rattle.fabric_parts.specs.declared.node_type.NodeType.TheVariants.{ChannelAd
 use Rattle.topo_file.specs.Node.{adapter_ports}
 use Rattle.topo_file.specs.Connectivity.{AllJoined}
 use Rattle.topo_file.specs.Sound.{AreSoundWithin, IsSoundSoFar, IsSoundWithin, is_sized_within, on_adapter}
-use Rattle.topo_file.specs.Topology.{DraftState, after_line, after_words, with_cable, with_manager, with_node, with_root}
+use Rattle.topo_file.specs.Topology.{DraftState, after_line, after_words}
 use Rattle.topo_file.specs.declared.fault.TopologyCause.{TopologyCause}
 use Rattle.topo_file.specs.declared.draft.Manager.{Manager}
 use Rattle.topo_file.specs.declared.node.Node.{Node}

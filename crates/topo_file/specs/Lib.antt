@@ -1,6 +1,7 @@
 pub mod Fault
 pub mod Node
 pub mod NewNode
+pub mod Guids
 pub mod Cable
 pub mod Connectivity
 pub mod Rounds

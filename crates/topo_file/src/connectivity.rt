@@ -1,7 +1,7 @@
 //! Whether cables join all switches.
 
 ghost use Rattle.std.specs.Prelude.{ℕ, ◌≡◌, ◌↔◌, ◌==◌, ◌&&◌, ◌||◌, true, IfOk, length, map, nat_lt, position};
-ghost use Rattle.std.specs.List.{enumerate_from, list_all, zip};
+ghost use Rattle.std.specs.List.{list_all, zip};
 ghost use Rattle.topo_file.specs.Node.{is_switch, is_switch_at, switch_count};
 ghost use Rattle.topo_file.specs.Connectivity.{AllJoined, is_connected};
 ghost use Rattle.topo_file.specs.Rounds.{after_rounds, is_marked, is_same, is_same_mark, kept, leads_to_all, marks_all, only, spread};

@@ -12,7 +12,7 @@ ghost use Rattle.topo_file.specs.Topology.{is_root, new_node, new_cable, new_roo
 
 use crate::cable::{CableList, may_join, port_at};
 use crate::fault::TopologyCause;
-use crate::node::{NewNode, NodeList, is_switch_at, lacks_guids};
+use crate::node::{NewNode, NodeList, is_switch_at};
 use fabric_parts::{Cable, Limits, NodeType, PortRef};
 use std::alloc::Global;
 use std::marker::Model;
@@ -75,11 +75,10 @@ impl Draft {
         ensures guids { OnOk result (HasGuids (seen node.now)) }
         ensures room { OnOk result (is_one_too_many self.now.limits self.now.nodes node.now.node_type node.now.ports ≡ false) }
     {
-        let nodes = self.nodes.as_slice();
         if self.nodes.place_of(node.name).is_some() {
             return Err(TopologyCause::DuplicateName);
         }
-        if lacks_guids(nodes, node) {
+        if self.nodes.lacks_guids(node) {
             return Err(TopologyCause::DuplicateGuid);
         }
         if self.is_one_too_many(node.node_type, node.ports) {

@@ -1,6 +1,6 @@
 //! A topology of any size that we take.
 
-ghost use Rattle.std.specs.Prelude.{◌≡◌, ◌+◌, ◌≤◌, true, false, All, IfSome, nat_eq};
+ghost use Rattle.std.specs.Prelude.{◌≡◌, ◌≤◌, true, false, All, IfSome, nat_eq};
 ghost use Rattle.std.specs.List.{list_all, IsDistinct};
 ghost use Rattle.fabric_parts.specs.Cable.{is_cabled};
 ghost use Rattle.fabric_parts.specs.declared.limits.Limits.TheVariants.{Large};

@@ -1,7 +1,8 @@
 //! The nodes of a topology.
 
 ghost use Rattle.std.specs.Prelude.{◌≡◌, ◌≤◌, ◌<◌, ◌^◌, ◌+◌, length, [], ◌∷◌, ◌++◌, None, IfOk, OnOk, OnErr};
-ghost use Rattle.topo_file.specs.Node.{is_switch, is_switch_at, lacks_guids, last_guid, name_at, place_of, port_guid, port_guids, ports_at, shares_guid, switch_count};
+ghost use Rattle.topo_file.specs.Node.{HasGuids, is_switch, is_switch_at, lacks_guids, last_guid, name_at, place_of, port_guid, port_guids, ports_at, shares_guid, switch_count};
+ghost use Rattle.topo_file.specs.Guids.{KnowMore, KnowSame};
 ghost use Rattle.std.specs.List.{list_any};
 ghost use Rattle.topo_file.specs.NewNode.{seen};
 ghost use Rattle.fabric_parts.specs.declared.limits.TheConstants.{NAME_BYTES};
@@ -77,13 +78,6 @@ impl Node {
     {
         self.guid + u64::from(number)
     }
-
-    /// The last GUID that the node uses, which may be past 64 bits.
-    fn last_guid(&self) -> u128
-        ensures { result ≡ last_guid self.now }
-    {
-        u128::from(self.guid) + u128::from(port_guids(self.node_type, self.ports))
-    }
 }
 
 /// The name of the node there, or no name where there is none.
@@ -108,39 +102,37 @@ pub(crate) struct NewNode<'a> {
 
 impl NewNode<'_> {
     ghost use Rattle.topo_file.specs.NewNode.{seen};
-    ghost use Rattle.topo_file.specs.Node.{last_guid, shares_guid};
+    ghost use Rattle.topo_file.specs.Node.{last_guid};
 
+    /// The last GUID that the node uses, which may be past 64 bits.
     fn last_guid(&self) -> u128
         ensures { result ≡ last_guid (seen self.now) }
     {
         u128::from(self.guid) + u128::from(port_guids(self.node_type, self.ports))
     }
-
-    fn shares_guid(&self, other: &Node) -> bool
-        ensures { result ≡ shares_guid (seen self.now) other.now }
-    {
-        u128::from(self.guid) <= other.last_guid() && u128::from(other.guid) <= self.last_guid()
-    }
 }
 
-/// Nodes with different names, in the order in which they were added, and found by name in constant
-/// time.
+/// Nodes with different names, in the order in which they were added; names and GUIDs are found in constant time.
 #[derive(Debug, Drop)]
 pub(crate) struct NodeList {
     // The names again, each at the place of its node.
     names: IndexSet<Vec<u8>>,
+    // The GUIDs of all nodes.
+    guids: IndexSet<u64>,
     nodes: Vec<Node>,
 }
 
 impl Model for NodeList {
     ghost use Rattle.std.specs.Prelude.{◌≡◌, List, map};
     ghost use Rattle.topo_file.specs.declared.node.Node.{Node};
+    ghost use Rattle.topo_file.specs.Guids.{KnowsGuids};
 
     ghost Value = { List Node };
 
     ghost view = { λ list. list.nodes.items };
 
-    ghost invariant = { λ list. map (λ key. key.items) list.names.keys ≡ map (λ node. node.name) list.nodes.items };
+    ghost invariant = { λ list. (map (λ key. key.items) list.names.keys ≡ map (λ node. node.name) list.nodes.items)
+        × KnowsGuids list.guids.keys list.nodes.items };
 }
 
 impl NodeList {
@@ -149,6 +141,7 @@ impl NodeList {
     {
         NodeList {
             names: IndexSet::new(alloc),
+            guids: IndexSet::new(alloc),
             nodes: Vec::new(alloc),
         }
     }
@@ -166,16 +159,38 @@ impl NodeList {
         self.names.get_index_of(name)
     }
 
+    /// Whether a GUID of the node is used already, or does not fit, in constant time.
+    pub(crate) fn lacks_guids(&self, node: &NewNode) -> bool
+        ensures { result ≡ lacks_guids self.now (seen node.now) }
+    {
+        node.last_guid() > u128::from(u64::MAX) || self.shares_some_guid(node)
+    }
+
+    fn shares_some_guid(&self, node: &NewNode) -> bool
+        requires { HasGuids (seen node.now) }
+        ensures { result ≡ list_any (λ other. shares_guid (seen node.now) other) self.now }
+    {
+        for number in 0..u64::from(port_guids(node.node_type, node.ports)) + 1 {
+            if self.guids.contains(&(node.guid + number)) {
+                return true;
+            }
+        }
+        false
+    }
+
     /// Adds a node at the end. It can only run out of memory, and then the list stays as it was.
     pub(crate) fn push(&mut self, alloc: Global, node: &NewNode) -> Result<(), AllocError>
         requires new { place_of node.now.name.now self.old ≡ None }
         requires short { length node.now.name.now ≤ NAME_BYTES }
+        requires guids { HasGuids (seen node.now) }
         ensures ok { OnOk result (self.new ≡ self.old ++ seen node.now ∷ []) }
         ensures err { OnErr result (self.new ≡ self.old) }
     {
         let key = Vec::from_slice(alloc, node.name)?;
         let name = Name::new(alloc, node.name)?;
         self.nodes.reserve(1)?;
+        self.names.reserve(1)?;
+        know_guids(&mut self.guids, node)?;
         self.names.insert(key)?;
         self.nodes.push(Node {
             name,
@@ -217,17 +232,18 @@ fn port_guids(node_type: NodeType, ports: u8) -> u8
     }
 }
 
-/// Whether a GUID of the node is used already, or does not fit.
-pub(crate) fn lacks_guids(nodes: &[Node], node: &NewNode) -> bool
-    ensures { result ≡ lacks_guids nodes.now (seen node.now) }
+/// Notes the GUIDs of a node. It can only run out of memory, and then all is as before.
+fn know_guids(guids: &mut IndexSet<u64>, node: &NewNode) -> Result<(), AllocError>
+    requires { HasGuids (seen node.now) }
+    ensures ok { OnOk result (KnowMore (seen node.now) guids.old.keys guids.new.keys) }
+    ensures err { OnErr result (KnowSame guids.old.keys guids.new.keys) }
 {
-    node.last_guid() > u128::from(u64::MAX) || shares_some_guid(nodes, node)
-}
-
-fn shares_some_guid(nodes: &[Node], node: &NewNode) -> bool
-    ensures { result ≡ list_any (λ other. shares_guid (seen node.now) other) nodes.now }
-{
-    nodes.iter().any(|other| node.shares_guid(other))
+    let count = usize::from(port_guids(node.node_type, node.ports)) + 1;
+    guids.reserve(count)?;
+    for number in 0..count {
+        guids.insert(node.guid + number as u64)?;
+    }
+    Ok(())
 }
 
 /// How many switches there are.

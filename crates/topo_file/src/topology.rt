@@ -1,6 +1,6 @@
 //! A topology whose fabric can be simulated.
 
-ghost use Rattle.std.specs.Prelude.{◌≡◌, ◌+◌, ◌≤◌, true, false, All, IfSome, nat_eq};
+ghost use Rattle.std.specs.Prelude.{◌≡◌, ◌≤◌, true, false, All, IfSome, nat_eq};
 ghost use Rattle.std.specs.List.{list_all, IsDistinct};
 ghost use Rattle.fabric_parts.specs.Cable.{is_cabled};
 ghost use Rattle.topo_file.specs.Cable.{port_at};

@@ -1,6 +1,7 @@
 -- What loops find and add, turn by turn.
-use Rattle.std.proofs.Common.{◌≡◌, ◌∙◌, refl, sym, ap, ℕ, suc, ◌+◌, ◌-◌, ◌<◌, ◌≤◌, ◌&&◌, Bool, true, false, cond, List, [], ◌∷◌, ◌++◌, find, length, take, drop, drop-cons, get_or, Some, unwrap_or, append_assoc, arith}
+use Rattle.std.proofs.Common.{◌≡◌, ◌∙◌, refl, sym, ap, ℕ, suc, ◌+◌, ◌-◌, ◌<◌, ◌≤◌, ◌&&◌, Bool, true, false, cond, List, [], ◌∷◌, ◌++◌, find, length, take, drop, drop-cons, get_or, Some, unwrap_or, append_assoc, zero, inl, inr, arith}
 use Rattle.std.specs.List.{flat_map, list_all, range_with_len}
+use Rattle.std.proofs.lemmas.Bool.{cases_lt}
 use Rattle.std.proofs.lemmas.List.{flat_map_more, take_more}
 use Rattle.step_results.proofs.RangeLemmas.{flat_more}
 use Rattle.netdiscover_file.specs.declared.node.Node.{Node}
@@ -22,6 +23,24 @@ found_here p a limit other inside passes = rw (find_next p a limit inside, passe
 pub found_later : (p : ℕ → Bool) (a limit other : ℕ) → a < limit → p a ≡ false
     → unwrap_or (find p (range_with_len a (limit - a))) other ≡ unwrap_or (find p (range_with_len (a + 1) (limit - (a + 1)))) other
 found_later p a limit other inside passes = rw (find_next p a limit inside, passes) refl
+
+-- numbers that do not pass are left out of the search
+skipped_by : (k : ℕ) (p : ℕ → Bool) (a b limit other : ℕ) → a ≤ b → b - a ≡ k → ((n : ℕ) → a ≤ n → n < b → p n ≡ false)
+    → unwrap_or (find p (range_with_len a (limit - a))) other ≡ unwrap_or (find p (range_with_len b (limit - b))) other
+skipped_by zero p a b limit other low is none = let same : a ≡ b = omega (arith, low, is) in rw same refl
+skipped_by (suc k) p a b limit other low is none = elim (cases_lt a limit) [
+  | inl inside ↦
+      found_later p a limit other inside (none a (omega arith) (omega (arith, is)))
+      ∙ skipped_by k p (a + 1) b limit other (omega (arith, is)) (omega (arith, is)) (λ n more high. none n (omega (arith, more)) high)
+  | inr past ↦
+      let one : limit - a ≡ 0 = omega (arith, past) in
+      let two : limit - b ≡ 0 = omega (arith, past, low) in
+      rw (one, two) refl
+]
+
+pub skipped : (p : ℕ → Bool) (a b limit other : ℕ) → a ≤ b → ((n : ℕ) → a ≤ n → n < b → p n ≡ false)
+    → unwrap_or (find p (range_with_len a (limit - a))) other ≡ unwrap_or (find p (range_with_len b (limit - b))) other
+skipped p a b limit other low none = skipped_by (b - a) p a b limit other low refl none
 
 -- all numbers that are left pass
 all_next : (p : ℕ → Bool) (a limit : ℕ) → a < limit

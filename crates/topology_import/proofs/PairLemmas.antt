@@ -1,5 +1,5 @@
 -- What is found among pairs of ports is what is found among cables, and among lines.
-use Rattle.std.proofs.Common.{◌≡◌, ◌∙◌, ℕ, zero, Bool, true, false, not, ◌==◌, ◌&&◌, ◌||◌, ◌+◌, ◌<◌, List, [], ◌∷◌, ◌++◌, append-nil, cond, filter, get_or, length, take, Option, Some, None, ap, ap₂, refl, sym, if◌then◌else◌, arith}
+use Rattle.std.proofs.Common.{◌≡◌, ◌∙◌, ℕ, Bool, true, false, not, ◌==◌, ◌&&◌, ◌||◌, ◌+◌, ◌<◌, List, [], ◌∷◌, ◌++◌, append-nil, cond, filter, get_or, length, take, Option, Some, None, ap, ap₂, refl, sym, if◌then◌else◌, arith}
 use Rattle.std.specs.List.{list_all, list_any}
 use Rattle.std.specs.Option.{option_map_or}
 use Rattle.std.proofs.Math.Bool.{and_comm}

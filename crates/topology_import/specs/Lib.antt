@@ -2,6 +2,7 @@ pub mod Index
 pub mod Ends
 pub mod Nodes
 pub mod Names
+pub mod Tried
 pub mod Cables
 pub mod Text
 pub mod Fault

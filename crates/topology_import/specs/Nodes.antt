@@ -1,5 +1,5 @@
 -- The nodes of the topology, before they have names.
-use Rattle.std.specs.Prelude.{ℕ, Bool, ◌-◌, ◌==◌, ◌&&◌, ◌||◌, List, [], ◌∷◌, ◌++◌, map, flat_map, find, length, slice_get, Option, option_map, unwrap_or, if◌then◌else◌}
+use Rattle.std.specs.Prelude.{ℕ, ◌≡◌, nat_eq, Bool, ◌-◌, ◌==◌, ◌&&◌, ◌||◌, List, [], ◌∷◌, ◌++◌, map, flat_map, find, length, slice_get, Option, option_map, unwrap_or, if◌then◌else◌}
 use Rattle.std.specs.List.{list_any, range_with_len}
 use Rattle.std.specs.Option.{option_map_or}
 use Rattle.step_results.specs.AtLine.{AtLine}
@@ -55,6 +55,14 @@ nodes_meant discovery = switches discovery.nodes ++ adapters (ends discovery)
 -- ---- the GUID of an adapter may not be 0, nor that of a switch or of its port 0
 abbrev pub has_guid : ℕ → Node → Bool
 has_guid guid node = is_switch node.id.kind && ((guid == node.id.guid) || (guid == switch_guid node))
+
+-- these keys are the GUIDs of the switches among the nodes, and no others
+abbrev pub KnowsSwitches : List ℕ → List Node → Type 0
+KnowsSwitches keys nodes = (guid : ℕ) → list_any (nat_eq guid) keys ≡ list_any (has_guid guid) nodes
+
+-- what a second set has beside the first: the GUIDs of this node, if it is a switch
+abbrev pub KnowsSwitch : List ℕ → Node → List ℕ → Type 0
+KnowsSwitch before node after = (guid : ℕ) → list_any (nat_eq guid) after ≡ (list_any (nat_eq guid) before || has_guid guid node)
 
 abbrev pub is_taken : List Node → ℕ → Bool
 is_taken nodes guid = (guid == 0) || list_any (has_guid guid) nodes

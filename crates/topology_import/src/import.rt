@@ -16,7 +16,7 @@ use crate::cables::{CableMeant, cables_meant};
 use crate::ends::{EndList, guid_of};
 use crate::fault::{ImportCause, ImportFault};
 use crate::names::named;
-use crate::nodes::{adapter_guid, first_taken, nodes_meant};
+use crate::nodes::{SwitchGuids, adapter_guid, nodes_meant};
 use crate::planned::PlannedList;
 use crate::text::{source_of, text_with};
 use fabric_parts::Limits;
@@ -58,10 +58,16 @@ fn manager_of(
 }
 
 /// The same, unless the GUID of an adapter is a switch's or 0.
-fn if_free(discovery: &Discovery, firsts: &[PortLine], manager: u64) -> Result<u64, ImportFault>
+fn if_free(
+    alloc: Global,
+    discovery: &Discovery,
+    firsts: &[PortLine],
+    manager: u64,
+) -> Result<u64, ImportFault>
     ensures { TextGives (λ guid. guid) result (unless (guid_fault discovery.now.nodes firsts.now) manager) }
 {
-    match first_taken(discovery.nodes(), firsts) {
+    let switches = SwitchGuids::new(alloc, discovery.nodes())?;
+    match switches.first_taken(firsts) {
         Some(first) => Err(ImportFault::At {
             line: first.line,
             cause: ImportCause::GuidTaken {
@@ -172,6 +178,6 @@ fn imported(
     let ends = EndList::of(alloc, discovery)?;
     let manager = manager_of(discovery, &ends, manager)?;
     let firsts = ends.firsts(alloc)?;
-    let manager = if_free(discovery, &firsts, manager)?;
+    let manager = if_free(alloc, discovery, &firsts, manager)?;
     text_read(alloc, discovery, &ends, &firsts, manager)
 }

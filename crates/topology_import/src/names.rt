@@ -1,12 +1,15 @@
 //! The names of nodes.
 
-ghost use Rattle.std.specs.Prelude.{◌≡◌, ◌++◌, [], ◌∷◌, not, map, take, IfOk, OnOk};
+ghost use Rattle.std.specs.Prelude.{◌≡◌, ◌≤◌, ◌++◌, [], ◌∷◌, not, map, take, List, IfOk, OnOk};
+ghost use Rattle.topology_import.specs.Tried.{AreTaken, KnowsTried};
+ghost use Rattle.topology_import.specs.declared.planned.Planned.{Planned};
 ghost use Rattle.text_words.specs.Words.{is_name_byte};
 ghost use Rattle.topology_import.specs.Names.{free_number, has_name, name_at, name_byte, named, numbered, or_node, own_name, encoded, suffix, with_name};
 
 use crate::nodes::Meant;
 use crate::planned::PlannedList;
 use fabric_parts::NAME_BYTES;
+use indexmap::IndexMap;
 use netdiscover_file::Node;
 use std::alloc::{AllocError, Global};
 use text_parts::push_decimal;
@@ -98,12 +101,20 @@ fn is_free(
     Ok(!nodes.has_name(name.as_slice()))
 }
 
-/// The first number with which the name is free.
-fn free_number(alloc: Global, nodes: &PlannedList, name: &[u8]) -> Result<usize, AllocError>
-    ensures { IfOk result (λ number. number ≡ free_number nodes.now name.now) }
+/// The first number with which the name is free, looked for from a first one on; those below are taken.
+fn free_number(
+    alloc: Global,
+    nodes: &PlannedList,
+    name: &[u8],
+    first: usize,
+) -> Result<usize, AllocError>
+    requires low { 2 ≤ first }
+    requires taken { AreTaken nodes.now name.now first }
+    ensures value { IfOk result (λ number. number ≡ free_number nodes.now name.now) }
+    ensures taken { IfOk result (AreTaken nodes.now name.now) }
 {
     let count = nodes.as_slice().len();
-    for number in 2..count + 2 {
+    for number in first..count + 2 {
         if is_free(alloc, nodes, name, number)? {
             return Ok(number);
         }
@@ -111,28 +122,56 @@ fn free_number(alloc: Global, nodes: &PlannedList, name: &[u8]) -> Result<usize,
     Ok(count + 2)
 }
 
-/// A name of which no node is yet.
-fn own_name(alloc: Global, nodes: &PlannedList, name: Vec<u8>) -> Result<Vec<u8>, AllocError>
-    ensures { IfOk result (λ text. text.items ≡ own_name nodes.now name.items) }
+/// Of names, a number below which all are taken.
+type Tried = IndexMap<Vec<u8>, usize>;
+
+/// A number below which all are taken with the name.
+fn first_number(tried: &Tried, name: &Vec<u8>) -> usize
+    ensures low { 2 ≤ result }
+    ensures taken { (nodes : List Planned) → KnowsTried tried.now nodes → AreTaken nodes name.now.items result }
+{
+    match tried.get(name) {
+        Some(number) if *number > 2 => *number,
+        _ => 2,
+    }
+}
+
+/// A name of which no node is yet. What is tried for it is noted, so that no number is tried again.
+fn own_name(
+    alloc: Global,
+    nodes: &PlannedList,
+    tried: &mut Tried,
+    name: Vec<u8>,
+) -> Result<Vec<u8>, AllocError>
+    requires { KnowsTried tried.old nodes.now }
+    ensures value { IfOk result (λ text. text.items ≡ own_name nodes.now name.items) }
+    ensures tried { OnOk result (KnowsTried tried.new nodes.now) }
 {
     if !nodes.has_name(name.as_slice()) {
         return Ok(name);
     }
-    let number = free_number(alloc, nodes, name.as_slice())?;
-    numbered(alloc, name.as_slice(), number)
+    let first = first_number(tried, &name);
+    let number = free_number(alloc, nodes, name.as_slice(), first)?;
+    let text = numbered(alloc, name.as_slice(), number)?;
+    tried.insert(name, number)?;
+    Ok(text)
 }
 
 fn push_named(
     alloc: Global,
     found: &[Node],
     nodes: &mut PlannedList,
+    tried: &mut Tried,
     node: &Meant,
 ) -> Result<(), AllocError>
-    ensures { OnOk result (nodes.new ≡ nodes.old ++ with_name found.now nodes.old node.now ∷ []) }
+    requires { KnowsTried tried.old nodes.old }
+    ensures added { OnOk result (nodes.new ≡ nodes.old ++ with_name found.now nodes.old node.now ∷ []) }
+    ensures tried { OnOk result (KnowsTried tried.new nodes.new) }
 {
     let name = encoded(alloc, name_at(found, node.node))?;
-    let name = own_name(alloc, nodes, name)?;
-    nodes.push(alloc, name, *node)
+    let name = own_name(alloc, nodes, tried, name)?;
+    nodes.push(alloc, name, *node)?;
+    Ok(())
 }
 
 /// Nodes with their names, each named after those before it.
@@ -144,8 +183,9 @@ pub(crate) fn named(
     ensures { IfOk result (λ list. list ≡ named found.now [] nodes.now) }
 {
     let mut list = PlannedList::new(alloc);
+    let mut tried = IndexMap::new(alloc);
     for node in nodes {
-        push_named(alloc, found, &mut list, node)?;
+        push_named(alloc, found, &mut list, &mut tried, node)?;
     }
     Ok(list)
 }

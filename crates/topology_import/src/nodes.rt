@@ -1,14 +1,15 @@
 //! The nodes of the topology, before they have names.
 
 ghost use Rattle.std.specs.Prelude.{◌≡◌, ◌++◌, map, IfOk, OnOk};
-ghost use Rattle.std.specs.List.{list_any};
 ghost use Rattle.std.specs.Option.{option_copied};
-ghost use Rattle.topology_import.specs.Nodes.{adapter_guid, adapter_meant, first_taken, has_guid, is_taken, switch_at, switch_guid, switch_guid_at, switch_if_one, switch_meant, switches};
+ghost use Rattle.topology_import.specs.Nodes.{adapter_guid, adapter_meant, first_taken, is_taken, KnowsSwitch, KnowsSwitches, switch_at, switch_guid, switch_guid_at, switch_if_one, switch_meant, switches};
 
 use crate::ends::{EndList, guid_of};
 use fabric_parts::NodeType;
+use indexmap::IndexSet;
 use netdiscover_file::{Discovery, Node, PortLine};
 use std::alloc::{AllocError, Global};
+use std::marker::Model;
 
 /// A node of the topology, but for its name.
 #[derive(Clone, Copy)]
@@ -123,29 +124,68 @@ pub(crate) fn nodes_meant(
     Ok(list)
 }
 
-fn has_guid(guid: u64, node: &Node) -> bool
-    ensures { result ≡ has_guid guid node.now }
-{
-    node.id.kind.is_switch() && (guid == node.id.guid || guid == switch_guid(node))
+/// The nodes of a discovery, of which the GUIDs of switches are found in constant time.
+#[derive(Drop)]
+pub(crate) struct SwitchGuids<'a> {
+    nodes: &'a [Node],
+    // The GUIDs of switches and of their ports 0.
+    guids: IndexSet<u64>,
 }
 
-fn is_switch_guid(nodes: &[Node], guid: u64) -> bool
-    ensures { result ≡ list_any (has_guid guid) nodes.now }
-{
-    nodes.iter().any(|node| has_guid(guid, node))
+impl<'a> Model for SwitchGuids<'a> {
+    ghost use Rattle.std.specs.Prelude.{List};
+    ghost use Rattle.netdiscover_file.specs.declared.node.Node.{Node};
+    ghost use Rattle.topology_import.specs.Nodes.{KnowsSwitches};
+
+    ghost Value = { List Node };
+
+    ghost view = { λ switches. switches.nodes.now };
+
+    ghost invariant = { λ switches. KnowsSwitches switches.guids.keys switches.nodes.now };
 }
 
-fn is_taken(nodes: &[Node], guid: u64) -> bool
-    ensures { result ≡ is_taken nodes.now guid }
-{
-    guid == 0 || is_switch_guid(nodes, guid)
+impl<'a> SwitchGuids<'a> {
+    pub(crate) fn new(alloc: Global, nodes: &'a [Node]) -> Result<SwitchGuids<'a>, AllocError>
+        ensures { IfOk result (λ switches. switches ≡ nodes.now) }
+    {
+        let guids = switch_guids(alloc, nodes)?;
+        Ok(SwitchGuids { nodes, guids })
+    }
+
+    fn is_taken(&self, guid: u64) -> bool
+        ensures { result ≡ is_taken self.now guid }
+    {
+        guid == 0 || self.guids.contains(&guid)
+    }
+
+    /// The first port of the first adapter whose GUID would be 0 or a switch's.
+    pub(crate) fn first_taken<'b>(&self, firsts: &'b [PortLine]) -> Option<&'b PortLine>
+        ensures { option_copied result ≡ first_taken self.now firsts.now }
+    {
+        firsts
+            .iter()
+            .find(|first| self.is_taken(adapter_guid(*first)))
+    }
 }
 
-/// The first port of the first adapter whose GUID would be 0 or a switch's.
-pub(crate) fn first_taken<'a>(nodes: &[Node], firsts: &'a [PortLine]) -> Option<&'a PortLine>
-    ensures { option_copied result ≡ first_taken nodes.now firsts.now }
+fn switch_guids(alloc: Global, nodes: &[Node]) -> Result<IndexSet<u64>, AllocError>
+    ensures { IfOk result (λ guids. KnowsSwitches guids.keys nodes.now) }
 {
-    firsts
-        .iter()
-        .find(|first| is_taken(nodes, adapter_guid(*first)))
+    let mut guids = IndexSet::new(alloc);
+    for node in nodes {
+        know_switch(&mut guids, node)?;
+    }
+    Ok(guids)
+}
+
+/// Notes the GUIDs of a node, if it is a switch.
+fn know_switch(guids: &mut IndexSet<u64>, node: &Node) -> Result<(), AllocError>
+    ensures { OnOk result (KnowsSwitch guids.old.keys node.now guids.new.keys) }
+{
+    if !node.id.kind.is_switch() {
+        return Ok(());
+    }
+    guids.insert(node.id.guid)?;
+    guids.insert(switch_guid(node))?;
+    Ok(())
 }

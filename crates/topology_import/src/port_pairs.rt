@@ -4,7 +4,7 @@ ghost use Rattle.std.specs.Prelude.{◌≡◌, ◌||◌, [], IfOk, OnOk};
 ghost use Rattle.std.specs.List.{list_any};
 ghost use Rattle.topology_import.specs.Ends.{counted};
 ghost use Rattle.topology_import.specs.declared.port_pairs.PortPair.{PortPair};
-ghost use Rattle.topology_import.specs.PortPairs.{cable_pair, end_key, is_pair_of, is_same_key, is_same_pair, joins, line_key, pair_of, port_key, switch_key};
+ghost use Rattle.topology_import.specs.PortPairs.{cable_pair, end_key, is_pair_of, is_same_pair, joins, line_key, pair_of, port_key, switch_key};
 
 use crate::agreement::{guid_at, is_switch_at, port_guid_at};
 use crate::ends::counts;

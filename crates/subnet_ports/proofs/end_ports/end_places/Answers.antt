@@ -3,7 +3,7 @@ use Rattle.std.specs.List.{enumerate_from, flat_map}
 use Rattle.std.proofs.lemmas.List.{take_all}
 use Rattle.std.proofs.lemmas.List.FromFn.{length-enumerate_from}
 use Rattle.subnet_ports.specs.Ports.{end_places, end_places_at}
-use Rattle.subnet_ports.proofs.PortLemmas.{end_places_more, few_end_places}
+use Rattle.subnet_ports.proofs.PortLemmas.{end_places_more, large_end_places}
 use Rattle.subnet_ports.proofs.end_ports.end_places.Goals as goal
 
 pub loop-place-preserved : goal.loop-place-preserved
@@ -27,4 +27,4 @@ returns-clause-few c =
     let plan = c.args.topology.now in
     let limits = rw c.nodes-node-items.ensures.value at c.nodes-node-items.ensures.limits in
     let whole : c.loop-place.all.items ≡ end_places plan = returns-clause-value c in
-    rw whole (few_end_places plan limits.0 limits.1)
+    rw whole (large_end_places plan limits.0 limits.1)

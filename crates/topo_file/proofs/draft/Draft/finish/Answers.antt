@@ -1,4 +1,4 @@
-use Rattle.std.proofs.Common.{◌≡◌, ◌∙◌, true, ap, sym}
+use Rattle.std.proofs.Common.{◌≡◌, ◌∙◌, true, sym}
 use Rattle.fabric_parts.specs.Cable.{is_cabled}
 use Rattle.topo_file.specs.Connectivity.{AllJoined}
 use Rattle.topo_file.proofs.WithinLemmas.{large_whole}

@@ -1,6 +1,6 @@
-use Rattle.std.proofs.Common.{◌<◌, length, arith, sym, ◌∙◌}
+use Rattle.std.proofs.Common.{arith, sym, ◌∙◌}
 use Rattle.text_words.proofs.NumberLemmas.{starts, encodes_more, stops, all_encoded}
-use Rattle.text_words.proofs.number.digits_in.Goals as goal
+use Rattle.text_words.proofs.number.wide_digits_in.Goals as goal
 
 pub loop-byte-init : goal.loop-byte-init
 loop-byte-init c = starts c.args.radix c.args.digits.now
@@ -16,5 +16,4 @@ returns-in_err-value c =
 
 pub returns : goal.returns
 returns c =
-    let some : 0 < length c.args.digits.now = grind arith in
-    sym (all_encoded c.args.radix c.loop-byte.value c.loop-byte.byte-index c.args.digits.now some c.loop-byte-test.false c.loop-byte.invariant)
+    sym (all_encoded c.args.radix c.loop-byte.value c.loop-byte.byte-index c.args.digits.now c.requires.some c.loop-byte-test.false c.loop-byte.invariant)

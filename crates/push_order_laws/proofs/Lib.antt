@@ -1,0 +1,3 @@
+pub mod PortLemmas
+pub mod HopLemmas
+pub mod PushLemmas

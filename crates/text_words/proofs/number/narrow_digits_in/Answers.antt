@@ -1,0 +1,13 @@
+use Rattle.text_words.proofs.NumberLemmas.{starts, encodes_more, all_encoded}
+use Rattle.text_words.proofs.number.narrow_digits_in.Goals as goal
+
+pub loop-byte-init : goal.loop-byte-init
+loop-byte-init c = starts c.args.radix c.args.digits.now
+
+pub loop-byte-preserved : goal.loop-byte-preserved
+loop-byte-preserved c =
+    encodes_more c.args.radix c.loop-byte.value c.loop-byte.byte-index c.in_ok-value.value c.args.digits.now c.loop-byte-test.true c.loop-byte.invariant c.in_ok-value.ensures
+
+pub returns : goal.returns
+returns c =
+    all_encoded c.args.radix c.loop-byte.value c.loop-byte.byte-index c.args.digits.now c.requires.some c.loop-byte-test.false c.loop-byte.invariant
