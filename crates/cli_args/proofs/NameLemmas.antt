@@ -9,7 +9,7 @@ use Rattle.clap.proofs.OnLiterals.{clap_on_literals}
 use Rattle.code_texts.specs.Codes.{code_of}
 use Rattle.code_texts.specs.declared.code.Code.{Code}
 use Rattle.cli_args.specs.Laws.{FilesAreNamedAsGiven, FilesStandInOrder, IsWordOf, NamesKeepTheirBlanks}
-use Rattle.cli_args.specs.Words.{Names, audit_by, asked_by, asked_by_command, asked_of, asked_or, call_in, compare_by, cuts_by, diff_by, explain_by, file_in, graph_with, guid_by, import_by, is_given, in_subnet, inspect_by, opened_for, run_by, scripts_by, smps_by}
+use Rattle.cli_args.specs.Words.{Names, audit_by, audit_keys_by, audit_keys_with, asked_by, asked_by_command, asked_of, asked_or, call_in, compare_by, cuts_by, diff_by, explain_by, file_in, graph_with, guid_by, import_by, is_given, in_subnet, inspect_by, opened_for, run_by, scripts_by, smps_by}
 use Rattle.cli_args.specs.Words.{subcommand_in, text_for, trace_by, work_names}
 use Rattle.cli_args.specs.declared.call.Call.{Call}
 use Rattle.cli_args.specs.declared.call.CutView.TheVariants.{All as AllCuts, One, Picture}
@@ -156,6 +156,22 @@ audit_given rows call is = by (first_of (codes "TOPO") rows) refl (first_of (cod
     by (Some topology) t None d is = absurd cc
     by None t dump d is = absurd cc
 
+audit_keys_given : (rows : List Row) → IsGiven rows (audit_keys_by rows)
+audit_keys_given rows call is =
+    by (first_of (codes "NETDISCOVER") rows) refl (first_of (codes "PKEYS") rows) refl (first_of (codes "PARTS") rows) refl (guid_by (first_of (codes "SM") rows)) is
+  where
+    by : (netdiscover : Option Text) → first_of (codes "NETDISCOVER") rows ≡ netdiscover → (pkeys : Option Text) → first_of (codes "PKEYS") rows ≡ pkeys
+        → (partitions : Option Text) → first_of (codes "PARTS") rows ≡ partitions → (guid : Option (Option ℕ))
+        → audit_keys_with netdiscover pkeys partitions guid ≡ Some call → All (IsWordOf rows) (opened_for (Ok call))
+    by (Some netdiscover) n (Some pkeys) k (Some partitions) p (Some guid) is =
+        subst (λ (asked : Call Names Text). All (IsWordOf rows) (opened_for (Ok asked))) (same_call _ call is)
+        (All-cons (IsWordOf rows) netdiscover (pkeys ∷ option_to_list (file_in partitions)) (codes "NETDISCOVER", n)
+        (All-cons (IsWordOf rows) pkeys (option_to_list (file_in partitions)) (codes "PKEYS", k) (file_given rows partitions (codes "PARTS", p))))
+    by (Some netdiscover) n (Some pkeys) k (Some partitions) p None is = absurd cc
+    by (Some netdiscover) n (Some pkeys) k None p guid is = absurd cc
+    by (Some netdiscover) n None k partitions p guid is = absurd cc
+    by None n pkeys k partitions p guid is = absurd cc
+
 explain_given : (rows : List Row) (code : Option Text) → IsGiven rows (explain_by code)
 explain_given rows None call e =
     subst (λ (asked : Call Names Text). All (IsWordOf rows) (opened_for (Ok asked))) (same_call _ call e) (All-nil (IsWordOf rows))
@@ -180,6 +196,7 @@ command_given command.Compare rows = subnet_given rows _ (compare_given rows)
 command_given command.Cuts rows = subnet_given rows _ (cuts_given rows (first_of (codes "PORT") rows) (first_of (codes "PORT2") rows))
 command_given command.Import rows = import_given rows (guid_by (first_of (codes "SM") rows))
 command_given command.Audit rows = audit_given rows
+command_given command.AuditKeys rows = audit_keys_given rows
 command_given command.Explain rows = explain_given rows (first_of (codes "CODE") rows)
 
 pub files_are_given : FilesAreNamedAsGiven
@@ -198,7 +215,7 @@ files_are_given word rows call is = by (subcommand_in word) is
 
 pub blanks_are_kept : NamesKeepTheirBlanks
 unfolding clap_on_literals asked_of
-blanks_are_kept = record { plain = refl; before = refl; behind = refl; script = refl; looked = refl; dashes = refl; traced = refl; answered = refl; compared = refl; import = refl; audit = refl; dash = refl }
+blanks_are_kept = record { plain = refl; before = refl; behind = refl; script = refl; looked = refl; dashes = refl; traced = refl; answered = refl; compared = refl; import = refl; audit = refl; audit_keys = refl; dash = refl }
 
 pub files_stand_in_order : FilesStandInOrder
 unfolding clap_on_literals asked_of
@@ -216,4 +233,5 @@ files_stand_in_order = record {
   compare = refl;
   cuts = refl;
   audit = refl;
+  audit_keys = refl;
 }

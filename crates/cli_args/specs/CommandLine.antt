@@ -71,6 +71,11 @@ import_command = with_rule (with_rule (new_app (codes "import")) (wanted (codes 
 abbrev pub audit_command : App
 audit_command = with_rule (with_rule (new_app (codes "audit")) (wanted (codes "TOPO"))) (wanted (codes "DUMP"))
 
+abbrev pub audit_keys_command : App
+audit_keys_command =
+    let answers = with_rule (with_rule (new_app (codes "audit-keys")) (wanted (codes "NETDISCOVER"))) (wanted (codes "PKEYS")) in
+    with_rule (with_rule answers (wanted (codes "PARTS"))) manager_option
+
 abbrev pub explain_command : App
 explain_command = with_rule (new_app (codes "explain")) (optional (codes "CODE"))
 
@@ -102,7 +107,8 @@ with_audits app =
     let cuts = with_subcommand app cuts_command.top in
     let imports = with_subcommand cuts import_command.top in
     let audits = with_subcommand imports audit_command.top in
-    with_subcommand audits explain_command.top
+    let keys = with_subcommand audits audit_keys_command.top in
+    with_subcommand keys explain_command.top
 
 abbrev pub fabric_command : App
 fabric_command = with_audits (with_runs (with_listings fabric_top))

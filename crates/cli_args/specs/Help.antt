@@ -55,6 +55,9 @@ about_import = codes "Makes a topology from what ibnetdiscover printed of a real
 abbrev pub about_audit : List ℕ
 about_audit = codes "Judges the LFTs of a real fabric: whether its routes are safe"
 
+abbrev pub about_audit_keys : List ℕ
+about_audit_keys = codes "Compares the P_Key tables of a real fabric with a partition file"
+
 abbrev pub about_explain : List ℕ
 about_explain = codes "Explains the code of an error or a refusal, or lists all codes"
 
@@ -111,6 +114,9 @@ help_of_cuts = codes "Draws in red the cables that the fabric cannot do without"
 
 abbrev pub help_of_netdiscover : List ℕ
 help_of_netdiscover = codes "What ibnetdiscover printed of the fabric"
+
+abbrev pub help_of_pkeys : List ℕ
+help_of_pkeys = codes "What tools/collect-keys printed: answers of smpquery"
 
 abbrev pub help_of_manager : List ℕ
 help_of_manager = codes "The GUID of the SM port: a number of 64 bits, as `0x101`"

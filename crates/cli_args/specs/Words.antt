@@ -16,13 +16,13 @@ use Rattle.cli_args.specs.declared.call.Asked.{Asked}
 use Rattle.cli_args.specs.declared.call.Call.{Call}
 use Rattle.cli_args.specs.declared.call.CutView.{CutView}
 use Rattle.cli_args.specs.declared.call.CutView.TheVariants.{All, One, Picture}
-use Rattle.cli_args.specs.declared.call.Call.TheVariants.{Audit, Explain, Import, Subnet}
+use Rattle.cli_args.specs.declared.call.Call.TheVariants.{Audit, AuditKeys, Explain, Import, Subnet}
 use Rattle.cli_args.specs.declared.call.Work.{Work}
 use Rattle.cli_args.specs.declared.call.Inspection.{Inspection}
 use Rattle.cli_args.specs.declared.call.Inspection.TheVariants.{Graph, Keys, Tables, Trace}
 use Rattle.cli_args.specs.declared.call.Subcommand.{Subcommand}
 use Rattle.cli_args.specs.declared.call.Subcommand.TheVariants as command
-use Rattle.cli_args.specs.declared.help.TheConstants.{NO_SCRIPT_WITH_CUTS, NO_SECOND_PORT, NO_SUCH_CODE, NO_SUCH_GUID, NO_SUCH_NUMBER}
+use Rattle.cli_args.specs.declared.help.TheConstants.{NO_SCRIPT_WITH_CUTS, NO_SECOND_PORT, NO_SUCH_CODE, NO_SUCH_GUID, NO_SUCH_KEYS_GUID, NO_SUCH_NUMBER}
 use Rattle.cli_args.specs.declared.call.Work.TheVariants.{Check, Compare, Cuts, Diff, Inspect, Run, Shares, Smps}
 use Rattle.text_words.specs.Number.{if_under, number_in, u16_in}
 
@@ -64,6 +64,7 @@ abbrev pub named_call : Call Asked (Bor Text) → Call Names Text
 named_call (Subnet asked) = Subnet (names asked)
 named_call (Import netdiscover manager) = Import netdiscover.now manager
 named_call (Audit topology dump) = Audit topology.now dump.now
+named_call (AuditKeys netdiscover pkeys partitions manager) = AuditKeys netdiscover.now pkeys.now (option_map (λ name. name.now) partitions) manager
 named_call (Explain code) = Explain code
 
 -- what arguments ask for, or the text of their refusal, if it is known
@@ -154,6 +155,16 @@ abbrev pub audit_by : Option Text → Option Text → Option (Call Names Text)
 audit_by (Some topology) (Some dump) = Some (Audit topology dump)
 audit_by _ _ = None
 
+-- a discovery, answers of smpquery and partitions
+abbrev pub audit_keys_with : Option Text → Option Text → Option Text → Option (Option ℕ) → Option (Call Names Text)
+audit_keys_with (Some netdiscover) (Some pkeys) (Some partitions) (Some manager) = Some (AuditKeys netdiscover pkeys (file_in partitions) manager)
+audit_keys_with _ _ _ _ = None
+
+abbrev pub audit_keys_by : List Row → Option (Call Names Text)
+audit_keys_by rows =
+    audit_keys_with (first_of (codes "NETDISCOVER") rows) (first_of (codes "PKEYS") rows) (first_of (codes "PARTS") rows)
+    (guid_by (first_of (codes "SM") rows))
+
 -- an argument that is not a code asks for nothing
 abbrev pub explain_by : Option Text → Option (Call Names Text)
 explain_by None = Some (Explain None)
@@ -162,7 +173,8 @@ explain_by (Some word) = option_map (λ code. Explain (Some code)) (code_of word
 -- `check` takes no more arguments than its subnet's, `shares` takes a port, and `tables`, `keys`, `trace` and `graph` take a script,
 -- `cuts` two ports;
 -- `diff` needs other partitions, `trace` a packet, `run` a script, `smp` SMPs, and `compare` two scripts and a port; `import` needs a file of
--- its own and takes a GUID, `audit` needs a topology and a dump, and `explain` takes a code
+-- its own and takes a GUID, `audit` needs a topology and a dump, `audit-keys` two files of its own and partitions, and takes a GUID, and
+-- `explain` takes a code
 abbrev pub call_in : Subcommand → List Row → Option (Call Names Text)
 call_in command.Check rows = in_subnet rows (Some Check)
 call_in command.Shares rows = in_subnet rows (Some (Shares (first_of (codes "PORT") rows)))
@@ -177,6 +189,7 @@ call_in command.Compare rows = in_subnet rows (compare_by rows)
 call_in command.Cuts rows = in_subnet rows (cuts_by (first_of (codes "PORT") rows) (first_of (codes "PORT2") rows))
 call_in command.Import rows = import_by (first_of (codes "NETDISCOVER") rows) (guid_by (first_of (codes "SM") rows))
 call_in command.Audit rows = audit_by (first_of (codes "TOPO") rows) (first_of (codes "DUMP") rows)
+call_in command.AuditKeys rows = audit_keys_by rows
 call_in command.Explain rows = explain_by (first_of (codes "CODE") rows)
 
 -- ---- the whole command line
@@ -195,14 +208,16 @@ subcommand_in word =
     else if bytes_eq word (codes "cuts") then Some command.Cuts
     else if bytes_eq word (codes "import") then Some command.Import
     else if bytes_eq word (codes "audit") then Some command.Audit
+    else if bytes_eq word (codes "audit-keys") then Some command.AuditKeys
     else if bytes_eq word (codes "explain") then Some command.Explain
     else None
 
--- the text for an argument that clap accepts and the command cannot take: in a trace it is not a number, in an import not a
--- GUID, in cuts the second port is missing, in a picture `--cuts` has a script, and else it is not a code
+-- the text for an argument that clap accepts and the command cannot take: in a trace it is not a number, in an import or an audit of
+-- keys not a GUID, in cuts the second port is missing, in a picture `--cuts` has a script, and else it is not a code
 abbrev pub text_for : Subcommand → Text
 text_for command.Trace = NO_SUCH_NUMBER.now
 text_for command.Import = NO_SUCH_GUID.now
+text_for command.AuditKeys = NO_SUCH_KEYS_GUID.now
 text_for command.Cuts = NO_SECOND_PORT.now
 text_for command.Graph = NO_SCRIPT_WITH_CUTS.now
 text_for _ = NO_SUCH_CODE.now
@@ -273,4 +288,5 @@ opened_for (Err text) = []
 opened_for (Ok (Subnet asked)) = all_names asked
 opened_for (Ok (Import netdiscover manager)) = netdiscover ∷ []
 opened_for (Ok (Audit topology dump)) = topology ∷ dump ∷ []
+opened_for (Ok (AuditKeys netdiscover pkeys partitions manager)) = netdiscover ∷ pkeys ∷ option_to_list partitions
 opened_for (Ok (Explain code)) = []

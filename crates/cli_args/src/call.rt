@@ -35,6 +35,8 @@ pub enum Subcommand {
     Import,
     /// `audit`, which judges the routes of a real fabric.
     Audit,
+    /// `audit-keys`, which compares the P_Key tables of a real fabric with a partition file.
+    AuditKeys,
     /// `explain`, which explains codes.
     Explain,
 }
@@ -127,6 +129,17 @@ pub enum Call<A, W> {
         topology: W,
         /// The file that has its LFTs.
         dump: W,
+    },
+    /// Compare the P_Key tables of a real fabric with a partition file.
+    AuditKeys {
+        /// What `ibnetdiscover` printed of it.
+        netdiscover: W,
+        /// What `smpquery` printed of its ports.
+        pkeys: W,
+        /// The partition file, or none for `-`.
+        partitions: Option<W>,
+        /// The GUID of the SM port, if it is given.
+        manager: Option<u64>,
     },
     /// Explain a code, or list all codes.
     Explain(Option<Code>),

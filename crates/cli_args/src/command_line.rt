@@ -3,29 +3,29 @@
 ghost use Rattle.std.specs.Prelude.{◌≡◌, false, List, ℕ, Option, None, Some, codes, map, string_bytes, IfOk, IfErr, IsSomeAnd};
 ghost use Rattle.clap.specs.Words.{app_of, rule_of, subcommand_rows_of};
 ghost use Rattle.clap.specs.declared.builder.command.Command.TheViews.{out-Command as fields_of};
-ghost use Rattle.cli_args.specs.CommandLine.{audit_command, check_command, compare_command, diff_command, explain_command, fabric_command, graph_command};
+ghost use Rattle.cli_args.specs.CommandLine.{audit_command, audit_keys_command, check_command, compare_command, diff_command, explain_command, fabric_command, graph_command};
 ghost use Rattle.cli_args.specs.CommandLine.{cuts_command, cuts_flag, import_command, keys_command, manager_option, optional, run_command, script_option, shares_command};
 ghost use Rattle.cli_args.specs.CommandLine.{smp_command, subnet_command, tables_command, trace_command};
 ghost use Rattle.cli_args.specs.CommandLine.{wanted, with_audits, with_listings, with_runs};
-ghost use Rattle.cli_args.specs.Help.{about_audit, about_check, about_compare, about_cuts, about_diff, about_explain, about_graph, about_import, about_keys};
+ghost use Rattle.cli_args.specs.Help.{about_audit, about_audit_keys, about_check, about_compare, about_cuts, about_diff, about_explain, about_graph, about_import, about_keys};
 ghost use Rattle.cli_args.specs.Help.{about_program, about_run, about_smp};
 ghost use Rattle.cli_args.specs.Help.{about_shares, about_tables, about_trace, help_of_code, help_of_dlid, help_of_key};
 ghost use Rattle.cli_args.specs.Help.{help_of_compared, help_of_first_script, help_of_partitions, help_of_second_script};
 ghost use Rattle.cli_args.specs.Help.{help_of_cuts, help_of_dump, help_of_first_end, help_of_second_end};
-ghost use Rattle.cli_args.specs.Help.{help_of_manager, help_of_netdiscover, help_of_port, help_of_script, help_of_script_before, help_of_smps};
+ghost use Rattle.cli_args.specs.Help.{help_of_manager, help_of_netdiscover, help_of_pkeys, help_of_port, help_of_script, help_of_script_before, help_of_smps};
 ghost use Rattle.cli_args.specs.Help.{help_of_second_partitions, help_of_sender, help_of_topology};
 ghost use Rattle.cli_args.specs.Help.{program_name, program_version, text_in};
 ghost use Rattle.cli_args.specs.Refusals.{IsShown};
 ghost use Rattle.cli_args.specs.Words.{asked_in, asked_of};
-ghost use Rattle.cli_args.specs.declared.help.TheConstants.{AUDIT, CHANGES, CODES, COMPARISON, CUTS, GRAPH, IMPORT, KEYS, LISTING, REPORT, SHARES, STATUSES, TABLES};
+ghost use Rattle.cli_args.specs.declared.help.TheConstants.{AUDIT, AUDIT_KEYS, CHANGES, CODES, COMPARISON, CUTS, GRAPH, IMPORT, KEYS, LISTING, REPORT, SHARES, STATUSES, TABLES};
 ghost use Rattle.cli_args.specs.declared.help.TheConstants.{SMPS, TRACE};
 
 use crate::call::Refused;
 use crate::help::{
-    ABOUT, ABOUT_AUDIT, ABOUT_CHECK, ABOUT_COMPARE, ABOUT_CUTS, ABOUT_DIFF, ABOUT_EXPLAIN,
-    ABOUT_GRAPH, ABOUT_IMPORT, ABOUT_KEYS, ABOUT_RUN, ABOUT_SHARES, ABOUT_SMP, ABOUT_TABLES,
-    ABOUT_TRACE, AUDIT, CHANGES, CODES, COMPARISON, CUTS, GRAPH, IMPORT, KEYS, LISTING, REPORT,
-    SHARES, SMPS, STATUSES, TABLES, TRACE,
+    ABOUT, ABOUT_AUDIT, ABOUT_AUDIT_KEYS, ABOUT_CHECK, ABOUT_COMPARE, ABOUT_CUTS, ABOUT_DIFF,
+    ABOUT_EXPLAIN, ABOUT_GRAPH, ABOUT_IMPORT, ABOUT_KEYS, ABOUT_RUN, ABOUT_SHARES, ABOUT_SMP,
+    ABOUT_TABLES, ABOUT_TRACE, AUDIT, AUDIT_KEYS, CHANGES, CODES, COMPARISON, CUTS, GRAPH, IMPORT,
+    KEYS, LISTING, REPORT, SHARES, SMPS, STATUSES, TABLES, TRACE,
 };
 use clap::error::ErrorKind;
 use clap::{Arg, ArgAction, ArgMatches, Command, Error};
@@ -221,6 +221,18 @@ fn wanted_netdiscover<'a>(alloc: Global) -> Arg<'a>
         alloc,
         "NETDISCOVER",
         "What ibnetdiscover printed of the fabric",
+    )
+}
+
+fn wanted_pkeys<'a>(alloc: Global) -> Arg<'a>
+    ensures global { result.global ≡ false }
+    ensures rule { rule_of result ≡ wanted (codes "PKEYS") }
+    ensures help { text_in result.help ≡ Some help_of_pkeys }
+{
+    wanted(
+        alloc,
+        "PKEYS",
+        "What tools/collect-keys printed: answers of smpquery",
     )
 }
 
@@ -423,6 +435,20 @@ fn audit_command<'a>(alloc: Global) -> Result<Command<'a>, AllocError>
     Ok(command.about(ABOUT_AUDIT).after_help(AUDIT))
 }
 
+/// The command that compares the P_Key tables of a real fabric with a partition file.
+fn audit_keys_command<'a>(alloc: Global) -> Result<Command<'a>, AllocError>
+    ensures words { IfOk result (λ command. app_of command ≡ audit_keys_command) }
+    ensures about { IfOk result (λ command. text_in (fields_of command).about ≡ Some about_audit_keys) }
+    ensures help { IfOk result (λ command. text_in (fields_of command).after_help ≡ Some AUDIT_KEYS.now) }
+{
+    let command = Command::new(alloc, "audit-keys")
+        .arg(wanted_netdiscover(alloc))?
+        .arg(wanted_pkeys(alloc))?
+        .arg(wanted_partitions(alloc))?
+        .arg(manager_option(alloc))?;
+    Ok(command.about(ABOUT_AUDIT_KEYS).after_help(AUDIT_KEYS))
+}
+
 /// The command that explains codes.
 fn explain_command<'a>(alloc: Global) -> Result<Command<'a>, AllocError>
     ensures words { IfOk result (λ command. app_of command ≡ explain_command) }
@@ -467,6 +493,7 @@ fn with_audits<'a>(alloc: Global, command: Command<'a>) -> Result<Command<'a>, A
         .subcommand(cuts_command(alloc)?)?
         .subcommand(import_command(alloc)?)?
         .subcommand(audit_command(alloc)?)?
+        .subcommand(audit_keys_command(alloc)?)?
         .subcommand(explain_command(alloc)?)?;
     Ok(all)
 }

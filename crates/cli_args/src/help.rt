@@ -36,6 +36,9 @@ pub(crate) const ABOUT_IMPORT: &str =
 pub(crate) const ABOUT_AUDIT: &str =
     "Judges the LFTs of a real fabric: whether its routes are safe";
 
+pub(crate) const ABOUT_AUDIT_KEYS: &str =
+    "Compares the P_Key tables of a real fabric with a partition file";
+
 pub(crate) const ABOUT_EXPLAIN: &str =
     "Explains the code of an error or a refusal, or lists all codes";
 
@@ -83,9 +86,10 @@ and the SM the subnet manager.
 
 An error is printed as `fault CODE topology line L`, `fault CODE partitions line L`,
 `fault CODE partitions2 line L`, `fault CODE script line L`, `fault CODE script2 line L`,
-`fault CODE netdiscover line L`, `fault CODE dump line L`, `fault CODE smps line L`, `fault CODE port`, `fault CODE`,
-`fault UR1 SWITCH PORT`, `fault memory`, `fault read NAME` or `fault write`. An audit of routes that
-are not safe has status 1, and prints no such line."
+`fault CODE netdiscover line L`, `fault CODE dump line L`, `fault CODE pkeys line L`,
+`fault CODE smps line L`, `fault CODE port`, `fault CODE`, `fault UR1 SWITCH PORT`, `fault memory`,
+`fault read NAME` or `fault write`. An audit of routes that are not safe, or of P_Key tables that do
+not follow the file, has status 1, and prints no such line."
 );
 
 pub(crate) const NOT_TEXT: &str = "error: an argument is not UTF-8\n";
@@ -103,6 +107,11 @@ For more information, try 'fabric trace --help'.
 pub(crate) const NO_SUCH_GUID: &str = "error: GUID is not a number of 64 bits
 
 For more information, try 'fabric import --help'.
+";
+
+pub(crate) const NO_SUCH_KEYS_GUID: &str = "error: GUID is not a number of 64 bits
+
+For more information, try 'fabric audit-keys --help'.
 ";
 
 pub(crate) const LISTING: &str = with_statuses!(
@@ -383,6 +392,49 @@ For example, for your own fabric:
     ""
 );
 
+pub(crate) const AUDIT_KEYS: &str = with_statuses!(
+    "The tables are compared as they are, whichever SM wrote them; nothing is brought up. The status is 0 if
+and only if
+  - each end port that was read has exactly the P_Keys that the file gives it,
+  - each switch port that faces a CA port and drops packets (in one direction or both) has exactly the
+    bases of that CA port, if both were read.
+Otherwise the status is 1, and nothing is written on standard error. Ports that were not read are
+listed, and do not change the status.
+
+First comes how tables of end ports differ from the file:
+  extra PORT KEY              the key stands, and the file gives no key of its base
+  missing PORT KEY            the file gives the key, and no key of its base stands
+  membership PORT KEY         the key stands, and the file gives the other membership
+  full PORT                   keys are missing, and the table has no empty place
+
+Then how switch ports differ from the CA ports that they face:
+  off PORT                    it drops nothing
+  half PORT                   it drops packets in one direction alone
+  lacks PORT BASE             it drops packets of this base, which the CA port has
+  more PORT BASE              it lets packets of this base through, which the CA port has not
+  unread PORT                 its table, or what it enforces, was not read
+
+Then ports that are not judged:
+  moved PORT LID GUID GUID2   ibnetdiscover has GUID at the LID, and smpquery GUID2: collect again
+  unread PORT                 its table was not read
+
+Last come counts:
+  ports: N, N as the file, N unread, N moved
+  keys: N extra, N missing, N of other membership
+  switch ports: N, N off, N half, N unread
+  bases: N lacking, N more
+  verdict: the tables that were read follow the file
+
+For example, on a node of your own fabric:
+  ibnetdiscover >discovered
+  tools/collect-keys discovered >pkeys
+  fabric audit-keys discovered pkeys partitions.conf
+
+",
+    "help",
+    ""
+);
+
 pub(crate) const CODES: &str = with_statuses!(
     "A code follows `fault` if a command does not complete, and `refused` in a report:
   TF1 to TF12            an error in the topology
@@ -391,6 +443,7 @@ pub(crate) const CODES: &str = with_statuses!(
   AR1 to AR4             why a port refuses to send a packet
   ND1 to ND7             an error in what ibnetdiscover printed, in `import`
   FT1 to FT7             an error in dumped LFTs, in `audit`
+  KT1 to KT5             an error in answers of smpquery, in `audit-keys`
   SW1 to SW4, UR1, TP1 to TP3
                          why the fabric of a topology cannot be brought up
   memory, read, write    an error of the machine

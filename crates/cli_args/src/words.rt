@@ -4,7 +4,7 @@ ghost use Rattle.std.specs.Prelude.{◌≡◌, ◌^◌, Ok, Some, map, string_by
 ghost use Rattle.clap.specs.Words.{first_of, found_of, rows_of, subcommand_rows_of};
 ghost use Rattle.cli_args.specs.Refusals.{IsOfGiven, IsOfWords, ReportsAll};
 ghost use Rattle.cli_args.specs.Words.{asked_in, asked_of, audit_by, call_in, compare_by, cuts_by, diff_by, explain_by, file_in, given_items, guid_by};
-ghost use Rattle.cli_args.specs.Words.{import_by, in_subnet};
+ghost use Rattle.cli_args.specs.Words.{audit_keys_by, import_by, in_subnet};
 ghost use Rattle.text_words.specs.Number.{if_under, number_in};
 ghost use Rattle.cli_args.specs.Words.{graph_by, graph_with, inspect_by, is_given, named_call, named_found, named_inspection};
 ghost use Rattle.cli_args.specs.Words.{named_work, run_by, smps_by, subcommand_in, text_for, trace_by, u16_by};
@@ -12,7 +12,8 @@ ghost use Rattle.cli_args.specs.Words.{named_work, run_by, smps_by, subcommand_i
 use crate::call::{Asked, Call, CutView, Inspection, NamedWork, Refused, Subcommand, Work};
 use crate::command_line::Parser;
 use crate::help::{
-    NO_SCRIPT_WITH_CUTS, NO_SECOND_PORT, NO_SUCH_CODE, NO_SUCH_GUID, NO_SUCH_NUMBER, NOT_TEXT,
+    NO_SCRIPT_WITH_CUTS, NO_SECOND_PORT, NO_SUCH_CODE, NO_SUCH_GUID, NO_SUCH_KEYS_GUID,
+    NO_SUCH_NUMBER, NOT_TEXT,
 };
 use clap::ArgMatches;
 use code_texts::Code;
@@ -98,6 +99,7 @@ fn subcommand_in(word: &str) -> Option<Subcommand>
         "cuts" => Some(Subcommand::Cuts),
         "import" => Some(Subcommand::Import),
         "audit" => Some(Subcommand::Audit),
+        "audit-keys" => Some(Subcommand::AuditKeys),
         "explain" => Some(Subcommand::Explain),
         _ => None,
     }
@@ -110,6 +112,7 @@ fn text_for(command: Subcommand) -> &'static str
     match command {
         Subcommand::Trace => NO_SUCH_NUMBER,
         Subcommand::Import => NO_SUCH_GUID,
+        Subcommand::AuditKeys => NO_SUCH_KEYS_GUID,
         Subcommand::Cuts => NO_SECOND_PORT,
         Subcommand::Graph => NO_SCRIPT_WITH_CUTS,
         _ => NO_SUCH_CODE,
@@ -140,6 +143,7 @@ fn call_of<'a>(command: Subcommand, found: &ArgMatches<'a>) -> Option<Call<Asked
         }
         Subcommand::Import => import_by(word_of(found, "NETDISCOVER"), word_of(found, "SM")),
         Subcommand::Audit => audit_by(word_of(found, "TOPO"), word_of(found, "DUMP")),
+        Subcommand::AuditKeys => audit_keys(found),
         Subcommand::Explain => explain_by(word_of(found, "CODE")),
     }
 }
@@ -315,6 +319,18 @@ fn audit_by<'a>(
     Some(Call::Audit {
         topology: topology?,
         dump: dump?,
+    })
+}
+
+/// The P_Key tables of a fabric against a partition file.
+fn audit_keys<'a>(found: &ArgMatches<'a>) -> Option<Call<Asked<'a>, &'a str>>
+    ensures { option_map named_call result ≡ audit_keys_by (rows_of (found_of found.now)) }
+{
+    Some(Call::AuditKeys {
+        netdiscover: word_of(found, "NETDISCOVER")?,
+        pkeys: word_of(found, "PKEYS")?,
+        partitions: file_in(word_of(found, "PARTS")?),
+        manager: guid_by(word_of(found, "SM"))?,
     })
 }
 

@@ -7,6 +7,7 @@ ghost use Rattle.code_texts.specs.Texts.{begins_with, text_of};
 use crate::discovery_texts::{ND1, ND2, ND3, ND4, ND5, ND6, ND7};
 use crate::dump_texts::{FT1, FT2, FT3, FT4, FT5, FT6, FT7};
 use crate::fabric_texts::{SW1, SW2, SW3, SW4, TP1, TP2, TP3, UR1};
+use crate::keys_texts::{KT1, KT2, KT3, KT4, KT5};
 use crate::machine_texts::{MEMORY, READ, WRITE};
 use crate::partition_texts::{PF1, PF2, PF3, PF4, PF5, PF6, PF7, PF8, PF9};
 use crate::script_texts::{AR1, AR2, AR3, AR4, SF1, SF2, SF3, SF4, SF5, SF6, SF7};
@@ -109,6 +110,16 @@ pub enum Code {
     Ft6,
     /// A LID that an earlier row has for another end port.
     Ft7,
+    /// A line that smpquery does not print, or not there.
+    Kt1,
+    /// A query that stands twice.
+    Kt2,
+    /// An answer of another LID or port.
+    Kt3,
+    /// Rows of a table that do not fit.
+    Kt4,
+    /// A file without a query.
+    Kt5,
     /// A line that is no SMP.
     Mf1,
     /// A discovery request without a reply.
@@ -136,7 +147,7 @@ pub enum Code {
 }
 
 /// All codes, in the order in which they are listed.
-pub const ALL: [Code; 58] = [
+pub const ALL: [Code; 63] = [
     Code::Tf1,
     Code::Tf2,
     Code::Tf3,
@@ -183,6 +194,11 @@ pub const ALL: [Code; 58] = [
     Code::Ft5,
     Code::Ft6,
     Code::Ft7,
+    Code::Kt1,
+    Code::Kt2,
+    Code::Kt3,
+    Code::Kt4,
+    Code::Kt5,
     Code::Mf1,
     Code::Sw1,
     Code::Sw2,
@@ -249,6 +265,11 @@ impl Code {
             Code::Ft5 => "FT5",
             Code::Ft6 => "FT6",
             Code::Ft7 => "FT7",
+            Code::Kt1 => "KT1",
+            Code::Kt2 => "KT2",
+            Code::Kt3 => "KT3",
+            Code::Kt4 => "KT4",
+            Code::Kt5 => "KT5",
             Code::Mf1 => "MF1",
             Code::Sw1 => "SW1",
             Code::Sw2 => "SW2",
@@ -325,6 +346,11 @@ impl Code {
             Code::Ft5 => FT5,
             Code::Ft6 => FT6,
             Code::Ft7 => FT7,
+            Code::Kt1 => KT1,
+            Code::Kt2 => KT2,
+            Code::Kt3 => KT3,
+            Code::Kt4 => KT4,
+            Code::Kt5 => KT5,
             Code::Mf1 => MF1,
             Code::Sw1 => SW1,
             Code::Sw2 => SW2,

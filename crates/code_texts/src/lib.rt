@@ -8,6 +8,7 @@ mod code;
 mod discovery_texts;
 mod dump_texts;
 mod fabric_texts;
+mod keys_texts;
 mod laws;
 mod lines;
 mod machine_texts;

@@ -4,7 +4,7 @@ use Rattle.std.specs.List.{All}
 use Rattle.std.specs.Option.{option_to_list}
 use Rattle.std.proofs.lemmas.List.Elements.{All-head, All-tail}
 use Rattle.cli_args.specs.Words.{Names, work_names}
-use Rattle.cli_args.specs.declared.call.Call.TheVariants.{Audit, Explain, Import, Subnet}
+use Rattle.cli_args.specs.declared.call.Call.TheVariants.{Audit, AuditKeys, Explain, Import, Subnet}
 use Rattle.cli_args.specs.declared.call.Work.{Work}
 use Rattle.cli_args.specs.declared.call.Work.TheVariants as work
 use Rattle.fabric_cli.specs.Files.{Contents}
@@ -27,6 +27,11 @@ module _ (file other : Contents) where
     ap (λ (read : Result (List ℕ) Ending). read >>= λ bytes. Ok (Some bytes)) (bytes_alike name (All-head (λ one. file one ≡ other one) name more same)),
     All-tail (λ one. file one ≡ other one) name more same,
   )
+
+  partitions_alike : (name : Option (List ℕ)) → agree (option_to_list name) → bytes_if_named file name ≡ bytes_if_named other name
+  partitions_alike None same = refl
+  partitions_alike (Some name) same =
+      ap (λ (read : Result (List ℕ) Ending). read >>= λ bytes. Ok (Some bytes)) (bytes_alike name (All-head (λ one. file one ≡ other one) name [] same))
 
   work_alike : (asked : Work (List ℕ) (List ℕ) (List ℕ)) → agree (work_names asked) → work_of file asked ≡ work_of other asked
   work_alike work.Check same = refl
@@ -64,5 +69,13 @@ judged_alike file other (Ok (Audit topology dump)) same =
     rw (
       bytes_alike file other topology (All-head (λ name. file name ≡ other name) topology (dump ∷ []) same),
       bytes_alike file other dump (All-head (λ name. file name ≡ other name) dump [] more),
+    ) refl
+judged_alike file other (Ok (AuditKeys netdiscover pkeys partitions manager)) same =
+    let more = All-tail (λ name. file name ≡ other name) netdiscover (pkeys ∷ option_to_list partitions) same in
+    let last : All (λ name. file name ≡ other name) (option_to_list partitions) = All-tail (λ name. file name ≡ other name) pkeys (option_to_list partitions) more in
+    rw (
+      bytes_alike file other netdiscover (All-head (λ name. file name ≡ other name) netdiscover (pkeys ∷ option_to_list partitions) same),
+      bytes_alike file other pkeys (All-head (λ name. file name ≡ other name) pkeys (option_to_list partitions) more),
+      partitions_alike file other partitions last,
     ) refl
 judged_alike file other (Ok (Explain code)) same = refl

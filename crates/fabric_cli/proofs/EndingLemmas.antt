@@ -1,6 +1,8 @@
 -- How a call ends, from what was written to both streams.
 use Rattle.std.proofs.Common.{ℕ, ◌≡◌, ◌≢◌, ◌⊎◌, ◌∙◌, inl, inr, refl, ap, arith, Bool, List, [], ◌∷◌, take, length, Option, Some, None, IfSome}
-use Rattle.std.proofs.Common.{Result, Ok, Err, string_bytes, subst}
+use Rattle.std.proofs.Common.{Result, Ok, Err, string_bytes, subst, sym, map, option_map}
+use Rattle.std.specs.Prelude.{String}
+use Rattle.std.specs.Global.{Global}
 use Rattle.std.specs.Io.KnownBytes.{Appends, Keeps}
 use Rattle.subnet_core.specs.declared.fault.RunFault.{RunFault}
 use Rattle.subnet_core.specs.declared.fault.RunFault.TheVariants as run
@@ -10,11 +12,11 @@ use Rattle.fabric_cli.specs.Faults.{line_of, run_line, run_status, status_of}
 use Rattle.fabric_cli.specs.Files.{Contents}
 use Rattle.fabric_cli.specs.declared.answering.Answer.{Answer}
 use Rattle.fabric_cli.specs.declared.answering.Answer.TheVariants.{Complete, Warned}
-use Rattle.fabric_cli.specs.Serving.{AppendsSome, Ending, Judged, audited, broken_off, complete, faulted, status_in, warned, imported, judged_for, output_in, refused, ended, to_judge}
+use Rattle.fabric_cli.specs.Serving.{AppendsSome, Ending, Judged, audited, bytes_if_named, keys_audited, broken_off, complete, faulted, status_in, warned, imported, judged_for, output_in, refused, ended, to_judge}
 use Rattle.fabric_cli.specs.Serving.{Answers, BreaksOff, Ends, EndsAs, ForEnding, ForSomeBytes, GoesOut, GoesPartly, IsRefusal, IsReportedStop, RunStops, Stops, StopsBehind}
 use Rattle.code_texts.specs.Texts.{explained}
-use Rattle.cli_args.specs.Words.{Asking}
-use Rattle.cli_args.specs.declared.call.Call.TheVariants.{Audit, Explain, Import, Subnet}
+use Rattle.cli_args.specs.Words.{Asking, asked_by_given, asking_by_clap}
+use Rattle.cli_args.specs.declared.call.Call.TheVariants.{Audit, AuditKeys, Explain, Import, Subnet}
 use Rattle.text_streams.specs.Writing.{AppendsPart}
 use Rattle.fabric_cli.proofs.JudgedLemmas.{for_ending}
 
@@ -193,6 +195,8 @@ for_some_bytes (Err shown) P Q f some = f (ended (refused shown)) some
 for_some_bytes (Ok (Subnet names)) P Q f some = (some.0, some.1, f (to_judge some.0) some.2)
 for_some_bytes (Ok (Import netdiscover manager)) P Q f some = (some.0, f (ended (imported manager some.0)) some.1)
 for_some_bytes (Ok (Audit topology dump)) P Q f some = (some.0, some.1, f (ended (audited some.0 some.1)) some.2)
+for_some_bytes (Ok (AuditKeys netdiscover pkeys partitions manager)) P Q f some =
+    (some.0, some.1, some.2, some.3, f (ended (keys_audited manager some.0 some.1 some.2)) some.4)
 for_some_bytes (Ok (Explain code)) P Q f some = f (ended (complete (explained code))) some
 
 -- what is answered of a file that was read is what is answered of the files
@@ -208,6 +212,15 @@ pub of_two : (reported : Option Contents) (first second one other : List ℕ) (r
     → IfSome reported (λ file. Answers (judged_for file (Ok (Audit first second))) result a out out')
 of_two None first second one other result a out out' is answers = tt
 of_two (Some file) first second one other result a out out' is answers = rw (is.0, is.1) answers
+
+-- and of three, the last of which need not be there
+pub of_three : (reported : Option Contents) (first second one other : List ℕ) (third last : Option (List ℕ)) (manager : Option ℕ) (result : Result Answer Stop) (a : Bool)
+    (out out' : Option (List ℕ))
+    → IfSome reported (λ file. (file first ≡ Some one) × (file second ≡ Some other) × (bytes_if_named file third ≡ Ok last))
+    → Answers (ended (keys_audited manager one other last)) result a out out'
+    → IfSome reported (λ file. Answers (judged_for file (Ok (AuditKeys first second third manager))) result a out out')
+of_three None first second one other third last manager result a out out' is answers = tt
+of_three (Some file) first second one other third last manager result a out out' is answers = rw (is.0, is.1, is.2) answers
 
 -- ---- of a call
 -- where the files say what they hold
@@ -240,3 +253,16 @@ pub any_ends : (asked : Asking) (stop : Stop) (answer : ℕ) (a : Bool) (out out
 any_ends asked stop answer a out out' err err' is other line =
     for_some_bytes asked (λ judged. StopsBehind judged stop a out out') (λ judged. EndsAs judged answer out out' err err')
     (λ judged one. answer_ends judged stop answer a out out' err err' one other line) is
+
+-- ---- of the arguments of the process, which are those words
+pub given_any : (items : Option (List (String Global))) (words held : List (String Global)) (status result : ℕ) (out out' err err' : Option (List ℕ))
+    → items ≡ Some words → held ≡ words → status ≡ result
+    → (result ≢ 3 → ForSomeBytes (asking_by_clap held) (λ judged. EndsAs judged result out out' err err'))
+    → status ≢ 3 → ForSomeBytes (asked_by_given (option_map (λ words. map string_bytes words) items)) (λ judged. EndsAs judged status out out' err err')
+given_any items words held status result out out' err err' is same from some other =
+    subst (λ (s : ℕ). ForSomeBytes (asked_by_given (option_map (λ words. map string_bytes words) items)) (λ judged. EndsAs judged s out out' err err'))
+    (sym from)
+    (subst (λ (o : Option (List (String Global))). ForSomeBytes (asked_by_given (option_map (λ words. map string_bytes words) o))
+    (λ judged. EndsAs judged result out out' err err')) (sym is)
+    (subst (λ (w : List (String Global)). ForSomeBytes (asking_by_clap w) (λ judged. EndsAs judged result out out' err err')) same
+    (some (λ three. other (from ∙ three)))))

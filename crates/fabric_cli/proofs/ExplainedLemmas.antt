@@ -25,11 +25,13 @@ use Rattle.data_packet.specs.declared.refusal.Refusal.TheVariants as refusal
 use Rattle.fabric_cli.specs.Explained.{IsExplained, NamesCode, ReportsCode, reported_word}
 use Rattle.dump_file.specs.declared.fault.DumpCause.{DumpCause}
 use Rattle.dump_file.specs.declared.fault.DumpCause.TheVariants as dump
+use Rattle.pkeys_file.specs.declared.fault.KeysCause.{KeysCause}
+use Rattle.pkeys_file.specs.declared.fault.KeysCause.TheVariants as keys
 use Rattle.netdiscover_file.specs.declared.fault.DiscoveryCause.{DiscoveryCause}
 use Rattle.netdiscover_file.specs.declared.fault.DiscoveryCause.TheVariants as discovery
 use Rattle.topology_import.specs.declared.fault.ImportCause.TheVariants as import
 use Rattle.fabric_cli.specs.declared.faults.ForeignCause.{ForeignCause}
-use Rattle.fabric_cli.specs.declared.faults.ForeignCause.TheVariants.{Discovery, Dump, Import, Smps}
+use Rattle.fabric_cli.specs.declared.faults.ForeignCause.TheVariants.{Discovery, Dump, Import, Keys, Smps}
 use Rattle.fabric_cli.specs.Faults.{foreign_line, partitions_line, port_line, run_line, script_line, second_line, second_script_line, topology_line}
 use Rattle.fabric_cli.specs.declared.faults.Stop.{Stop}
 use Rattle.fabric_cli.specs.declared.faults.Stop.TheVariants.{Words, NoMemory, Unread, Unwritten, Run, Second, Foreign}
@@ -145,6 +147,13 @@ dump_reported dump.WrongCount number = reported_as code.Ft5 _ refl refl refl
 dump_reported dump.Unfinished number = reported_as code.Ft6 _ refl refl refl
 dump_reported dump.TwoEndPorts number = reported_as code.Ft7 _ refl refl refl
 
+keys_reported : (cause : KeysCause) (number : ℕ) → ReportsCode (foreign_line (Keys cause) number)
+keys_reported keys.Malformed number = reported_as code.Kt1 _ refl refl refl
+keys_reported keys.DuplicateQuery number = reported_as code.Kt2 _ refl refl refl
+keys_reported keys.OtherAnswer number = reported_as code.Kt3 _ refl refl refl
+keys_reported keys.WrongPlace number = reported_as code.Kt4 _ refl refl refl
+keys_reported keys.NoQuery number = reported_as code.Kt5 _ refl refl refl
+
 foreign_reported : (cause : ForeignCause) (number : ℕ) → ReportsCode (foreign_line cause number)
 foreign_reported (Discovery cause) number = discovery_reported cause number
 foreign_reported (Import (import.GuidTaken port guid)) number = reported_as code.Nd5 _ refl refl refl
@@ -152,6 +161,7 @@ foreign_reported (Import import.UnknownManager) number = reported_as code.Nd6 _ 
 foreign_reported (Import import.Unlike) number = reported_as code.Nd7 _ refl refl refl
 foreign_reported (Import (import.Refused cause)) number = refused_reported cause number
 foreign_reported (Dump cause) number = dump_reported cause number
+foreign_reported (Keys cause) number = keys_reported cause number
 foreign_reported Smps number = reported_as code.Mf1 _ refl refl refl
 
 pub stops_are_reported : (stop : Stop) → NamesCode stop

@@ -2,5 +2,6 @@ pub mod Files
 pub mod Explained
 pub mod Faults
 pub mod Serving
+pub mod KeyFiles
 pub mod Printed
 pub mod Laws

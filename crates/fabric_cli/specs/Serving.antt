@@ -56,7 +56,7 @@ use Rattle.cli_args.specs.declared.call.Inspection.TheVariants.{Graph, Keys, Tab
 use Rattle.cli_args.specs.declared.call.Work.{Work}
 use Rattle.cli_args.specs.declared.call.Work.TheVariants as work
 use Rattle.fabric_cli.specs.declared.faults.Stop.TheVariants.{Words, NoMemory, Unread, Unwritten, Run, Second, Foreign}
-use Rattle.fabric_cli.specs.declared.faults.ForeignCause.TheVariants.{Discovery, Dump, Import, Smps}
+use Rattle.fabric_cli.specs.declared.faults.ForeignCause.TheVariants.{Discovery, Dump, Import, Keys as KeysFault, Smps}
 use Rattle.smp_lines.specs.SmpLines.{Answered, answered}
 use Rattle.fabric_cli.specs.declared.answering.Answer.{Answer}
 use Rattle.fabric_cli.specs.declared.answering.Answer.TheVariants.{Complete, Warned}
@@ -64,19 +64,27 @@ use Rattle.fabric_parts.specs.declared.limits.Limits.TheVariants.{Large}
 use Rattle.dump_file.specs.Dump.{DumpState, dump_of}
 use Rattle.dump_file.specs.declared.fault.DumpCause.{DumpCause}
 use Rattle.route_audit.specs.Audit.{AuditState, audit}
+use Rattle.keys_audit.specs.Text.{KeysAuditState, keys_audit}
+use Rattle.pkeys_file.specs.Answers.{answers_of}
+use Rattle.pkeys_file.specs.declared.answer.Answer.{Answer as KeysAnswer}
+use Rattle.pkeys_file.specs.declared.fault.KeysCause.{KeysCause}
+use Rattle.partition_file.specs.Partitions.{partitions_of}
+use Rattle.partition_file.specs.Members.{no_file}
+use Rattle.partition_file.specs.declared.fault.PartitionCause.{PartitionCause}
+use Rattle.partition_file.specs.declared.partition.Partition.{Partition}
 use Rattle.topo_file.specs.Fault.{code_of as topology_code}
 use Rattle.topo_file.specs.declared.fault.TopologyCause.{TopologyCause}
 use Rattle.netdiscover_file.specs.Discovery.{DiscoveryState, discovery_of}
 use Rattle.netdiscover_file.specs.declared.fault.DiscoveryCause.{DiscoveryCause}
 use Rattle.topology_import.specs.Import.{import_of}
 use Rattle.topology_import.specs.declared.fault.ImportCause.{ImportCause}
-use Rattle.fabric_cli.specs.Faults.{foreign_line, line_of, status_of, memory_line, port_line, run_line, script_line, second_line, run_status, topology_line}
+use Rattle.fabric_cli.specs.Faults.{foreign_line, line_of, status_of, memory_line, partitions_line, port_line, run_line, script_line, second_line, run_status, topology_line}
 use Rattle.fabric_cli.specs.Faults.{unread_line, unwritten_line}
 use Rattle.fabric_cli.specs.Files.{Contents, Opened, StopsAt}
 use Rattle.cli_args.specs.Words.{Asking, Names, named_inspection, named_view, opened_for}
 
 -- how an invocation ends: the arguments are refused, with this text if it is known; or an error's status and line; or a
--- whole output; or the whole audit of routes that are not safe; or the line of a script's error, after the report of the
+-- whole output; or the whole audit of routes that are not safe, or of key tables that do not follow the file; or the line of a script's error, after the report of the
 -- lines before it
 pub data Ending : Type 0 where
   refused : Option (List ℕ) → Ending
@@ -305,6 +313,40 @@ audited_over (Err at) dump = faulted 1 (topology_line (topology_code at.cause) a
 abbrev pub audited : List ℕ → List ℕ → Ending
 audited topology dump = audited_over (topology_within Large topology) dump
 
+-- ---- the P_Key tables of a discovery's fabric, which is not brought up, against a partition file
+abbrev pub keys_ending : KeysAuditState → Ending
+keys_ending found = if found.is_clean then complete found.text else warned found.text
+
+-- without a file there is the default partition alone
+abbrev pub partitions_given : Option (List ℕ) → Result (List Partition) (AtLine PartitionCause)
+partitions_given (Some text) = partitions_of text
+partitions_given None = Ok no_file
+
+abbrev pub keys_by : TopologyState → DiscoveryState → List KeysAnswer → Result (List Partition) (AtLine PartitionCause) → Ending
+keys_by plan discovery answers (Ok partitions) = keys_ending (keys_audit plan discovery answers partitions)
+keys_by plan discovery answers (Err at) = faulted 1 (partitions_line (partitions_code at.cause) at.line)
+
+abbrev pub keys_over : TopologyState → DiscoveryState → Option (List ℕ) → Result (List KeysAnswer) (AtLine KeysCause) → Ending
+keys_over plan discovery partitions (Ok answers) = keys_by plan discovery answers (partitions_given partitions)
+keys_over plan discovery partitions (Err at) = faulted 1 (foreign_line (KeysFault at.cause) at.line)
+
+-- the text of an import is read as a topology, so it has no error here
+abbrev pub keys_in_topology : DiscoveryState → (pkeys : List ℕ) → Option (List ℕ) → Result TopologyState (AtLine TopologyCause) → Ending
+keys_in_topology discovery pkeys partitions (Ok plan) = keys_over plan discovery partitions (answers_of pkeys)
+keys_in_topology discovery pkeys partitions (Err at) = faulted 1 (topology_line (topology_code at.cause) at.line)
+
+abbrev pub keys_of_import : DiscoveryState → (pkeys : List ℕ) → Option (List ℕ) → Result (List ℕ) (AtLine ImportCause) → Ending
+keys_of_import discovery pkeys partitions (Ok text) = keys_in_topology discovery pkeys partitions (topology_within Large text)
+keys_of_import discovery pkeys partitions (Err at) = faulted 1 (foreign_line (Import at.cause) at.line)
+
+abbrev pub keys_of_discovery : Option ℕ → (pkeys : List ℕ) → Option (List ℕ) → Result DiscoveryState (AtLine DiscoveryCause) → Ending
+keys_of_discovery manager pkeys partitions (Ok discovery) = keys_of_import discovery pkeys partitions (import_of discovery manager)
+keys_of_discovery manager pkeys partitions (Err at) = faulted 1 (foreign_line (Discovery at.cause) at.line)
+
+-- the discovery is checked before the answers, and these before the partitions
+abbrev pub keys_audited : Option ℕ → (netdiscover pkeys : List ℕ) → Option (List ℕ) → Ending
+keys_audited manager netdiscover pkeys partitions = keys_of_discovery manager pkeys partitions (discovery_of netdiscover)
+
 -- ---- what the loss of cables would do: the fabric is brought up before the arguments for one are checked
 -- of all cables, of the one between two given ports, or as a picture
 abbrev pub cut_judged : List ℕ → Result Cable ScriptCause → Ending
@@ -401,12 +443,20 @@ audit_of_files (Ok plan) (Ok tables) = audited plan tables
 audit_of_files (Ok plan) (Err ending) = ending
 audit_of_files (Err ending) tables = ending
 
+abbrev pub keys_of_files : Option ℕ → Result (List ℕ) Ending → Result (List ℕ) Ending → Result (Option (List ℕ)) Ending → Ending
+keys_of_files manager (Ok netdiscover) (Ok pkeys) (Ok partitions) = keys_audited manager netdiscover pkeys partitions
+keys_of_files manager (Ok netdiscover) (Ok pkeys) (Err ending) = ending
+keys_of_files manager (Ok netdiscover) (Err ending) partitions = ending
+keys_of_files manager (Err ending) pkeys partitions = ending
+
 -- what is checked in an invocation that asks for this, if each name opens to the bytes of `file`
 abbrev pub judged_for : Contents → Asking → Judged
 judged_for file (Err shown) = ended (refused shown)
 judged_for file (Ok (Subnet names)) = judged_if_read (texts_of file names)
 judged_for file (Ok (call.Import netdiscover manager)) = ended (import_of_file manager (bytes_of file netdiscover))
 judged_for file (Ok (call.Audit topology dump)) = ended (audit_of_files (bytes_of file topology) (bytes_of file dump))
+judged_for file (Ok (call.AuditKeys netdiscover pkeys partitions manager)) =
+    ended (keys_of_files manager (bytes_of file netdiscover) (bytes_of file pkeys) (bytes_if_named file partitions))
 judged_for file (Ok (Explain code)) = ended (complete (explained code))
 
 -- what is to be done, whatever its files contain
@@ -430,6 +480,8 @@ ForSomeBytes (Err shown) Is = Is (ended (refused shown))
 ForSomeBytes (Ok (Subnet names)) Is = (texts : Bytes) × AreFor names texts × Is (to_judge texts)
 ForSomeBytes (Ok (call.Import netdiscover manager)) Is = (text : List ℕ) × Is (ended (imported manager text))
 ForSomeBytes (Ok (call.Audit topology dump)) Is = (plan tables : List ℕ) × Is (ended (audited plan tables))
+ForSomeBytes (Ok (call.AuditKeys netdiscover pkeys partitions manager)) Is =
+    (found answers : List ℕ) × (parts : Option (List ℕ)) × (is_some parts ≡ is_some partitions) × Is (ended (keys_audited manager found answers parts))
 ForSomeBytes (Ok (Explain code)) Is = Is (ended (complete (explained code)))
 
 -- the text is the known one
@@ -515,6 +567,14 @@ topology_stop (of_text.At line cause) = Run (run.Topology line cause)
 abbrev pub dump_stop : TextFault DumpCause → Stop
 dump_stop of_text.NoMemory = NoMemory
 dump_stop (of_text.At line cause) = Foreign line (Dump cause)
+
+abbrev pub keys_stop : TextFault KeysCause → Stop
+keys_stop of_text.NoMemory = NoMemory
+keys_stop (of_text.At line cause) = Foreign line (KeysFault cause)
+
+abbrev pub partitions_stop : TextFault PartitionCause → Stop
+partitions_stop of_text.NoMemory = NoMemory
+partitions_stop (of_text.At line cause) = Run (run.Partitions line cause)
 
 -- arguments are refused, with this text
 abbrev pub IsRefusal : Ending → List ℕ → Type 0

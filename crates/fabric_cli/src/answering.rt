@@ -131,7 +131,11 @@ fn answer_of(audit: &Audit) -> Answer
 }
 
 /// Writes an output that has this result.
-fn written_as<'a, O: Output>(out: &mut O, text: &[u8], answer: Answer) -> Result<Answer, Stop<'a>>
+pub fn written_as<'a, O: Output>(
+    out: &mut O,
+    text: &[u8],
+    answer: Answer,
+) -> Result<Answer, Stop<'a>>
     ensures exact { (judged : Judged) → ForEnding judged (λ ending. ending ≡ ending_of answer text.now)
         → Answers judged result (O.is_sure out.old) (O.contents out.old) (O.contents out.new) }
     ensures unread { IfErr result (LeavesUnread (λ _. ⊥)) }

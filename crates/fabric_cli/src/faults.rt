@@ -2,7 +2,7 @@
 
 ghost use Rattle.std.specs.Prelude.{◌≡◌, ◌++◌, IfOk, OnOk, option_map};
 ghost use Rattle.std.specs.Option.{option_map_or};
-ghost use Rattle.fabric_cli.specs.Faults.{dump_line, foreign_line, guid_word, guids_line, netdiscover_line, smps_line};
+ghost use Rattle.fabric_cli.specs.Faults.{dump_line, foreign_line, guid_word, guids_line, netdiscover_line, pkeys_line, smps_line};
 ghost use Rattle.fabric_cli.specs.Faults.{fabric_line, line_of, memory_line, no_path_line, port_line, run_line, run_status, unwritten_line};
 ghost use Rattle.fabric_cli.specs.Faults.{run_stop, second_line, smps_stop, status_of, stop_of, sweep_status};
 ghost use Rattle.fabric_cli.specs.declared.faults.Stop.TheVariants.{NoMemory};
@@ -13,6 +13,7 @@ use cli_args::Refused;
 use dump_file::DumpCause;
 use netdiscover_file::DiscoveryCause;
 use partition_file::PartitionCause;
+use pkeys_file::KeysCause;
 use smp_lines::SmpStop;
 use std::alloc::{AllocError, AllocFailed, Global};
 use subnet_core::{RunFault, ScriptCause};
@@ -70,6 +71,8 @@ pub enum ForeignCause {
     Import(ImportCause),
     /// In dumped LFTs.
     Dump(DumpCause),
+    /// In P_Key tables that `smpquery` printed.
+    Keys(KeysCause),
     /// In SMPs: the line is none.
     Smps,
 }
@@ -259,6 +262,7 @@ fn foreign_line(alloc: Global, line: usize, cause: ForeignCause) -> Result<Vec<u
         }
         ForeignCause::Import(cause) => netdiscover_line(alloc, cause.code(), line),
         ForeignCause::Dump(cause) => dump_line(alloc, cause.code(), line),
+        ForeignCause::Keys(cause) => pkeys_line(alloc, cause.code(), line),
         ForeignCause::Smps => smps_line(alloc, line),
     }
 }
@@ -273,6 +277,12 @@ fn dump_line(alloc: Global, code: &str, line: usize) -> Result<Vec<u8>, AllocErr
     ensures { IfOk result (λ text. text.items ≡ dump_line code.now line) }
 {
     Ok(format!(in alloc; "fault {code} dump line {line}\n")?.into_bytes())
+}
+
+fn pkeys_line(alloc: Global, code: &str, line: usize) -> Result<Vec<u8>, AllocError>
+    ensures { IfOk result (λ text. text.items ≡ pkeys_line code.now line) }
+{
+    Ok(format!(in alloc; "fault {code} pkeys line {line}\n")?.into_bytes())
 }
 
 fn smps_line(alloc: Global, line: usize) -> Result<Vec<u8>, AllocError>

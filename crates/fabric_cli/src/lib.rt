@@ -7,6 +7,7 @@
 mod answering;
 mod faults;
 mod files;
+mod key_audits;
 mod laws;
 mod outputs;
 mod reading;

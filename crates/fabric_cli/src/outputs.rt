@@ -369,7 +369,7 @@ fn import_of<'a>(
     }
 }
 
-fn discovery_stop<'a>(fault: DiscoveryFault) -> Stop<'a>
+pub fn discovery_stop<'a>(fault: DiscoveryFault) -> Stop<'a>
     ensures reported { result ≡ discovery_stop fault }
     ensures fault { IsOfRun result }
 {
@@ -382,7 +382,7 @@ fn discovery_stop<'a>(fault: DiscoveryFault) -> Stop<'a>
     }
 }
 
-fn import_stop<'a>(error: ImportFault) -> Stop<'a>
+pub fn import_stop<'a>(error: ImportFault) -> Stop<'a>
     ensures reported { result ≡ import_stop error }
     ensures fault { IsOfRun result }
 {
@@ -416,7 +416,7 @@ fn audited_over<'a>(alloc: Global, plan: &LargeTopology, dump: &[u8]) -> Result<
     }
 }
 
-fn topology_stop<'a>(fault: TopoFault) -> Stop<'a>
+pub fn topology_stop<'a>(fault: TopoFault) -> Stop<'a>
     ensures reported { result ≡ topology_stop fault }
     ensures fault { IsOfRun result }
 {

@@ -4,16 +4,18 @@ ghost use Rattle.std.specs.Prelude.{◌≡◌, ◌≢◌, ◌⊎◌, ◌∷◌, 
 ghost use Rattle.std.specs.Io.KnownBytes.{Appends};
 ghost use Rattle.std.specs.Process.{exit_status};
 ghost use Rattle.cli_args.specs.Words.{all_names, asked_by_given, asking, asking_by_clap, given_texts, names, opened_for};
-ghost use Rattle.cli_args.specs.declared.call.Call.TheVariants.{Audit as ToAudit, Import as ToImport, Subnet as InSubnet};
+ghost use Rattle.cli_args.specs.declared.call.Call.TheVariants.{Audit as ToAudit, AuditKeys as ToAuditKeys, Import as ToImport, Subnet as InSubnet};
 ghost use Rattle.fabric_cli.specs.Faults.{line_of, memory_line, status_of, NamesUnread};
 ghost use Rattle.fabric_cli.specs.Files.{OpensAll, OpensInOrder};
 ghost use Rattle.fabric_cli.specs.Serving.{judged_for, judged_if_read, texts_of, Answers, AppendsSomeFor, EndsAs, EndsFor, ForSomeBytes};
 ghost use Rattle.fabric_cli.specs.Serving.{IsRefusedFor, IsReported, ReportsStop};
+ghost use Rattle.fabric_cli.specs.KeyFiles.{keys_call, keys_names};
 ghost use Rattle.text_streams.specs.Writing.{Writes};
 
 use crate::answering::{Answer, answered_of_texts, written, written_audit};
 use crate::faults::{MEMORY_LINE, REFUSED, Stop};
 use crate::files::Files;
+use crate::key_audits::{KeysFiles, keys_audited, read_keys_files, written_keys};
 use crate::outputs::{audited, imported, text_or_stop};
 use crate::reading::{read_file, read_two};
 use crate::texts::read_texts;
@@ -156,6 +158,21 @@ fn answered<'a, P: Parser, F: Files, O: Output>(
         Ok(Call::Audit { topology, dump }) => {
             answered_of_dump(alloc, topology, dump, files, out)
         }
+        Ok(
+            Call::AuditKeys {
+                netdiscover,
+                pkeys,
+                partitions,
+                manager,
+            },
+        ) => {
+            let asked = KeysFiles {
+                netdiscover,
+                pkeys,
+                partitions,
+            };
+            answered_of_keys(alloc, &asked, manager, files, out)
+        }
         Ok(Call::Explain(code)) => written(out, text_or_stop(explained(alloc, code))),
         Err(refused) => Err(Stop::of_words(refused)),
     }
@@ -205,6 +222,29 @@ fn answered_of_dump<'a, F: Files, O: Output>(
             let found = audited(alloc, plan.as_slice(), tables.as_slice());
             written_audit(out, found)
         }
+        Err(stop) => Err(stop),
+    }
+}
+
+/// Writes the audit of key tables: the three files are read before any is checked.
+fn answered_of_keys<'a, F: Files, O: Output>(
+    alloc: Global,
+    asked: &KeysFiles<'a>,
+    manager: Option<u64>,
+    files: &mut F,
+    out: &mut O,
+) -> Result<Answer, Stop<'a>>
+    ensures order { OpensInOrder (F.opened files.old) (F.opened files.new) (keys_names asked.now) }
+    ensures all { IsReported result → OpensAll (F.opened files.old) (F.opened files.new) (keys_names asked.now) }
+    ensures exact { IfSome (F.reported files.old) (λ file. Answers (judged_for file (Ok (keys_call asked.now manager))) result
+        (O.is_sure out.old) (O.contents out.old) (O.contents out.new)) }
+    ensures any_files { IsReported result → ForSomeBytes (Ok (keys_call asked.now manager))
+        (λ judged. Answers judged result (O.is_sure out.old) (O.contents out.old) (O.contents out.new)) }
+    ensures unread { IfErr result (NamesUnread (F.reported files.old) (F.reads files.old)
+        (F.opened files.old) (F.opened files.new) (keys_names asked.now)) }
+{
+    match read_keys_files(alloc, files, asked) {
+        Ok(texts) => written_keys(out, keys_audited(alloc, &texts, manager)),
         Err(stop) => Err(stop),
     }
 }

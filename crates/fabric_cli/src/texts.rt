@@ -59,7 +59,7 @@ pub fn read_texts<'a, F: Files>(
 }
 
 /// The bytes of a file, if there is one to read.
-fn read_if_named<'a, F: Files>(
+pub fn read_if_named<'a, F: Files>(
     alloc: Global,
     files: &mut F,
     name: Option<&'a str>,

@@ -1,0 +1,217 @@
+//! The audit of P_Key tables: its files, and its output.
+
+ghost use Rattle.std.specs.Prelude.{◌≡◌, Ok, Option, List, ℕ, is_some, option_copied, option_map, IfErr, IfOk, IfSome, OnOk};
+ghost use Rattle.fabric_cli.specs.Faults.{IsOfFiles, IsOfRun, LeavesUnread, NamesUnread};
+ghost use Rattle.fabric_cli.specs.Files.{OpensAll, OpensInOrder};
+ghost use Rattle.fabric_cli.specs.KeyFiles.{keys_names, partitions_name};
+ghost use Rattle.fabric_cli.specs.Serving.{bytes_if_named, ended, ending_of, keys_audited, keys_by, keys_ending, keys_in_topology, keys_of_import, keys_over};
+ghost use Rattle.fabric_cli.specs.Serving.{keys_stop, partitions_given, partitions_stop, Answers, EndsIn, Judged};
+ghost use Rattle.pkeys_file.specs.Answers.{answers_of};
+ghost use Rattle.topo_file.specs.Topology.{topology_within};
+ghost use Rattle.topology_import.specs.Import.{import_of};
+ghost use Rattle.fabric_parts.specs.declared.limits.Limits.TheVariants.{Large};
+ghost use Rattle.step_results.specs.TextGives.{TextGives};
+
+use crate::answering::{Answer, written_as};
+use crate::faults::{ForeignCause, Stop};
+use crate::files::Files;
+use crate::outputs::{discovery_stop, import_stop, topology_stop};
+use crate::reading::read_file;
+use crate::texts::read_if_named;
+use fabric_parts::Limits;
+use keys_audit::{KeysAudit, audit_keys};
+use netdiscover_file::Discovery;
+use partition_file::{PartFault, Partitions, no_file};
+use pkeys_file::{Answers as SmpqueryAnswers, KeysFault};
+use std::alloc::Global;
+use subnet_core::RunFault;
+use text_streams::{Output, TextSize};
+use topo_file::LargeTopology;
+use topology_import::topology_text;
+
+/// The names of the files.
+#[derive(Clone, Copy)]
+pub struct KeysFiles<'a> {
+    /// What `ibnetdiscover` printed.
+    pub netdiscover: &'a str,
+    /// What `smpquery` printed.
+    pub pkeys: &'a str,
+    /// The partition file, or none for `-`.
+    pub partitions: Option<&'a str>,
+}
+
+/// The bytes of the files.
+#[derive(Drop)]
+pub struct KeysTexts {
+    /// What `ibnetdiscover` printed.
+    pub netdiscover: Vec<u8>,
+    /// What `smpquery` printed.
+    pub pkeys: Vec<u8>,
+    /// The partition file, if there is one.
+    pub partitions: Option<Vec<u8>>,
+}
+
+/// The bytes of the files, each opened once and read in its turn; those of other programs may be big.
+pub fn read_keys_files<'a, F: Files>(
+    alloc: Global,
+    files: &mut F,
+    asked: &KeysFiles<'a>,
+) -> Result<KeysTexts, Stop<'a>>
+    ensures order { OpensInOrder (F.opened files.old) (F.opened files.new) (keys_names asked.now) }
+    ensures all { OnOk result (OpensAll (F.opened files.old) (F.opened files.new) (keys_names asked.now)) }
+    ensures bytes { IfOk result (λ read. IfSome (F.reported files.old) (λ file.
+        (file asked.now.netdiscover.now ≡ Some read.netdiscover.items) × (file asked.now.pkeys.now ≡ Some read.pkeys.items)
+        × (bytes_if_named file (partitions_name asked.now) ≡ Ok (option_map (λ items. items.items) read.partitions)))) }
+    ensures shape { IfOk result (λ read. is_some (option_map (λ items. items.items) read.partitions) ≡ is_some (partitions_name asked.now)) }
+    ensures fault { IfErr result IsOfFiles }
+    ensures unread { IfErr result (NamesUnread (F.reported files.old) (F.reads files.old)
+        (F.opened files.old) (F.opened files.new) (keys_names asked.now)) }
+{
+    let netdiscover = read_file(alloc, files, asked.netdiscover, TextSize::Big)?;
+    let pkeys = read_file(alloc, files, asked.pkeys, TextSize::Big)?;
+    let partitions = read_if_named(alloc, files, asked.partitions)?;
+    Ok(KeysTexts {
+        netdiscover,
+        pkeys,
+        partitions,
+    })
+}
+
+/// The partitions of a file, or those without one.
+fn partitions_given<'a>(alloc: Global, text: &Option<Vec<u8>>) -> Result<Partitions, PartFault>
+    ensures { TextGives (λ all. all) result (partitions_given (option_map (λ items. items.items) text.now)) }
+{
+    match text {
+        Some(text) => partition_file::read(alloc, text.as_slice()),
+        None => Ok(no_file(alloc)?),
+    }
+}
+
+fn keys_stop<'a>(fault: KeysFault) -> Stop<'a>
+    ensures reported { result ≡ keys_stop fault }
+    ensures fault { IsOfRun result }
+{
+    match fault {
+        KeysFault::NoMemory => Stop::NoMemory,
+        KeysFault::At { line, cause } => Stop::Foreign {
+            line,
+            cause: ForeignCause::Keys(cause),
+        },
+    }
+}
+
+fn partitions_stop<'a>(fault: PartFault) -> Stop<'a>
+    ensures reported { result ≡ partitions_stop fault }
+    ensures fault { IsOfRun result }
+{
+    match fault {
+        PartFault::NoMemory => Stop::NoMemory,
+        PartFault::At { line, cause } => Stop::Run(RunFault::Partitions { line, cause }),
+    }
+}
+
+fn keys_by<'a>(
+    alloc: Global,
+    plan: &LargeTopology,
+    discovery: &Discovery,
+    answers: &SmpqueryAnswers,
+    partitions: &Option<Vec<u8>>,
+) -> Result<KeysAudit, Stop<'a>>
+    ensures exact { EndsIn keys_ending (ended (keys_by plan.now discovery.now answers.now
+        (partitions_given (option_map (λ items. items.items) partitions.now)))) result }
+    ensures fault { IfErr result IsOfRun }
+{
+    match partitions_given(alloc, partitions) {
+        Ok(partitions) => Ok(audit_keys(alloc, plan, discovery, answers, &partitions)?),
+        Err(fault) => Err(partitions_stop(fault)),
+    }
+}
+
+fn keys_over<'a>(
+    alloc: Global,
+    plan: &LargeTopology,
+    discovery: &Discovery,
+    texts: &KeysTexts,
+) -> Result<KeysAudit, Stop<'a>>
+    ensures exact { EndsIn keys_ending (ended (keys_over plan.now discovery.now
+        (option_map (λ items. items.items) texts.now.partitions) (answers_of texts.now.pkeys.items))) result }
+    ensures fault { IfErr result IsOfRun }
+{
+    match pkeys_file::read(alloc, texts.pkeys.as_slice()) {
+        Ok(answers) => keys_by(alloc, plan, discovery, &answers, &texts.partitions),
+        Err(fault) => Err(keys_stop(fault)),
+    }
+}
+
+fn keys_in_topology<'a>(
+    alloc: Global,
+    discovery: &Discovery,
+    topology: &[u8],
+    texts: &KeysTexts,
+) -> Result<KeysAudit, Stop<'a>>
+    ensures exact { EndsIn keys_ending (ended (keys_in_topology discovery.now texts.now.pkeys.items
+        (option_map (λ items. items.items) texts.now.partitions) (topology_within Large topology.now))) result }
+    ensures fault { IfErr result IsOfRun }
+{
+    match topo_file::read_within(alloc, topology, Limits::Large) {
+        Ok(plan) => keys_over(alloc, &plan, discovery, texts),
+        Err(fault) => Err(topology_stop(fault)),
+    }
+}
+
+fn keys_of_import<'a>(
+    alloc: Global,
+    discovery: &Discovery,
+    texts: &KeysTexts,
+    manager: Option<u64>,
+) -> Result<KeysAudit, Stop<'a>>
+    ensures exact { EndsIn keys_ending (ended (keys_of_import discovery.now texts.now.pkeys.items
+        (option_map (λ items. items.items) texts.now.partitions) (import_of discovery.now manager))) result }
+    ensures fault { IfErr result IsOfRun }
+{
+    match topology_text(alloc, discovery, manager) {
+        Ok(text) => keys_in_topology(alloc, discovery, text.as_slice(), texts),
+        Err(error) => Err(import_stop(error)),
+    }
+}
+
+/// The audit of P_Key tables against a partition file.
+pub fn keys_audited<'a>(
+    alloc: Global,
+    texts: &KeysTexts,
+    manager: Option<u64>,
+) -> Result<KeysAudit, Stop<'a>>
+    ensures exact { EndsIn keys_ending (ended (keys_audited manager texts.now.netdiscover.items texts.now.pkeys.items
+        (option_map (λ items. items.items) texts.now.partitions))) result }
+    ensures fault { IfErr result IsOfRun }
+{
+    match netdiscover_file::read(alloc, texts.netdiscover.as_slice()) {
+        Ok(discovery) => keys_of_import(alloc, &discovery, texts, manager),
+        Err(fault) => Err(discovery_stop(fault)),
+    }
+}
+
+/// Writes an audit of P_Key tables.
+pub fn written_keys<'a, O: Output>(
+    out: &mut O,
+    made: Result<KeysAudit, Stop<'a>>,
+) -> Result<Answer, Stop<'a>>
+    ensures exact { (judged : Judged) → EndsIn keys_ending judged made.entry
+        → Answers judged result (O.is_sure out.old) (O.contents out.old) (O.contents out.new) }
+    ensures unread { IfErr made.entry IsOfRun → IfErr result (LeavesUnread (λ _. ⊥)) }
+{
+    match made {
+        Ok(audit) => written_as(out, audit.text(), answer_of(&audit)),
+        Err(stop) => Err(stop),
+    }
+}
+
+fn answer_of(audit: &KeysAudit) -> Answer
+    ensures { (text : List ℕ) → ending_of result text ≡ keys_ending (record audit.now { text = text }) }
+{
+    if audit.is_clean() {
+        Answer::Complete
+    } else {
+        Answer::Warned
+    }
+}

@@ -1,0 +1,160 @@
+-- What the status means.
+use Rattle.std.proofs.Common.{◌≡◌, ◌∙◌, arith, ℕ, zero, suc, Bool, true, false, not, ◌==◌, ◌&&◌, ◌||◌, List, [], ◌∷◌, ◌++◌, Option, Some, None, refl, sym, subst, filter, replicate, slice_get, IfSome, inl, inr}
+use Rattle.std.specs.List.{list_all, list_any}
+use Rattle.std.proofs.lemmas.Bool.{and_parts, cases_Bool, eqb-true, false≢true, or_cases}
+use Rattle.std.proofs.lemmas.Option.{same_Some}
+use Rattle.std.proofs.lemmas.Bool.Decides.{nat_tests}
+use Rattle.pkey_rules.specs.PKey.{base_of}
+use Rattle.keys_audit.specs.declared.port.AuditedPort.{AuditedPort}
+use Rattle.keys_audit.specs.declared.port.Enforcement.{Enforcement}
+use Rattle.keys_audit.specs.declared.port.FacingPort.{FacingPort}
+use Rattle.keys_audit.specs.declared.port.HeldKeys.{HeldKeys}
+use Rattle.keys_audit.specs.Differences.{are_clean, enforces, facing_fits_by, fits_if_enforced, is_clean, keys_follow, tables_fit}
+use Rattle.keys_audit.specs.Held.{is_key}
+use Rattle.keys_audit.specs.Laws.{FitsIfEnforced, HaveSameBases, HaveSameKeys, IsRight, PassesTheRight, TablesThatFollowAreClean, TheStatusIsThatOfEachPort}
+
+equal : (n : ℕ) → (n == n) ≡ true
+equal n = grind (arith, nat_tests)
+
+-- ---- numbers that are read of the elements of lists
+module _ (f : ℕ → ℕ) where
+  abbrev among : ℕ → List ℕ → Bool
+  among n xs = list_any (λ x. f x == n) xs
+
+  abbrev all_among : List ℕ → List ℕ → Bool
+  all_among xs ys = list_all (λ x. among (f x) ys) xs
+
+  all_means : (xs ys : List ℕ) → all_among xs ys ≡ true → (n : ℕ) → among n xs ≡ true → among n ys ≡ true
+  all_means [] ys all n there = absurd (false≢true there)
+  all_means (x ∷ xs) ys all n there =
+      let parts = and_parts (among (f x) ys) (all_among xs ys) all in
+      elim (or_cases (f x == n) (among n xs) there) [
+        | inl here ↦ subst (λ (m : ℕ). among m ys ≡ true) (eqb-true (f x) n here) parts.0
+        | inr later ↦ all_means xs ys parts.1 n later
+      ]
+
+  here_too : (x : ℕ) (xs : List ℕ) → among (f x) (x ∷ xs) ≡ true
+  here_too x xs = rw (equal (f x)) refl
+
+  later_too : (n x : ℕ) (xs : List ℕ) → among n xs ≡ true → among n (x ∷ xs) ≡ true
+  later_too n x xs there = elim (cases_Bool (f x == n)) [
+    | inl is ↦ rw is refl
+    | inr other ↦ rw (other, there) refl
+  ]
+
+  means_all : (xs ys : List ℕ) → ((n : ℕ) → among n xs ≡ true → among n ys ≡ true) → all_among xs ys ≡ true
+  means_all [] ys each = refl
+  means_all (x ∷ xs) ys each =
+      rw (each (f x) (here_too x xs), means_all xs ys (λ n there. each n (later_too n x xs there))) refl
+
+  both_ways : (a b : Bool) → (a ≡ true → b ≡ true) → (b ≡ true → a ≡ true) → a ≡ b
+  both_ways true b there back = sym (there refl)
+  both_ways false true there back = back refl
+  both_ways false false there back = refl
+
+  pub same_means : (xs ys : List ℕ) → (all_among xs ys && all_among ys xs) ≡ true → (n : ℕ) → among n xs ≡ among n ys
+  same_means xs ys same n =
+      let parts = and_parts (all_among xs ys) (all_among ys xs) same in
+      both_ways (among n xs) (among n ys) (λ there. all_means xs ys parts.0 n there) (λ there. all_means ys xs parts.1 n there)
+
+  pub means_same : (xs ys : List ℕ) → ((n : ℕ) → among n xs ≡ among n ys) → (all_among xs ys && all_among ys xs) ≡ true
+  means_same xs ys each =
+      rw (means_all xs ys (λ n there. sym (each n) ∙ there), means_all ys xs (λ n there. each n ∙ there)) refl
+
+-- ---- one port
+keys_mean : (table : Option HeldKeys) (file : List ℕ) → keys_follow table file ≡ true → IfSome table (λ (t : HeldKeys). HaveSameKeys t.keys file)
+keys_mean None file is = tt
+keys_mean (Some table) file is = same_means (λ key. key) table.keys file is
+
+means_keys : (table : Option HeldKeys) (file : List ℕ) → IfSome table (λ (t : HeldKeys). HaveSameKeys t.keys file) → keys_follow table file ≡ true
+means_keys None file is = refl
+means_keys (Some table) file is = means_same (λ key. key) table.keys file is
+
+abbrev FitBoth : Option HeldKeys → Option HeldKeys → Type 0
+FitBoth table adapter = IfSome table (λ (t : HeldKeys). IfSome adapter (λ (a : HeldKeys). HaveSameBases t.keys a.keys))
+
+fit_means : (table adapter : Option HeldKeys) → tables_fit table adapter ≡ true → FitBoth table adapter
+fit_means None adapter is = tt
+fit_means (Some table) None is = tt
+fit_means (Some table) (Some adapter) is = same_means base_of table.keys adapter.keys is
+
+means_fit : (table adapter : Option HeldKeys) → FitBoth table adapter → tables_fit table adapter ≡ true
+means_fit None adapter is = refl
+means_fit (Some table) None is = refl
+means_fit (Some table) (Some adapter) is = means_same base_of table.keys adapter.keys is
+
+abbrev FitsIf : Option Enforcement → Option HeldKeys → Option HeldKeys → Type 0
+FitsIf enforcement table adapter = IfSome enforcement (λ (e : Enforcement). enforces e ≡ true → FitBoth table adapter)
+
+fits_by : (b fit : Bool) → (not b || fit) ≡ true → b ≡ true → fit ≡ true
+fits_by true fit is on = is
+fits_by false fit is on = absurd (false≢true on)
+
+by_fits : (b fit : Bool) → (b ≡ true → fit ≡ true) → (not b || fit) ≡ true
+by_fits true fit is = is refl
+by_fits false fit is = refl
+
+enforced_means : (enforcement : Option Enforcement) (table adapter : Option HeldKeys) → fits_if_enforced enforcement table adapter ≡ true
+    → FitsIf enforcement table adapter
+enforced_means None table adapter is = tt
+enforced_means (Some enforcement) table adapter is = λ on. fit_means table adapter (fits_by (enforces enforcement) (tables_fit table adapter) is on)
+
+means_enforced : (enforcement : Option Enforcement) (table adapter : Option HeldKeys) → FitsIf enforcement table adapter
+    → fits_if_enforced enforcement table adapter ≡ true
+means_enforced None table adapter is = refl
+means_enforced (Some enforcement) table adapter is = by_fits (enforces enforcement) (tables_fit table adapter) (λ on. means_fit table adapter (is on))
+
+facing_means : (facing : Option FacingPort) (adapter : Option HeldKeys) → facing_fits_by facing adapter ≡ true
+    → IfSome facing (λ (f : FacingPort). FitsIfEnforced f adapter)
+facing_means None adapter is = tt
+facing_means (Some facing) adapter is = enforced_means facing.enforcement facing.table adapter is
+
+means_facing : (facing : Option FacingPort) (adapter : Option HeldKeys) → IfSome facing (λ (f : FacingPort). FitsIfEnforced f adapter)
+    → facing_fits_by facing adapter ≡ true
+means_facing None adapter is = refl
+means_facing (Some facing) adapter is = means_enforced facing.enforcement facing.table adapter is
+
+port_means : (port : AuditedPort) → is_clean port ≡ true → IsRight port
+port_means port is =
+    let parts = and_parts (keys_follow port.table port.file) (facing_fits_by port.facing port.table) is in
+    record { keys = keys_mean port.table port.file parts.0; bases = facing_means port.facing port.table parts.1 }
+
+means_port : (port : AuditedPort) → IsRight port → is_clean port ≡ true
+means_port port is = rw (means_keys port.table port.file is.keys, means_facing port.facing port.table is.bases) refl
+
+pub the_right_ports_pass : PassesTheRight is_clean
+the_right_ports_pass port = (port_means port, means_port port)
+
+-- ---- all of them
+ports_mean : (ports : List AuditedPort) → are_clean ports ≡ true → (place : ℕ) (port : AuditedPort) → slice_get ports place ≡ Some port → IsRight port
+ports_mean [] is place port there = cc
+ports_mean (first ∷ ports) is zero port there =
+    subst (λ (p : AuditedPort). IsRight p) (same_Some first port there) (port_means first (and_parts (is_clean first) (are_clean ports) is).0)
+ports_mean (first ∷ ports) is (suc place) port there = ports_mean ports (and_parts (is_clean first) (are_clean ports) is).1 place port there
+
+means_ports : (ports : List AuditedPort) → ((place : ℕ) (port : AuditedPort) → slice_get ports place ≡ Some port → IsRight port) → are_clean ports ≡ true
+means_ports [] each = refl
+means_ports (first ∷ ports) each =
+    rw (means_port first (each 0 first refl), means_ports ports (λ place port there. each (suc place) port there)) refl
+
+pub the_status_is_that_of_each_port : TheStatusIsThatOfEachPort
+the_status_is_that_of_each_port ports = (ports_mean ports, means_ports ports)
+
+-- ---- tables that follow
+none_kept : (n : ℕ) → filter is_key (replicate n 0) ≡ []
+none_kept zero = refl
+none_kept (suc n) = none_kept n
+
+all_kept : (file : List ℕ) (behind : ℕ) → list_all is_key file ≡ true → filter is_key (file ++ replicate behind 0) ≡ file
+all_kept [] behind all = none_kept behind
+all_kept (key ∷ file) behind all =
+    let parts = and_parts (is_key key) (list_all is_key file) all in
+    rw (parts.0, all_kept file behind parts.1) refl
+
+held_again : (file : List ℕ) (before behind : ℕ) → list_all is_key file ≡ true → filter is_key (replicate before 0 ++ file ++ replicate behind 0) ≡ file
+held_again file zero behind all = all_kept file behind all
+held_again file (suc before) behind all = held_again file before behind all
+
+pub tables_that_follow_are_clean : TablesThatFollowAreClean
+tables_that_follow_are_clean file before behind all =
+    rw (held_again file before behind all) (means_same (λ key. key) file file (λ n. refl))

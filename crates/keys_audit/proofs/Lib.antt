@@ -1,0 +1,3 @@
+mod LoopLemmas
+mod LawLemmas
+mod WrongLemmas

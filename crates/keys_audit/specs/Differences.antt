@@ -1,0 +1,105 @@
+-- How the tables of end ports differ from the partition file, and those of the switch ports that face them from theirs.
+use Rattle.std.specs.Prelude.{ℕ, Bool, true, false, not, ◌==◌, ◌&&◌, ◌||◌, length, List, [], ◌∷◌, ◌++◌, map, Option, Some, None, if◌then◌else◌}
+use Rattle.std.specs.List.{list_all}
+use Rattle.fabric_parts.specs.declared.cable.PortRef.{PortRef}
+use Rattle.pkey_rules.specs.PKey.{base_of}
+use Rattle.keys_audit.specs.declared.differences.Difference.{Difference}
+use Rattle.keys_audit.specs.declared.differences.DifferenceKind.{DifferenceKind}
+use Rattle.keys_audit.specs.declared.differences.DifferenceKind.TheVariants.{Extra, Missing, Membership, Full, Off, Half, Lacks, More, UnreadSwitchPort}
+use Rattle.keys_audit.specs.declared.port.AuditedPort.{AuditedPort}
+use Rattle.keys_audit.specs.declared.port.Enforcement.{Enforcement}
+use Rattle.keys_audit.specs.declared.port.FacingPort.{FacingPort}
+use Rattle.keys_audit.specs.declared.port.HeldKeys.{HeldKeys}
+use Rattle.keys_audit.specs.Held.{have_same_bases, have_same_keys, of_other_bases, of_other_membership}
+
+-- one difference for each of these keys
+abbrev pub each : DifferenceKind → PortRef → List ℕ → List Difference
+each kind port keys = map (λ key. record { kind = kind; port = port; key = key }) keys
+
+-- ---- of an end port: keys that stand and that the file does not give, keys that it gives and that do not stand, and keys that
+-- stand with the other membership
+unfoldable pub differences_with : PortRef → List ℕ → List ℕ → List Difference
+differences_with port keys file =
+    each Extra port (of_other_bases keys file) ++ each Missing port (of_other_bases file keys)
+    ++ each Membership port (of_other_membership keys file)
+
+-- a table that lacks keys and has no empty place
+abbrev pub lacks_room : HeldKeys → List ℕ → Bool
+lacks_room table file = table.is_full && not (length (of_other_bases file table.keys) == 0)
+
+abbrev pub noted : DifferenceKind → PortRef → List Difference
+noted kind port = record { kind = kind; port = port; key = 0 } ∷ []
+
+abbrev pub noted_if : Bool → DifferenceKind → PortRef → List Difference
+noted_if true kind port = noted kind port
+noted_if false kind port = []
+
+-- of a port that was not read nothing is said
+abbrev pub differences_by : PortRef → Option HeldKeys → List ℕ → List Difference
+differences_by port (Some table) file = differences_with port table.keys file ++ noted_if (lacks_room table file) Full port
+differences_by port None file = []
+
+abbrev pub port_differences : AuditedPort → List Difference
+port_differences port = differences_by port.port port.table port.file
+
+-- ---- of a switch port that faces an adapter port
+abbrev pub enforces : Enforcement → Bool
+enforces enforcement = enforcement.inbound || enforcement.outbound
+
+abbrev pub enforces_both : Enforcement → Bool
+enforces_both enforcement = enforcement.inbound && enforcement.outbound
+
+-- a packet under a key of a base that it lacks is dropped there
+unfoldable pub bases_with : PortRef → List ℕ → List ℕ → List Difference
+bases_with port keys adapter = each Lacks port (map base_of (of_other_bases adapter keys)) ++ each More port (map base_of (of_other_bases keys adapter))
+
+-- the tables of both ends are compared if both were read
+abbrev pub bases_by : PortRef → Option HeldKeys → Option HeldKeys → List Difference
+bases_by port (Some table) (Some adapter) = bases_with port table.keys adapter.keys
+bases_by port (Some table) None = []
+bases_by port None adapter = noted UnreadSwitchPort port
+
+unfoldable pub enforced_by : PortRef → Enforcement → Option HeldKeys → Option HeldKeys → List Difference
+enforced_by port enforcement table adapter =
+    if enforces enforcement then noted_if (not (enforces_both enforcement)) Half port ++ bases_by port table adapter else noted Off port
+
+abbrev pub facing_with : PortRef → Option Enforcement → Option HeldKeys → Option HeldKeys → List Difference
+facing_with port (Some enforcement) table adapter = enforced_by port enforcement table adapter
+facing_with port None table adapter = noted UnreadSwitchPort port
+
+abbrev pub facing_by : Option FacingPort → Option HeldKeys → List Difference
+facing_by (Some facing) adapter = facing_with facing.port facing.enforcement facing.table adapter
+facing_by None adapter = []
+
+abbrev pub facing_differences : AuditedPort → List Difference
+facing_differences port = facing_by port.facing port.table
+
+-- ---- the status: each end port that was read has the keys of the file, and each switch port that enforces has the bases of
+-- the adapter port that it faces
+abbrev pub keys_follow : Option HeldKeys → List ℕ → Bool
+keys_follow (Some table) file = have_same_keys table.keys file
+keys_follow None file = true
+
+abbrev pub follows_file : AuditedPort → Bool
+follows_file port = keys_follow port.table port.file
+
+abbrev pub tables_fit : Option HeldKeys → Option HeldKeys → Bool
+tables_fit (Some table) (Some adapter) = have_same_bases table.keys adapter.keys
+tables_fit _ _ = true
+
+abbrev pub fits_if_enforced : Option Enforcement → Option HeldKeys → Option HeldKeys → Bool
+fits_if_enforced (Some enforcement) table adapter = not (enforces enforcement) || tables_fit table adapter
+fits_if_enforced None table adapter = true
+
+abbrev pub facing_fits_by : Option FacingPort → Option HeldKeys → Bool
+facing_fits_by (Some facing) adapter = fits_if_enforced facing.enforcement facing.table adapter
+facing_fits_by None adapter = true
+
+abbrev pub facing_fits : AuditedPort → Bool
+facing_fits port = facing_fits_by port.facing port.table
+
+abbrev pub is_clean : AuditedPort → Bool
+is_clean port = follows_file port && facing_fits port
+
+abbrev pub are_clean : List AuditedPort → Bool
+are_clean ports = list_all is_clean ports

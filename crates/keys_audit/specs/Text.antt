@@ -1,0 +1,156 @@
+-- What is printed.
+use Rattle.std.specs.Prelude.{ℕ, Bool, true, false, ◌==◌, ◌&&◌, List, [], ◌∷◌, ◌++◌, codes, decimal, count_by, flat_map, length, if◌then◌else◌, Option, Some, None, is_none, is_some}
+use Rattle.std.specs.Int.{w16, to_be_bytes}
+use Rattle.fabric_parts.specs.declared.cable.PortRef.{PortRef}
+use Rattle.netdiscover_file.specs.Discovery.{DiscoveryState}
+use Rattle.partition_file.specs.declared.partition.Partition.{Partition}
+use Rattle.pkeys_file.specs.declared.answer.Answer.{Answer}
+use Rattle.text_parts.specs.Parts.{guid_text, hex_text, port_name}
+use Rattle.topo_file.specs.declared.node.Node.{Node}
+use Rattle.topo_file.specs.Node.{name_at}
+use Rattle.topo_file.specs.Topology.{TopologyState}
+use Rattle.keys_audit.specs.declared.differences.Difference.{Difference}
+use Rattle.keys_audit.specs.declared.differences.DifferenceKind.{DifferenceKind}
+use Rattle.keys_audit.specs.declared.differences.DifferenceKind.TheVariants.{Extra, Missing, Membership, Full, Off, Half, Lacks, More, UnreadSwitchPort}
+use Rattle.keys_audit.specs.declared.port.AuditedPort.{AuditedPort}
+use Rattle.keys_audit.specs.Differences.{are_clean, facing_differences, follows_file, port_differences}
+use Rattle.keys_audit.specs.Gathered.{ports_of_files}
+
+-- what is found: the lines, and whether the tables follow the file
+pub record KeysAuditState : Type 0 where
+  pub text : List ℕ
+  pub is_clean : Bool
+
+abbrev pub port_text : List Node → PortRef → List ℕ
+port_text nodes port = port_name (name_at nodes port.node) port.port
+
+-- ---- differences: `extra c1/1 0x8103`, `off left/2`
+abbrev pub kind_word : DifferenceKind → List ℕ
+kind_word Extra = codes "extra "
+kind_word Missing = codes "missing "
+kind_word Membership = codes "membership "
+kind_word Full = codes "full "
+kind_word Off = codes "off "
+kind_word Half = codes "half "
+kind_word Lacks = codes "lacks "
+kind_word More = codes "more "
+kind_word UnreadSwitchPort = codes "unread "
+
+abbrev pub key_word : ℕ → List ℕ
+key_word key = codes " " ++ hex_text (to_be_bytes w16 key)
+
+-- of a switch port that does not enforce, or was not read, and of a full table no key is printed: its difference has 0
+unfoldable pub difference_line : List Node → Difference → List ℕ
+difference_line nodes difference =
+    kind_word difference.kind ++ port_text nodes difference.port ++ (if difference.key == 0 then [] else key_word difference.key) ++ 10 ∷ []
+
+-- ---- ports that are not judged
+abbrev pub is_unread : AuditedPort → Bool
+is_unread port = is_none port.table && is_none port.moved
+
+-- `unread c1/1`
+abbrev pub unread_line : List Node → PortRef → List ℕ
+unread_line nodes port = codes "unread " ++ port_text nodes port ++ 10 ∷ []
+
+unfoldable pub unread_lines : List Node → AuditedPort → List ℕ
+unread_lines nodes port = if is_unread port then unread_line nodes port.port else []
+
+-- `moved c1/1 5 0x98039b0300d05031 0x98039b0300d05041`: the LID, the GUID of the discovery, and that which answered
+abbrev pub moved_line : List Node → AuditedPort → ℕ → List ℕ
+moved_line nodes port guid =
+    codes "moved " ++ port_text nodes port.port ++ codes " " ++ decimal port.lid ++ codes " " ++ guid_text port.guid
+    ++ codes " " ++ guid_text guid ++ 10 ∷ []
+
+abbrev pub moved_by_guid : List Node → AuditedPort → Option ℕ → List ℕ
+moved_by_guid nodes port (Some guid) = moved_line nodes port guid
+moved_by_guid nodes port None = []
+
+unfoldable pub moved_lines : List Node → AuditedPort → List ℕ
+moved_lines nodes port = moved_by_guid nodes port port.moved
+
+-- ---- counts
+abbrev pub code_of_kind : DifferenceKind → ℕ
+code_of_kind Extra = 0
+code_of_kind Missing = 1
+code_of_kind Membership = 2
+code_of_kind Full = 3
+code_of_kind Off = 4
+code_of_kind Half = 5
+code_of_kind Lacks = 6
+code_of_kind More = 7
+code_of_kind UnreadSwitchPort = 8
+
+abbrev pub is_of : DifferenceKind → Difference → Bool
+is_of kind difference = code_of_kind difference.kind == code_of_kind kind
+
+abbrev pub count_of : DifferenceKind → List Difference → ℕ
+count_of kind differences = count_by (is_of kind) differences
+
+abbrev pub is_as_file : AuditedPort → Bool
+is_as_file port = is_some port.table && follows_file port
+
+abbrev pub is_moved : AuditedPort → Bool
+is_moved port = is_some port.moved
+
+abbrev pub is_faced : AuditedPort → Bool
+is_faced port = is_some port.facing
+
+-- `ports: 6, 3 as the file, 0 unread, 0 moved`
+unfoldable pub read_part : List AuditedPort → List ℕ
+read_part ports = codes "ports: " ++ decimal (length ports) ++ codes ", " ++ decimal (count_by is_as_file ports) ++ codes " as the file, "
+
+unfoldable pub unread_part : List AuditedPort → List ℕ
+unread_part ports = decimal (count_by is_unread ports) ++ codes " unread, " ++ decimal (count_by is_moved ports) ++ codes " moved\n"
+
+abbrev pub ports_line : List AuditedPort → List ℕ
+ports_line ports = read_part ports ++ unread_part ports
+
+-- `keys: 2 extra, 1 missing, 1 of other membership`
+unfoldable pub keys_line : List Difference → List ℕ
+keys_line differences =
+    codes "keys: " ++ decimal (count_of Extra differences) ++ codes " extra, " ++ decimal (count_of Missing differences) ++ codes " missing, "
+    ++ decimal (count_of Membership differences) ++ codes " of other membership\n"
+
+-- `switch ports: 4, 1 off, 1 half, 0 unread`
+unfoldable pub off_part : List AuditedPort → List Difference → List ℕ
+off_part ports differences =
+    codes "switch ports: " ++ decimal (count_by is_faced ports) ++ codes ", " ++ decimal (count_of Off differences) ++ codes " off, "
+
+unfoldable pub half_part : List Difference → List ℕ
+half_part differences = decimal (count_of Half differences) ++ codes " half, " ++ decimal (count_of UnreadSwitchPort differences) ++ codes " unread\n"
+
+abbrev pub switch_ports_line : List AuditedPort → List Difference → List ℕ
+switch_ports_line ports differences = off_part ports differences ++ half_part differences
+
+-- `bases: 2 lacking, 1 more`
+unfoldable pub bases_line : List Difference → List ℕ
+bases_line differences =
+    codes "bases: " ++ decimal (count_of Lacks differences) ++ codes " lacking, " ++ decimal (count_of More differences) ++ codes " more\n"
+
+abbrev pub verdict_line : Bool → List ℕ
+verdict_line true = codes "verdict: the tables that were read follow the file\n"
+verdict_line false = codes "verdict: the tables do not follow the file\n"
+
+-- ---- the whole
+unfoldable pub lines_of : List Node → List AuditedPort → List Difference → List Difference → List ℕ
+lines_of nodes ports keys switches =
+    flat_map (difference_line nodes) keys ++ flat_map (difference_line nodes) switches
+    ++ flat_map (moved_lines nodes) ports ++ flat_map (unread_lines nodes) ports
+
+unfoldable pub counts_of : List AuditedPort → List Difference → List Difference → List ℕ
+counts_of ports keys switches = ports_line ports ++ keys_line keys ++ switch_ports_line ports switches ++ bases_line switches
+
+unfoldable pub text_by : List Node → List AuditedPort → List Difference → List Difference → List ℕ
+text_by nodes ports keys switches =
+    lines_of nodes ports keys switches ++ counts_of ports keys switches ++ verdict_line (are_clean ports)
+
+-- over any ports
+unfoldable pub audit_of : List Node → List AuditedPort → KeysAuditState
+audit_of nodes ports = record {
+  text = text_by nodes ports (flat_map port_differences ports) (flat_map facing_differences ports);
+  is_clean = are_clean ports;
+}
+
+-- of the files
+abbrev pub keys_audit : TopologyState → DiscoveryState → List Answer → List Partition → KeysAuditState
+keys_audit plan discovery answers partitions = audit_of plan.nodes (ports_of_files plan discovery answers partitions)

@@ -1,0 +1,52 @@
+//! What is known of an end port of a fabric.
+
+use fabric_parts::PortRef;
+use pkeys_file::KeyList;
+
+/// The P_Keys that stand in a table.
+#[derive(Debug, Drop)]
+pub struct HeldKeys {
+    /// The keys, by their indexes; empty places are left out.
+    pub keys: KeyList,
+    /// Whether the table has no empty place.
+    pub is_full: bool,
+}
+
+/// In which direction a switch port drops packets under keys of other bases than those of its table.
+#[derive(Clone, Copy, Debug, PartialEq, Eq)]
+pub struct Enforcement {
+    /// Those that come in.
+    pub inbound: bool,
+    /// Those that go out.
+    pub outbound: bool,
+}
+
+/// The switch port at the other end of an adapter port's cable.
+#[derive(Debug, Drop)]
+pub struct FacingPort {
+    /// The port, by the place of its switch among the nodes of the topology.
+    pub port: PortRef,
+    /// What it enforces, if that was read.
+    pub enforcement: Option<Enforcement>,
+    /// Its table, if that was read.
+    pub table: Option<HeldKeys>,
+}
+
+/// An end port: a port of an adapter, or port 0 of a switch.
+#[derive(Debug, Drop)]
+pub struct AuditedPort {
+    /// The port, by the place of its node among the nodes of the topology.
+    pub port: PortRef,
+    /// Its GUID.
+    pub guid: u64,
+    /// Its LID, by the discovery.
+    pub lid: u16,
+    /// The GUID that answered at this LID, if it is another port's: LIDs moved after the discovery.
+    pub moved: Option<u64>,
+    /// Its table, if that was read.
+    pub table: Option<HeldKeys>,
+    /// The keys that the partition file gives it, no two of one base.
+    pub file: KeyList,
+    /// The switch port that faces it, if one does.
+    pub facing: Option<FacingPort>,
+}

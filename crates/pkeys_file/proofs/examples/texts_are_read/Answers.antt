@@ -1,0 +1,5 @@
+use Rattle.pkeys_file.proofs.ExampleLemmas.{texts_are_read}
+use Rattle.pkeys_file.proofs.examples.texts_are_read.Goals as goal
+
+pub returns : goal.returns
+returns c = texts_are_read

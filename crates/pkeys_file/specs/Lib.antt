@@ -1,0 +1,9 @@
+pub mod Fault
+pub mod Line
+pub mod Parts
+pub mod Query
+pub mod Fields
+pub mod Rows
+pub mod Reply
+pub mod Answers
+pub mod Examples

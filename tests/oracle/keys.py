@@ -1,0 +1,309 @@
+#!/usr/bin/env python3
+"""What `fabric audit-keys` prints, worked out a second time, plainly:
+
+    tests/oracle/keys.py NETDISCOVER PKEYS PARTITIONS [--sm GUID]   prints the audit, and then a line `status N`
+    tests/oracle/keys.py --make SEED                                writes netdiscover, pkeys and partitions by chance into this folder
+
+Partition files may have what --make and the files of tests/opensm-keys have: definitions with a P_Key, flags, and lists of GUIDs,
+ALL, ALL_CAS, ALL_SWITCHES and SELF."""
+
+import collections
+import random
+import re
+import sys
+
+End = collections.namedtuple("End", "name guid lid number switch far")  # far: the GUID of the switch and its port
+
+
+def encoded(name, taken):
+    """The name that an import gives a node."""
+    name = "".join(c if re.match(r"[A-Za-z0-9_.-]", c) else "_" for c in name[:32]) or "node"
+    count, own = 2, name
+    while own in taken:
+        own = name[: 32 - len(f"-{count}")] + f"-{count}"
+        count += 1
+    taken.add(own)
+    return own
+
+
+class Fabric:
+    """Ends in the order of the discovery: those of switches first. An adapter has the ports whose GUIDs follow one another."""
+
+    def __init__(self, file):
+        self.manager, node, nodes = None, None, []
+        guids = None
+        for line in open(file, errors="replace"):
+            if found := re.match(r"# Initiated from node \w+ port (\w+)", line):
+                self.manager = self.manager or int(found[1], 16)
+            elif found := re.match(r"switchguid=0x(\w+)\((\w+)\)", line):
+                guids = int(found[2], 16)
+            elif found := re.match(r'(Switch|Ca)\s+(\d+) "\w-(\w+)"\s+# "(.*)"(?: (?:base|enhanced) port 0 lid (\d+))?', line):
+                node = {"switch": found[1] == "Switch", "guid": int(found[3], 16), "name": found[4], "ports": []}
+                node["port"], node["lid"] = (guids or node["guid"], int(found[5])) if node["switch"] else (None, None)
+                guids = None
+                nodes.append(node)
+            elif found := re.match(r'\[(\d+)\](?:\((\w+)\))?\s+"(\w)-(\w+)"\[(\d+)\](?:\(\w+\))?\s+#(?: lid (\d+))?', line):
+                node["ports"].append((int(found[1]), found[2] and int(found[2], 16), int(found[4], 16), int(found[5]), found[6] and int(found[6])))
+        taken = set()
+        self.switches = {node["guid"]: (encoded(node["name"], taken), node) for node in nodes if node["switch"]}
+        lines = [(node, port) for node in nodes if not node["switch"] for port in node["ports"]]
+        known = {port[1] for _, port in lines}
+        adapters = {}
+        for node, port in lines:
+            if port[1] - 1 not in known:
+                adapters[port[1] - 1] = encoded(node["name"], taken)
+        self.ends = [End(f"{name}/0", node["port"], node["lid"], 0, node["guid"], None) for name, node in self.switches.values()]
+        for node, (number, guid, far, far_port, lid) in lines:
+            first = guid - 1
+            while first not in adapters:
+                first -= 1
+            facing = (far, far_port) if far in self.switches else None
+            self.ends.append(End(f"{adapters[first]}/{guid - first}", guid, lid, number, None, facing))
+
+
+def answers(file):
+    """By the words of their queries: the fields of an answer, or the words of a table; nothing if it is not whole."""
+    found, words, rows, fields = {}, None, [], {}
+    for line in [*open(file, errors="replace"), "# smpquery end"]:
+        line = line.rstrip()
+        if line.startswith("# smpquery "):
+            if words:
+                found[words] = fields
+            words, rows, fields = tuple(line.split()[2:]), [], {}
+        elif re.match(r"\s*\d+: ", line):
+            rows += [int(key, 16) for key in line.split()[1:]]
+        elif line.endswith("pkeys capacity for this port"):
+            fields = {"table": rows[: int(line.split()[0])]}
+        elif words and not line.startswith(("#", "\t")) and ":" in line:
+            name, value = line.split(":", 1)
+            fields[name] = value.lstrip(".")
+    return found
+
+
+def memberships(file, fabric, manager):
+    """The keys that the file gives each end, by its GUID."""
+    if file == "-":
+        return {end.guid: [0xFFFF] for end in fabric.ends}
+    text = re.sub(r"#.*", "", open(file).read())
+    items = collections.OrderedDict({0x7FFF: []})
+    ruled = False
+    for definition in text.split(";")[:-1]:
+        head, lists = definition.split(":", 1)
+        name_and_key, *flags = [part.strip() for part in head.split(",")]
+        base = int(name_and_key.split("=")[1].strip(), 16) & 0x7FFF
+        ruled |= base == 0x7FFF
+        full = "defmember=full" in flags
+        for item in lists.split(","):
+            port, _, membership = [part.strip() for part in item.partition("=")]
+            if port:
+                items.setdefault(base, []).append((port, membership == "full" if membership else full))
+            else:
+                items.setdefault(base, [])
+    if not ruled:
+        items[0x7FFF].append(("ALL", False))
+    items[0x7FFF].append(("SELF", True))
+    given = {}
+    for end in fabric.ends:
+        is_listed = {"ALL": True, "ALL_CAS": end.switch is None, "ALL_SWITCHES": end.switch is not None, "SELF": end.guid == manager}
+        given[end.guid] = []
+        for base, listed in items.items():
+            met = [full for port, full in listed if (is_listed[port] if port in is_listed else int(port, 16) == end.guid)]
+            if met:
+                given[end.guid].append(base | (0x8000 if any(met) else 0))
+    return given
+
+
+def base(key):
+    return key & 0x7FFF
+
+
+def lacking(keys, others):
+    return [key for key in keys if base(key) not in {base(other) for other in others}]
+
+
+class Audit:
+    def __init__(self, netdiscover, pkeys, partitions, manager):
+        self.fabric = Fabric(netdiscover)
+        self.answers = answers(pkeys)
+        self.given = memberships(partitions, self.fabric, manager or self.fabric.manager)
+        self.keys, self.facing, self.moved, self.unread = [], [], [], []
+        self.counts = collections.Counter()
+        self.clean = True
+
+    def node(self, lid):
+        fields = self.answers.get(("nodeinfo", str(lid)), {})
+        return fields if {"Guid", "PortGuid", "PartCap"} <= fields.keys() else {}
+
+    def table(self, lid, *ports):
+        for port in ports:
+            for words in (("pkeys", str(lid), str(port)), *([("pkeys", str(lid))] if port == 0 else [])):
+                table = self.answers.get(words, {}).get("table")
+                if table is not None:
+                    return table
+        return None
+
+    def note(self, lines, kind, port, keys):
+        lines += [f"{kind} {port} 0x{key:04x}" for key in keys]
+        self.counts[kind] += len(keys)
+
+    def own(self, end):
+        """The keys that stand at an end, if it is judged."""
+        node = self.node(end.lid)
+        wanted, field = (end.switch, "Guid") if end.switch else (end.guid, "PortGuid")
+        if node and int(node[field], 16) != wanted:
+            self.moved.append(f"moved {end.name} {end.lid} 0x{end.guid:016x} 0x{int(node[field], 16):016x}")
+            return None
+        table = self.table(end.lid, end.number, 0)
+        if table is None:
+            self.unread.append(f"unread {end.name}")
+            return None
+        held, given = [key for key in table if base(key)], self.given[end.guid]
+        missing = lacking(given, held)
+        changed = [key for key in held if key not in given and base(key) in {base(other) for other in given}]
+        self.note(self.keys, "extra", end.name, lacking(held, given))
+        self.note(self.keys, "missing", end.name, missing)
+        self.note(self.keys, "membership", end.name, changed)
+        if missing and len(held) == len(table):
+            self.keys.append(f"full {end.name}")
+        if set(held) == set(given):
+            self.counts["as the file"] += 1
+        else:
+            self.clean = False
+        return held
+
+    def faced(self, end, held):
+        name, switch = self.fabric.switches[end.far[0]]
+        port = f"{name}/{end.far[1]}"
+        self.counts["faced"] += 1
+        node, lid = self.node(switch["lid"]), str(switch["lid"])
+        known = not node or int(node["Guid"], 16) == switch["guid"]
+        info = self.answers.get(("portinfo", lid, str(end.far[1])), {}) if known else {}
+        table = self.table(lid, end.far[1]) if known else None
+        if not {"PartEnforceInb", "PartEnforceOutb"} <= info.keys():
+            self.facing.append(f"unread {port}")
+            self.counts["unread switch"] += 1
+            return
+        bits = info["PartEnforceInb"] + info["PartEnforceOutb"]
+        if bits == "00":
+            self.facing.append(f"off {port}")
+            self.counts["off"] += 1
+            return
+        if bits != "11":
+            self.facing.append(f"half {port}")
+            self.counts["half"] += 1
+        if table is None:
+            self.facing.append(f"unread {port}")
+            self.counts["unread switch"] += 1
+        elif held is not None:
+            keys = [key for key in table if base(key)]
+            self.note(self.facing, "lacks", port, [base(key) for key in lacking(held, keys)])
+            self.note(self.facing, "more", port, [base(key) for key in lacking(keys, held)])
+            self.clean &= {base(key) for key in held} == {base(key) for key in keys}
+
+    def lines(self):
+        for end in self.fabric.ends:
+            held = self.own(end)
+            if end.far:
+                self.faced(end, held)
+        count = self.counts
+        return self.keys + self.facing + self.moved + self.unread + [
+            f"ports: {len(self.fabric.ends)}, {count['as the file']} as the file, {len(self.unread)} unread, {len(self.moved)} moved",
+            f"keys: {count['extra']} extra, {count['missing']} missing, {count['membership']} of other membership",
+            f"switch ports: {count['faced']}, {count['off']} off, {count['half']} half, {count['unread switch']} unread",
+            f"bases: {count['lacks']} lacking, {count['more']} more",
+            "verdict: the tables that were read follow the file" if self.clean else "verdict: the tables do not follow the file",
+            f"status {int(not self.clean)}",
+        ]
+
+
+def table_text(words, capacity):
+    rows = -(-capacity // 8) * 8
+    words = (words + [0] * rows)[:rows]
+    text = [f"{place:4}: " + " ".join(f"0x{key:04x}" for key in words[place : place + 8]) for place in range(0, rows, 8)]
+    return text + [f"{capacity} pkeys capacity for this port"]
+
+
+def make(seed):
+    """A fabric of a line of switches with adapters, a partition file, and tables that follow it but for some edits."""
+    chance = random.Random(seed)
+    switches = [{"guid": 0x1000 * (n + 1), "lid": n + 1, "name": chance.choice(["sw", f"sw {n}", f"s{n}"]), "ports": {}} for n in range(chance.randrange(1, 4))]
+    for one, (a, b) in enumerate(zip(switches, switches[1:])):
+        a["ports"][1], b["ports"][2] = (b, 2), (a, 1)
+    adapters, lid = [], 20
+    for n in range(chance.randrange(1, 7)):
+        node = {"guid": 0x100000 + 0x100 * n, "name": chance.choice(["host", f"h{n}", f"h{n} HCA-1"]), "ports": []}
+        for number in range(1, chance.choice([1, 1, 1, 2]) + 1):
+            switch = chance.choice(switches)
+            port = len(switch["ports"]) + 3
+            node["ports"].append({"number": number, "guid": node["guid"] + number, "lid": lid, "far": (switch, port)})
+            switch["ports"][port] = (node, number)
+            lid += chance.choice([1, 2])
+        adapters.append(node)
+    lines = [f"# Initiated from node {adapters[0]['guid']:016x} port {adapters[0]['ports'][0]['guid']:016x}"]
+    for switch in switches:
+        lines += [f"switchguid=0x{switch['guid']:x}({switch['guid']:x})", f"Switch\t36 \"S-{switch['guid']:016x}\"\t\t# \"{switch['name']}\" base port 0 lid {switch['lid']} lmc 0"]
+        for port, (far, number) in sorted(switch["ports"].items()):
+            if isinstance(far["ports"], dict):
+                lines.append(f"[{port}]\t\"S-{far['guid']:016x}\"[{number}]\t\t# \"{far['name']}\" lid {far['lid']} 4xEDR")
+            else:
+                lines.append(f"[{port}]\t\"H-{far['guid']:016x}\"[{number}]({far['guid'] + number:x}) \t\t# \"{far['name']}\" lid {far['ports'][number - 1]['lid']} 4xEDR")
+    for node in adapters:
+        lines.append(f"Ca\t2 \"H-{node['guid']:016x}\"\t\t# \"{node['name']}\"")
+        for port in node["ports"]:
+            far, number = port["far"]
+            lines.append(f"[{port['number']}]({port['guid']:x}) \t\"S-{far['guid']:016x}\"[{number}]\t\t# lid {port['lid']} lmc 0 \"{far['name']}\" lid {far['lid']} 4xEDR")
+    open("netdiscover", "w").write("\n".join(lines) + "\n")
+
+    guids = [port["guid"] for node in adapters for port in node["ports"]] + [switch["guid"] for switch in switches] + [0xDEAD]
+    rules = []
+    if chance.randrange(2):
+        rules.append("Default=0x7fff: " + chance.choice(["ALL=limited", "ALL=limited, SELF=full", "ALL_CAS=full", "ALL_SWITCHES=full"]) + ";")
+    for n in range(chance.randrange(1, 6)):
+        words = chance.choice(["ALL", "ALL_CAS", "SELF", *[f"0x{guid:x}" for guid in guids * 2]]), *[f"0x{guid:x}" for guid in chance.sample(guids, chance.randrange(len(guids)))]
+        rules.append(f"P{n}=0x{chance.choice([1, 2, 3, 0x8004, 0x55]):04x}{chance.choice(['', ', defmember=full'])}: " + ", ".join(word + chance.choice(["", "=full", "=limited"]) for word in words) + ";")
+    open("partitions", "w").write("\n".join(rules) + "\n")
+
+    fabric = Fabric("netdiscover")
+    given = memberships("partitions", fabric, fabric.manager)
+
+    def edited(keys, capacity):
+        keys = list(keys)
+        if chance.randrange(4) == 0:
+            keys.insert(chance.randrange(len(keys) + 1), 0)
+        if keys and chance.randrange(5) == 0:
+            place = chance.randrange(len(keys))
+            keys[place] = chance.choice([0, keys[place] ^ 0x8000, 0x8000, 0x7777, 0x8003])
+        if chance.randrange(6) == 0:
+            keys.append(chance.choice([0x8001, 0x0002, 0x8055, 0xFFFF]))
+        return table_text(keys, capacity)
+
+    out = []
+
+    def ask(words, answer):
+        out.append("# smpquery " + words)
+        if chance.randrange(30):
+            out.extend(answer if chance.randrange(40) else answer[: chance.randrange(len(answer))])
+
+    def node_info(lid, guid, port):
+        moved = chance.choice([0] * 25 + [0x40])
+        return [f"# Node info: Lid {lid}", f"Guid:............{hex(guid + moved)}", f"PortGuid:........{hex(port + moved)}", "PartCap:.....8", "DevId:....0xd2f0"]
+
+    for switch in switches:
+        ask(f"nodeinfo {switch['lid']}", node_info(switch["lid"], switch["guid"], switch["guid"]))
+        ask(f"pkeys {switch['lid']} 0", edited(given[switch["guid"]], chance.choice([8, 12, 32])))
+        for port, (far, number) in sorted(switch["ports"].items()):
+            keys = [0xFFFF] if isinstance(far["ports"], dict) else given[far["guid"] + number]
+            ask(f"pkeys {switch['lid']} {port}", edited(keys, chance.choice([8, 32])))
+            bits = chance.choice(["11"] * 5 + ["01", "10", "00"])
+            ask(f"portinfo {switch['lid']} {port}", [f"# Port info: Lid {switch['lid']} port {port}", "CapMask:....0x2", "\t\tIsSM", f"PartEnforceInb:..{bits[0]}", f"PartEnforceOutb:.{bits[1]}"])
+    for node in adapters:
+        for port in node["ports"]:
+            ask(f"nodeinfo {port['lid']}", node_info(port["lid"], node["guid"], port["guid"]))
+            ask(f"pkeys {port['lid']}{chance.choice(['', ' ' + str(port['number'])])}", edited(given[port["guid"]], chance.choice([8, 64, 128])))
+    open("pkeys", "w").write("\n".join(out) + "\n")
+
+
+if sys.argv[1] == "--make":
+    make(int(sys.argv[2]))
+else:
+    print("\n".join(Audit(*sys.argv[1:4], int(sys.argv[5], 16) if len(sys.argv) > 5 else None).lines()))
