@@ -137,7 +137,9 @@ pub(crate) const SHARES: &str = with_statuses!(
 their P_Keys match; the ports of switches and the SM port are included:
   share PORT PORT BASE    both have a P_Key of this base, and one of them is a full member
 
-With PORT only the lines that name it are printed.
+With PORT only the lines that name it are printed. Without it, a subnet of more than 320 end ports is
+counted, with a line for each partition:
+  pairs BASE PAIRS MEMBERS FULL    PAIRS `share` lines; MEMBERS members, of which FULL are full ones
 
 For example, for `P1=0x0001: 0x111=full, 0x121, 0x131;` in PARTS:
   share h1/1 h2/1 0x0001
@@ -153,7 +155,8 @@ pub(crate) const CHANGES: &str = with_statuses!(
   partition NUMBER BASE NAME          a partition, by base; - for an empty name
   group BASE MGID QKEY MTU RATE SL    the broadcast group of a partition, by base
   member KEY PORT                     a member, by base, then by LID
-  share PORT PORT BASE                two ports that may talk, as `shares` lists them
+  share PORT PORT BASE                two ports that may talk, as `shares` lists them; in a subnet of
+                                      more than 320 end ports its `pairs` lines
 
 For example, if `P1=0x0001: 0x111=full, 0x121, 0x131;` gets `0x121=full`:
   - member 0x0001 h2/1

@@ -326,10 +326,13 @@ fn audit_by<'a>(
 fn audit_keys<'a>(found: &ArgMatches<'a>) -> Option<Call<Asked<'a>, &'a str>>
     ensures { option_map named_call result ≡ audit_keys_by (rows_of (found_of found.now)) }
 {
+    let netdiscover = word_of(found, "NETDISCOVER")?;
+    let pkeys = word_of(found, "PKEYS")?;
+    let partitions = word_of(found, "PARTS")?;
     Some(Call::AuditKeys {
-        netdiscover: word_of(found, "NETDISCOVER")?,
-        pkeys: word_of(found, "PKEYS")?,
-        partitions: file_in(word_of(found, "PARTS")?),
+        netdiscover,
+        pkeys,
+        partitions: file_in(partitions),
         manager: guid_by(word_of(found, "SM"))?,
     })
 }

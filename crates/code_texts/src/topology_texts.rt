@@ -6,9 +6,9 @@ TF1: the line is malformed
 A line is empty, or one of `switch NAME GUID PORTS`, `adapter NAME GUID PORTS`, `cable PORT PORT`,
 `root NAME` and `sm PORT`, with exactly these fields; a comment may follow. NAME is 1 to 32 letters,
 digits, `_`, `-` and `.`. GUID is 1 to 2^64-1. PORTS is 1 to 8 for a CA (`adapter`); for a switch 1 to
-36, and 1 to 254 in `import` and `audit`, which simulate nothing. PORT is `NAME/NUMBER`. Numbers are
-decimal, or `0x` and hexadecimal digits. Outside comments only printable ASCII, blanks and tabs are
-allowed; a CR is allowed only before LF or a comment.
+36, and 1 to 254 in `import`, `audit`, `shares` and `diff`, which simulate nothing. PORT is
+`NAME/NUMBER`. Numbers are decimal, or `0x` and hexadecimal digits. Outside comments only printable
+ASCII, blanks and tabs are allowed; a CR is allowed only before LF or a comment.
 
 For this topology the program prints `fault TF1 topology line 1`:
 
@@ -201,9 +201,9 @@ Corrected:
 pub const TF10: &str = "\
 TF10: the node exceeds the limit on switches or on CA ports
 
-A fabric has at most 64 switches, and at most 256 ports of CAs, cabled or not. `import` and `audit`
-simulate nothing: there the limits are 5,000 switches and 44,000 ports of CAs. The line of the first
-node over a limit is reported.
+A fabric has at most 64 switches, and at most 256 ports of CAs, cabled or not. `import`, `audit`,
+`shares` and `diff` simulate nothing: there the limits are 5,000 switches and 44,000 ports of CAs. The
+line of the first node over a limit is reported.
 
 For this topology, in which `...` is the lines between, the program prints
 `fault TF10 topology line 34`:

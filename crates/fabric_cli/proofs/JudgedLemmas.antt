@@ -4,15 +4,17 @@ use Rattle.std.specs.Prelude.{◌⊎◌, IfErr, IfOk, IsErr}
 use Rattle.std.specs.declared.alloc.AllocError.{AllocError}
 use Rattle.step_results.specs.AtLine.{AtLine}
 use Rattle.step_results.specs.Gives.{Fails}
+use Rattle.step_results.specs.Steps.{◌>>=◌}
+use Rattle.fabric_parts.specs.declared.limits.Limits.TheVariants.{Large}
 use Rattle.step_results.proofs.StepLemmas.{same_err}
-use Rattle.topo_file.specs.Topology.{TopologyState, topology_of}
+use Rattle.topo_file.specs.Topology.{TopologyState, topology_of, topology_within}
 use Rattle.partition_file.specs.declared.partition.Partition.{Partition}
 use Rattle.fabric_parts.specs.declared.cable.PortRef.{PortRef}
 use Rattle.subnet_core.specs.After.{IsLeftBy, TurnsAfter, left_from, script_read}
 use Rattle.subnet_core.specs.BringUp.{Becomes, IsStarted, SubnetState, Turns, stop_of, up_in}
 use Rattle.subnet_core.specs.Fate.{FailsWith, WithFabric, up_from}
 use Rattle.subnet_core.specs.Listing.{listing_text}
-use Rattle.subnet_core.specs.Inventory.{InventoryState, fault_in, of_text, partitions_for, inventory_of}
+use Rattle.subnet_core.specs.Inventory.{InventoryState, fault_in, inventoried, of_text, partitions_for, inventory_of, large_inventory_of}
 use Rattle.subnet_core.specs.Comparison.{Compares, TwoRunsState, TwoScriptsState, of_port, two_runs_of, two_scripts_of}
 use Rattle.subnet_core.specs.declared.comparing.Comparison.{Comparison}
 use Rattle.script_lines.specs.NamedPort.{named_adapter_port}
@@ -46,15 +48,24 @@ partitions_at_one : (partitions : Option (List ℕ)) (fault : RunFault) → part
 partitions_at_one None fault is = absurd cc
 partitions_at_one (Some text) fault is = of_text_at_one run.Partitions (λ line cause. refl) _ fault is
 
+-- a topology or partitions that are at fault
+texts_at_one : (read : Result TopologyState RunFault) (all : Result (List Partition) RunFault) (fault : RunFault) → ((other : RunFault) → read ≡ Err other → run_status other ≡ 1)
+    → ((other : RunFault) → all ≡ Err other → run_status other ≡ 1) → (read >>= λ plan. all >>= λ some. Ok (inventoried plan some)) ≡ Err fault → run_status fault ≡ 1
+texts_at_one (Err other) all fault one two is = let same : other ≡ fault = same_err _ _ is in one fault (ap Err same)
+texts_at_one (Ok plan) (Err other) fault one two is = let same : other ≡ fault = same_err _ _ is in two fault (ap Err same)
+texts_at_one (Ok plan) (Ok all) fault one two is = absurd cc
+
 pub inventory_at_one : (topology : List ℕ) (partitions : Option (List ℕ)) (fault : RunFault) → inventory_of topology partitions ≡ Err fault → run_status fault ≡ 1
 unfolding inventory_of
-inventory_at_one topology partitions fault is = by (of_text run.Topology (topology_of topology)) refl (partitions_for partitions) refl
-  where
-    by : (read : Result TopologyState RunFault) → of_text run.Topology (topology_of topology) ≡ read → (all : Result (List Partition) RunFault) → partitions_for partitions ≡ all
-        → run_status fault ≡ 1
-    by (Err other) e all p = let same : other ≡ fault = same_err _ _ (rw e at is) in of_text_at_one run.Topology (λ line cause. refl) _ fault (e ∙ ap Err same)
-    by (Ok plan) e (Err other) p = let same : other ≡ fault = same_err _ _ (rw (e, p) at is) in partitions_at_one partitions fault (p ∙ ap Err same)
-    by (Ok plan) e (Ok all) p = let none : Ok _ ≡ Err fault = rw (e, p) at is in absurd cc
+inventory_at_one topology partitions fault is =
+    texts_at_one (of_text run.Topology (topology_of topology)) (partitions_for partitions) fault
+    (λ other e. of_text_at_one run.Topology (λ line cause. refl) _ other e) (partitions_at_one partitions) is
+
+pub large_inventory_at_one : (topology : List ℕ) (partitions : Option (List ℕ)) (fault : RunFault) → large_inventory_of topology partitions ≡ Err fault → run_status fault ≡ 1
+unfolding large_inventory_of
+large_inventory_at_one topology partitions fault is =
+    texts_at_one (of_text run.Topology (topology_within Large topology)) (partitions_for partitions) fault
+    (λ other e. of_text_at_one run.Topology (λ line cause. refl) _ other e) (partitions_at_one partitions) is
 
 stop_at_one : (inventory : InventoryState) (fault : RunFault) → Becomes (Ok inventory) (Some fault) → run_status fault ≡ 1
 stop_at_one inventory run.NoMemory is = absurd is
@@ -440,44 +451,47 @@ module _ (topology : List ℕ) (partitions : Option (List ℕ)) where
       (subst (λ (ending : Ending). Answers (ended ending) result sure out out') (sym same) answers)
 
   -- ---- shares and changes, which take no fabric
-  pub inventory_stops : (fault : RunFault) (ending : Ending) → Fails (fault_in fault) given → (given ≡ Err fault → ending ≡ faulted (run_status fault) (run_line fault))
+  abbrev large : Result InventoryState RunFault
+  large = large_inventory_of topology partitions
+
+  pub inventory_stops : (fault : RunFault) (ending : Ending) → Fails (fault_in fault) large → (large ≡ Err fault → ending ≡ faulted (run_status fault) (run_line fault))
       → RunStops (ended ending) fault
   inventory_stops fault ending fails is =
       stopped_by (ended ending) fault (λ reported.
-      let at : given ≡ Err fault = rw reported at fails in
-      let one : run_status fault ≡ 1 = inventory_at_one topology partitions fault at in
+      let at : large ≡ Err fault = rw reported at fails in
+      let one : run_status fault ≡ 1 = large_inventory_at_one topology partitions fault at in
       (one, is at ∙ ap (λ (status : ℕ). faulted status (run_line fault)) one))
 
-  pub shares_stop : (port : Option (List ℕ)) (fault : RunFault) → Fails (fault_in fault) given → RunStops (texts_with topology partitions (work.Shares port)) fault
+  pub shares_stop : (port : Option (List ℕ)) (fault : RunFault) → Fails (fault_in fault) large → RunStops (texts_with topology partitions (work.Shares port)) fault
   shares_stop port fault fails =
-      run_over topology partitions (work.Shares port) (Err run.NoMemory) nothing_found tt fault (inventory_stops fault (shares_in given port) fails (λ at. rw at refl))
+      run_over topology partitions (work.Shares port) (Err run.NoMemory) nothing_found tt fault (inventory_stops fault (shares_in large port) fails (λ at. rw at refl))
 
-  pub shares_come : (port : Option (List ℕ)) (inventory : InventoryState) (result : Result (Vec ℕ Global) Stop) → given ≡ Ok inventory
+  pub shares_come : (port : Option (List ℕ)) (inventory : InventoryState) (result : Result (Vec ℕ Global) Stop) → large ≡ Ok inventory
       → ComesTo (λ text. text.items) (ended (shares_in (Ok inventory) port)) result
       → ComesTo (λ text. text.items) (texts_with topology partitions (work.Shares port)) result
   shares_come port inventory result is comes = comes_over topology partitions (work.Shares port) (Err run.NoMemory) nothing_found tt result (rw is comes)
 
-  pub changes_stop : (second : Option (List ℕ)) (fault : RunFault) → Fails (fault_in fault) given → RunStops (texts_with topology partitions (work.Diff second)) fault
+  pub changes_stop : (second : Option (List ℕ)) (fault : RunFault) → Fails (fault_in fault) large → RunStops (texts_with topology partitions (work.Diff second)) fault
   changes_stop second fault fails =
       run_over topology partitions (work.Diff second) (Err run.NoMemory) nothing_found tt fault
-      (inventory_stops fault (changes_in given (inventory_of topology second)) fails (λ at. rw at refl))
+      (inventory_stops fault (changes_in large (large_inventory_of topology second)) fails (λ at. rw at refl))
 
-  pub changes_come : (second : Option (List ℕ)) (before : InventoryState) (result : Result (Vec ℕ Global) Stop) → given ≡ Ok before
-      → ComesTo (λ text. text.items) (ended (changes_in (Ok before) (inventory_of topology second))) result
+  pub changes_come : (second : Option (List ℕ)) (before : InventoryState) (result : Result (Vec ℕ Global) Stop) → large ≡ Ok before
+      → ComesTo (λ text. text.items) (ended (changes_in (Ok before) (large_inventory_of topology second))) result
       → ComesTo (λ text. text.items) (texts_with topology partitions (work.Diff second)) result
   changes_come second before result is comes = comes_over topology partitions (work.Diff second) (Err run.NoMemory) nothing_found tt result (rw is comes)
 
 -- the second partitions
-pub second_stops : (before : InventoryState) (topology : List ℕ) (second : Option (List ℕ)) (fault : RunFault) → Fails (fault_in fault) (inventory_of topology second)
-    → Stops (ended (changes_in (Ok before) (inventory_of topology second))) (second_stop fault)
+pub second_stops : (before : InventoryState) (topology : List ℕ) (second : Option (List ℕ)) (fault : RunFault) → Fails (fault_in fault) (large_inventory_of topology second)
+    → Stops (ended (changes_in (Ok before) (large_inventory_of topology second))) (second_stop fault)
 second_stops before topology second run.NoMemory fails = tt
-second_stops before topology second (run.Topology line cause) fails = inventory_stops topology second (run.Topology line cause) (changes_in (Ok before) (inventory_of topology second)) fails (λ at. rw at refl)
+second_stops before topology second (run.Topology line cause) fails = inventory_stops topology second (run.Topology line cause) (changes_in (Ok before) (large_inventory_of topology second)) fails (λ at. rw at refl)
 second_stops before topology second (run.Partitions line cause) fails = rw fails refl
-second_stops before topology second (run.Sweep fault) fails = inventory_stops topology second (run.Sweep fault) (changes_in (Ok before) (inventory_of topology second)) fails (λ at. rw at refl)
-second_stops before topology second (run.NoLegalPath switch node number) fails = inventory_stops topology second (run.NoLegalPath switch node number) (changes_in (Ok before) (inventory_of topology second)) fails (λ at. rw at refl)
-second_stops before topology second (run.Push fault) fails = inventory_stops topology second (run.Push fault) (changes_in (Ok before) (inventory_of topology second)) fails (λ at. rw at refl)
-second_stops before topology second (run.Port cause) fails = inventory_stops topology second (run.Port cause) (changes_in (Ok before) (inventory_of topology second)) fails (λ at. rw at refl)
-second_stops before topology second (run.Script line cause) fails = inventory_stops topology second (run.Script line cause) (changes_in (Ok before) (inventory_of topology second)) fails (λ at. rw at refl)
-second_stops before topology second (run.SecondScript line cause) fails = inventory_stops topology second (run.SecondScript line cause) (changes_in (Ok before) (inventory_of topology second)) fails (λ at. rw at refl)
-second_stops before topology second run.Read fails = inventory_stops topology second run.Read (changes_in (Ok before) (inventory_of topology second)) fails (λ at. rw at refl)
-second_stops before topology second run.Write fails = inventory_stops topology second run.Write (changes_in (Ok before) (inventory_of topology second)) fails (λ at. rw at refl)
+second_stops before topology second (run.Sweep fault) fails = inventory_stops topology second (run.Sweep fault) (changes_in (Ok before) (large_inventory_of topology second)) fails (λ at. rw at refl)
+second_stops before topology second (run.NoLegalPath switch node number) fails = inventory_stops topology second (run.NoLegalPath switch node number) (changes_in (Ok before) (large_inventory_of topology second)) fails (λ at. rw at refl)
+second_stops before topology second (run.Push fault) fails = inventory_stops topology second (run.Push fault) (changes_in (Ok before) (large_inventory_of topology second)) fails (λ at. rw at refl)
+second_stops before topology second (run.Port cause) fails = inventory_stops topology second (run.Port cause) (changes_in (Ok before) (large_inventory_of topology second)) fails (λ at. rw at refl)
+second_stops before topology second (run.Script line cause) fails = inventory_stops topology second (run.Script line cause) (changes_in (Ok before) (large_inventory_of topology second)) fails (λ at. rw at refl)
+second_stops before topology second (run.SecondScript line cause) fails = inventory_stops topology second (run.SecondScript line cause) (changes_in (Ok before) (large_inventory_of topology second)) fails (λ at. rw at refl)
+second_stops before topology second run.Read fails = inventory_stops topology second run.Read (changes_in (Ok before) (large_inventory_of topology second)) fails (λ at. rw at refl)
+second_stops before topology second run.Write fails = inventory_stops topology second run.Write (changes_in (Ok before) (large_inventory_of topology second)) fails (λ at. rw at refl)

@@ -4,7 +4,7 @@ use Rattle.std.specs.Prelude.{codes, if◌then◌else◌, string_bytes, ◌++◌
 use Rattle.std.specs.Io.KnownBytes.{Appends, Keeps}
 use Rattle.subnet_core.specs.declared.fault.RunFault.{RunFault}
 use Rattle.subnet_core.specs.declared.fault.RunFault.TheVariants as run
-use Rattle.port_shares.specs.Shares.{shares_text}
+use Rattle.port_shares.specs.Sums.{listed_shares}
 use Rattle.cable_cuts.specs.Texts.{ReportsAll, ReportsOne}
 use Rattle.fabric_parts.specs.declared.cable.Cable.{Cable}
 use Rattle.script_lines.specs.SwitchCable.{named_cable}
@@ -13,7 +13,7 @@ use Rattle.cli_args.specs.declared.call.CutView.TheVariants.{All, One, Picture}
 use Rattle.cable_cuts.specs.Needed.{AreNeeded}
 use Rattle.std.specs.Borrow.{Bor}
 use Rattle.std.specs.Global.{Global}
-use Rattle.subnet_model.specs.declared.subnet_port.SubnetPort.{SubnetPort}
+use Rattle.subnet_model.specs.Configuration.{ConfigurationState}
 use Rattle.script_lines.specs.declared.script_cause.ScriptCause.{ScriptCause}
 use Rattle.script_lines.specs.ScriptCause.{code_of as script_code}
 use Rattle.fabric_graph.specs.Graph.{graph_text}
@@ -22,7 +22,7 @@ use Rattle.fabric_parts.specs.declared.cable.PortRef.{PortRef}
 use Rattle.fabric_tables.specs.Multicast.{tables_text}
 use Rattle.packet_trace.specs.Lines.{trace_text}
 use Rattle.partition_file.specs.Fault.{code_of as partitions_code}
-use Rattle.partition_changes.specs.Changes.{text_of_changes}
+use Rattle.partition_changes.specs.Sums.{listed_changes}
 use Rattle.subnet_core.specs.Listing.{listing_text}
 use Rattle.script_lines.specs.NamedPort.{adapter_place, named_port}
 use Rattle.script_lines.specs.Script.{commands_in}
@@ -30,7 +30,7 @@ use Rattle.subnet_fabric.specs.BringUp.{BroughtUpState}
 use Rattle.subnet_core.specs.After.{TurnsAfter}
 use Rattle.subnet_core.specs.BringUp.{Turns, stop_of}
 use Rattle.subnet_core.specs.Fate.{up_from}
-use Rattle.subnet_core.specs.Inventory.{InventoryState, inventory_of}
+use Rattle.subnet_core.specs.Inventory.{InventoryState, inventory_of, large_inventory_of}
 use Rattle.subnet_core.specs.Comparison.{Compares, TwoRunsState, two_runs_of}
 use Rattle.subnet_core.specs.Run.{report_of}
 use Rattle.subnet_core.specs.declared.comparing.Comparison.{Comparison}
@@ -226,13 +226,13 @@ abbrev pub asked_port : TopologyState → Option (List ℕ) → Result (Option �
 asked_port plan None = Ok None
 asked_port plan (Some word) = named_port plan word >>= λ guid. Ok (Some guid)
 
-abbrev pub shares_reported : List SubnetPort → Result (Option ℕ) ScriptCause → Ending
-shares_reported ports (Ok asked) = complete (shares_text asked ports)
-shares_reported ports (Err cause) = faulted 1 (port_line (script_code cause))
+abbrev pub shares_reported : ConfigurationState → Result (Option ℕ) ScriptCause → Ending
+shares_reported configuration (Ok asked) = complete (listed_shares asked configuration)
+shares_reported configuration (Err cause) = faulted 1 (port_line (script_code cause))
 
--- the shares in a subnet: the files are checked before the argument for a port
+-- the shares in a subnet of any size: the files are checked before the argument for a port
 abbrev pub shares_in : Result InventoryState RunFault → Option (List ℕ) → Ending
-shares_in (Ok inventory) port = shares_reported inventory.configuration.ports (asked_port inventory.plan port)
+shares_in (Ok inventory) port = shares_reported inventory.configuration (asked_port inventory.plan port)
 shares_in (Err fault) port = faulted (run_status fault) (run_line fault)
 
 -- what changes from one subnet to the other: the second partition file is checked after the first
@@ -241,7 +241,7 @@ second_reported (run.Partitions line cause) = faulted 1 (second_line (partitions
 second_reported fault = faulted (run_status fault) (run_line fault)
 
 abbrev pub changes_in : Result InventoryState RunFault → Result InventoryState RunFault → Ending
-changes_in (Ok before) (Ok after) = complete (text_of_changes before.configuration after.configuration)
+changes_in (Ok before) (Ok after) = complete (listed_changes before.configuration after.configuration)
 changes_in (Ok before) (Err fault) = second_reported fault
 changes_in (Err fault) after = faulted (run_status fault) (run_line fault)
 
@@ -389,9 +389,9 @@ pub record Finding : Type 0 where
 -- by what becomes of the fabric: it is up, or this error stops bring-up; and by what depends on it
 abbrev pub ending_over : List ℕ → Option (List ℕ) → Work (List ℕ) (List ℕ) (List ℕ) → Result BroughtUpState RunFault → Finding → Ending
 ending_over topology partitions work.Check outcome finding = ending_by (listed topology partitions (stop_of outcome))
-ending_over topology partitions (work.Shares port) outcome finding = shares_in (inventory_of topology partitions) port
+ending_over topology partitions (work.Shares port) outcome finding = shares_in (large_inventory_of topology partitions) port
 ending_over topology partitions (work.Diff second) outcome finding =
-    changes_in (inventory_of topology partitions) (inventory_of topology second)
+    changes_in (large_inventory_of topology partitions) (large_inventory_of topology second)
 ending_over topology partitions (work.Inspect what script) outcome finding =
     seen_after (inventory_of topology partitions) (λ inventory up. looked_at inventory up what) script outcome
 ending_over topology partitions (work.Cuts view) outcome finding =

@@ -15,7 +15,7 @@ ghost use Rattle.topology_import.specs.Import.{import_of};
 ghost use Rattle.fabric_cli.specs.declared.faults.Stop.TheVariants.{NoMemory};
 ghost use Rattle.subnet_core.specs.BringUp.{up_in};
 ghost use Rattle.script_lines.specs.NamedPort.{adapter_place};
-ghost use Rattle.subnet_core.specs.Inventory.{inventory_of};
+ghost use Rattle.subnet_core.specs.Inventory.{large_inventory_of};
 
 use crate::faults::{ForeignCause, Stop};
 use cable_cuts::{cut_text, cuts_text, needed};
@@ -27,13 +27,13 @@ use fabric_tables::{keys_text, tables_text};
 use netdiscover_file::{Discovery, DiscoveryFault};
 use packet_trace::trace_text;
 use partition_changes::changes_text;
-use port_shares::shares_text;
+use port_shares::listed_shares;
 use route_audit::{Audit, audit};
 use script_lines::named_cable;
 use std::alloc::{AllocError, Global};
 use subnet_core::{
-    Comparison, Inventory, RunFault, ScriptCause, Subnet, bring_up, compare, left_by,
-    read_inventory,
+    Comparison, LargeInventory, RunFault, ScriptCause, Subnet, bring_up, compare, left_by,
+    read_large_inventory,
 };
 use topo_file::{LargeTopology, TopoFault};
 use topology_import::{ImportFault, topology_text};
@@ -65,7 +65,7 @@ pub fn shared<'a>(
         (texts_with topology.now (option_copied partitions.entry) (work.Shares (option_map (λ word. word.now) port.entry))) result }
     ensures fault { IfErr result IsOfRun }
 {
-    match read_inventory(alloc, topology, partitions) {
+    match read_large_inventory(alloc, topology, partitions) {
         Ok(inventory) => shares_in(alloc, &inventory, port),
         Err(fault) => Err(Stop::Run(fault)),
     }
@@ -73,20 +73,20 @@ pub fn shared<'a>(
 
 fn shares_in<'a>(
     alloc: Global,
-    inventory: &Inventory,
+    inventory: &LargeInventory,
     port: Option<&str>,
 ) -> Result<Vec<u8>, Stop<'a>>
     ensures exact { ComesTo (λ text. text.items) (ended (shares_in (Ok inventory.now) (option_map (λ word. word.now) port.entry))) result }
     ensures fault { IfErr result IsOfRun }
 {
     match asked_port(inventory, port) {
-        Ok(asked) => text_or_stop(shares_text(alloc, inventory.configuration().ports(), asked)),
+        Ok(asked) => text_or_stop(listed_shares(alloc, inventory.configuration(), asked)),
         Err(cause) => Err(Stop::Run(RunFault::Port(cause))),
     }
 }
 
 /// The GUID of the port that an argument names, if it is given.
-fn asked_port(inventory: &Inventory, port: Option<&str>) -> Result<Option<u64>, ScriptCause>
+fn asked_port(inventory: &LargeInventory, port: Option<&str>) -> Result<Option<u64>, ScriptCause>
     ensures { result ≡ asked_port inventory.now.plan (option_map (λ word. word.now) port.entry) }
 {
     match port {
@@ -106,7 +106,7 @@ pub fn changed<'a>(
         (texts_with topology.now (option_copied partitions.entry) (work.Diff (option_copied second.entry))) result }
     ensures fault { IfErr result IsOfRun }
 {
-    match read_inventory(alloc, topology, partitions) {
+    match read_large_inventory(alloc, topology, partitions) {
         Ok(before) => changes_from(alloc, &before, topology, second),
         Err(fault) => Err(Stop::Run(fault)),
     }
@@ -114,15 +114,15 @@ pub fn changed<'a>(
 
 fn changes_from<'a>(
     alloc: Global,
-    before: &Inventory,
+    before: &LargeInventory,
     topology: &[u8],
     second: Option<&[u8]>,
 ) -> Result<Vec<u8>, Stop<'a>>
     ensures exact { ComesTo (λ text. text.items)
-        (ended (changes_in (Ok before.now) (inventory_of topology.now (option_copied second.entry)))) result }
+        (ended (changes_in (Ok before.now) (large_inventory_of topology.now (option_copied second.entry)))) result }
     ensures fault { IfErr result IsOfRun }
 {
-    match read_inventory(alloc, topology, second) {
+    match read_large_inventory(alloc, topology, second) {
         Ok(after) => text_or_stop(changes_text(
             alloc,
             before.configuration(),

@@ -1,14 +1,16 @@
 -- Bases that are put in order one by one.
 use Rattle.std.proofs.Common.{◌≡◌, ℕ, ◌<◌, Bool, true, false, ◌==◌, ◌||◌, nat_lt, List, [], ◌∷◌, ◌++◌, map, refl, sym, ap, ◌∙◌, inl, inr, arith}
-use Rattle.std.specs.List.{AllByRecursion, list_any}
-use Rattle.std.proofs.lemmas.Bool.{cases_Bool, eqb-true}
+use Rattle.std.specs.List.{AllByRecursion, list_all, list_any}
+use Rattle.std.proofs.lemmas.Bool.{and_parts, cases_Bool, eqb-true}
 use Rattle.std.proofs.lemmas.Bool.Decides.{nat_tests}
 use Rattle.std.specs.List.Sorted.{IsStrictlyIncreasing}
 use Rattle.step_results.proofs.TestLemmas.{or_turned}
 use Rattle.step_results.proofs.ListLemmas.{all_above}
 use Rattle.step_results.proofs.RisingLemmas.{Rises, rises, same_rising}
 use Rattle.partition_file.specs.declared.heading.Heading.{Heading}
-use Rattle.partition_changes.specs.Changes.{rising_bases, with_base}
+use Rattle.partition_file.specs.Members.{AreSoundHeadings, bases_in}
+use Rattle.pkey_rules.specs.PKey.{is_base}
+use Rattle.partition_changes.specs.Changes.{bases_named, rising_bases, with_base}
 
 above_all : (x base : ℕ) (bases : List ℕ) → x < base → AllByRecursion (λ y. x < y) bases → AllByRecursion (λ y. x < y) (with_base base bases)
 above_all x base [] less above = (less, tt)
@@ -72,3 +74,32 @@ pub sorted_bases : (before after : List Heading) (sorted : List ℕ) → IsStric
 sorted_bases before after sorted order same =
     same_rising sorted (rising_bases (before ++ after)) (rises sorted order) (rising_rises (before ++ after))
     (λ n. same n ∙ mapped_both before after n ∙ sym (rising_there (before ++ after) n))
+
+-- ---- the bases of partitions
+base_with : (base : ℕ) (bases : List ℕ) → is_base base ≡ true → list_all is_base bases ≡ true → list_all is_base (with_base base bases) ≡ true
+base_with base [] one all = rw one refl
+base_with base (first ∷ rest) one all = elim (cases_Bool (nat_lt base first)) [
+  | inl here ↦ rw (here, one) all
+  | inr later ↦ rw later (elim (cases_Bool (base == first)) [
+    | inl same ↦ rw same all
+    | inr apart ↦
+        let parts = and_parts (is_base first) _ all in
+        rw (apart, parts.0) (base_with base rest one parts.1)
+  ])
+]
+
+rising_are_bases : (headings : List Heading) → list_all is_base (bases_in headings) ≡ true → list_all is_base (rising_bases headings) ≡ true
+rising_are_bases [] all = refl
+rising_are_bases (heading ∷ headings) all =
+    let parts = and_parts (is_base heading.base) _ all in
+    base_with heading.base (rising_bases headings) parts.0 (rising_are_bases headings parts.1)
+
+both_are_bases : (before after : List Heading) → list_all is_base (bases_in before) ≡ true → list_all is_base (bases_in after) ≡ true
+    → list_all is_base (bases_in (before ++ after)) ≡ true
+both_are_bases [] after one other = other
+both_are_bases (heading ∷ before) after one other =
+    let parts = and_parts (is_base heading.base) _ one in
+    rw parts.0 (both_are_bases before after parts.1 other)
+
+pub named_are_bases : (before after : List Heading) → AreSoundHeadings before → AreSoundHeadings after → list_all is_base (bases_named before after) ≡ true
+named_are_bases before after one other = rising_are_bases (before ++ after) (both_are_bases before after one.bases.valid other.bases.valid)

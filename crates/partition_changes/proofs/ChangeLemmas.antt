@@ -1,7 +1,7 @@
 -- The lines of changes, as they are found and as they are said to be.
 use Rattle.std.proofs.Common.{◌≡◌, ℕ, ◌+◌, ◌<◌, ◌≤◌, Bool, true, false, ◌==◌, ◌||◌, if◌then◌else◌, List, [], ◌∷◌, ◌++◌, Option, Some, None, codes, length, take, get_or, map, refl, sym, ap, ◌∙◌, inl, inr, append-nil, arith}
 use Rattle.std.specs.List.{flat_map, list_any, range_with_len, zip}
-use Rattle.std.proofs.lemmas.Bool.{or_cases, or_left, or_right}
+use Rattle.std.proofs.lemmas.Bool.{cases_Bool, or_cases, or_left, or_right}
 use Rattle.std.proofs.lemmas.Grind.{flat_map-append}
 use Rattle.std.proofs.lemmas.List.{flat_map_more, take_more}
 use Rattle.std.proofs.lemmas.List.Folds.{flat_map-map, list_any-append}
@@ -13,7 +13,9 @@ use Rattle.port_shares.specs.Found.{AreBases, share_of as share_between}
 use Rattle.port_shares.specs.Shares.{share_line}
 use Rattle.subnet_model.specs.Configuration.{ConfigurationState}
 use Rattle.partition_changes.specs.Changes.{Change, bases_named, change_of_member_line, changes_of, changes_text, coming, going, group_changes_at, group_line, grouped, member_changes, member_changes_at, member_of, pair_changes, partition_changes_at, partition_line, partition_of, same_group, same_member, same_partition, same_share, share_changes, share_changes_at, share_of, sign, stays, text_of_changes}
-use Rattle.partition_changes.specs.Found.{change_text, group_text, member_text, members_text, pair_text, partition_text, seen, share_text, shares_text, signed}
+use Rattle.partition_changes.specs.Found.{change_text, group_text, member_text, members_text, pair_text, partition_text, seen, share_text, shares_text, signed, listed_text}
+use Rattle.partition_changes.specs.Sums.{listed_changes}
+use Rattle.port_shares.specs.Sums.{are_few}
 use Rattle.partition_changes.specs.declared.ports.Both.{Both}
 
 -- ---- lists made of lists
@@ -133,3 +135,14 @@ pub all_alike : (before after : ConfigurationState) (bases : List ℕ) (ports : 
     ≡ text_of_changes before after
 all_alike before after bases ports are beside =
     rw (partitions_alike before.partitions after.partitions bases, groups_alike before.partitions after.partitions bases, members_alike ports bases, shares_alike ports, beside, are) refl
+
+-- with shares or with sums
+pub all_listed : (before after : ConfigurationState) (bases : List ℕ) (ports : List Both) → bases ≡ bases_named before.partitions after.partitions → map seen ports ≡ zip before.ports after.ports
+    → ((flat_map (partition_text before.partitions after.partitions) bases ++ flat_map (group_text before.partitions after.partitions) bases) ++ flat_map (members_text ports) bases)
+    ++ listed_text before.ports after.ports ports bases
+    ≡ listed_changes before after
+all_listed before after bases ports are beside = elim (cases_Bool (are_few before.ports)) [
+  | inl few ↦ rw few (all_alike before after bases ports are beside)
+  | inr many ↦
+      rw many (rw (partitions_alike before.partitions after.partitions bases, groups_alike before.partitions after.partitions bases, members_alike ports bases, beside, are) refl)
+]

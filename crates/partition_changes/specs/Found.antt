@@ -5,7 +5,9 @@ use Rattle.std.specs.List.{flat_map}
 use Rattle.partition_changes.specs.Changes.{change_of_member_line, changes_text, group_line, grouped, member_of, pair_changes, partition_line, partition_of, same_group, same_member, same_partition, same_share, share_of, stays}
 use Rattle.partition_changes.specs.declared.ports.Both.{Both}
 use Rattle.partition_file.specs.declared.heading.Heading.{Heading}
+use Rattle.partition_changes.specs.Sums.{sum_changes}
 use Rattle.port_shares.specs.Shares.{share_line}
+use Rattle.port_shares.specs.Sums.{are_few, sum_line}
 use Rattle.subnet_model.specs.declared.subnet_port.SubnetPort.{SubnetPort}
 
 -- a signed line, if there is something to say
@@ -52,3 +54,7 @@ shares_text (p ∷ ports) = flat_map (pair_text p) ports ++ shares_text ports
 -- a partition with its number, behind its reference
 abbrev pub placed : ℕ × Bor Heading → ℕ × Heading
 placed partition = (partition.0, partition.1.now)
+
+-- shares pair by pair, or the sums of these partitions
+abbrev pub listed_text : List SubnetPort → List SubnetPort → List Both → List ℕ → List ℕ
+listed_text before after ports bases = if are_few before then shares_text ports else changes_text sum_line (sum_changes bases before after)

@@ -1,4 +1,5 @@
 pub mod Changes
 pub mod Found
+pub mod Sums
 pub mod Laws
 pub mod WrongRules

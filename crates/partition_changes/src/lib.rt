@@ -11,6 +11,7 @@ mod laws;
 mod members;
 mod ports;
 mod shares;
+mod sums;
 mod wrong_rules;
 
 pub use crate::changes::changes_text;

@@ -1,3 +1,4 @@
 pub mod BaseLemmas
 pub mod NearLemmas
 pub mod ShareLemmas
+pub mod SumLemmas

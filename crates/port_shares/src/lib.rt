@@ -9,7 +9,9 @@
 mod bases;
 mod laws;
 mod shares;
+mod sums;
 
 pub use crate::bases::{bases_of_both, rising};
 pub use crate::laws::near_is_to_share;
 pub use crate::shares::{may_talk, push_share_line, shares_text};
+pub use crate::sums::{PairSum, are_few, listed_shares, push_sum_line, sum_of};
