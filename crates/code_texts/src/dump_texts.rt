@@ -43,8 +43,9 @@ FT1: dump_fts prints no such line, or not here
 
 A table is a heading, two lines of titles, rows and the count of these, as dump_fts and ibroute of
 infiniband-diags print them, with their option -a or without, and as `fabric tables` does. Multicast
-tables are allowed between tables, and comments and empty lines anywhere. The file that OpenSM
-itself writes has another format. A dump shows no virtual lanes: `fabric audit` judges routes as if
+tables are allowed between tables, and comments and empty lines anywhere. What the tools write on
+standard error, as `ibwarn: ..`, is none of these: keep it apart, by `dump_fts >tables 2>errors`. The
+file that OpenSM itself writes has another format. A dump shows no virtual lanes: `fabric audit` judges routes as if
 all packets used one virtual lane, and does not judge multicast.
 ",
     "fault FT1 dump line 4",

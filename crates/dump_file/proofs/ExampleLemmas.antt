@@ -3,7 +3,7 @@ use Rattle.std.proofs.Common.{refl, sym}
 use Rattle.std.specs.List.{IsDistinct}
 use Rattle.std.proofs.lemmas.Bool.{false≢true}
 use Rattle.step_results.specs.AtLine.{after_lines}
-use Rattle.dump_file.specs.Destination.{further_in, named_in, path_in}
+use Rattle.dump_file.specs.Destination.{further_in, further_said, named_in, path_in}
 use Rattle.dump_file.specs.Dump.{after_line, count_reported, dump_of, heading_reported, row_reported, whole}
 use Rattle.dump_file.specs.Examples.{HeadingsAreRead, RowsAreRead, TextsAreRead, UnsoundAreReported}
 use Rattle.dump_file.specs.Heading.{guid_behind_way, heading_in}
@@ -14,7 +14,7 @@ unfolding guid_behind_way heading_in
 headings_are_read = record { by_path = refl; by_lid = refl; by_any_name = refl; by_no_way = refl; without_end = refl; of_a_part = refl; by_opensm = refl }
 
 pub rows_are_read : RowsAreRead
-unfolding count_reported further_in named_in path_in row_in
+unfolding count_reported further_in further_said named_in path_in row_in
 rows_are_read = record {
   adapter = refl;
   switch = refl;
@@ -23,6 +23,7 @@ rows_are_read = record {
   nobody = refl;
   illegal = refl;
   illegal_path = refl;
+  of_lid_0 = refl;
   last_port = refl;
   without_end = refl;
   top_follows = refl;
@@ -39,7 +40,7 @@ rows_are_read = record {
 }
 
 pub texts_are_read : TextsAreRead
-unfolding after_line after_lines count_reported dump_of further_in guid_behind_way heading_in heading_reported named_in path_in row_in row_reported whole
+unfolding after_line after_lines count_reported dump_of further_in further_said guid_behind_way heading_in heading_reported named_in path_in row_in row_reported whole
 texts_are_read = record { whole = refl; before_a_comment = refl; unfinished = refl; of_one_switch = refl }
 
 pub unsound_are_reported : UnsoundAreReported

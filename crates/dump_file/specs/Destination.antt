@@ -1,7 +1,8 @@
 -- What a row says of its LID.
-use Rattle.std.specs.Prelude.{ℕ, nat_eq, List, drop, codes, bytes_eq, if◌then◌else◌, Option, Some, None, Result, Ok, Err}
+use Rattle.std.specs.Prelude.{ℕ, ◌==◌, nat_eq, List, drop, codes, bytes_eq, if◌then◌else◌, Option, Some, None, Result, Ok, Err}
 use Rattle.std.specs.List.{starts_with}
 use Rattle.step_results.specs.Steps.{◌>>=◌}
+use Rattle.text_words.specs.Cut.{cut_at}
 use Rattle.dump_file.specs.declared.destination.Destination.{Destination}
 use Rattle.dump_file.specs.declared.destination.Destination.TheVariants.{ChannelAdapter, Switch, Router, FurtherLid, Nobody, NotReported}
 use Rattle.dump_file.specs.declared.fault.DumpCause.{DumpCause}
@@ -38,15 +39,22 @@ named_in text = do
   name ← between (codes " '") (codes "'") parts.1
   end_port_in parts.0
 
--- ---- `out of 2: portguid 0x0000000000000101`: a further LID of a port
-unfoldable pub further_in : List ℕ → Result Destination DumpCause
-further_in text = do
-  reported ← behind (codes "out of ") text
-  parts ← cut 58 reported
+-- ---- `out of 2: portguid 0x0000000000000101`: a further LID of a port. Of LID 0, before which no port came, the GUID is left out
+unfoldable pub further_said : List ℕ × List ℕ → Result Destination DumpCause
+further_said parts = do
   count ← count_in parts.0
   word ← behind (codes " portguid ") parts.1
   guid ← guid_in word
   Ok (FurtherLid guid)
+
+abbrev pub if_said : List ℕ → Option (List ℕ × List ℕ) → Result Destination DumpCause
+if_said text (Some parts) = further_said parts
+if_said text None = count_in text >>= λ count. Ok NotReported
+
+unfoldable pub further_in : List ℕ → Result Destination DumpCause
+further_in text = do
+  reported ← behind (codes "out of ") text
+  if_said reported (cut_at (λ byte. byte == 58) reported)
 
 -- behind `path #`: `2 ` and the same, or `0 - illegal port`
 unfoldable pub path_in : List ℕ → Result Destination DumpCause

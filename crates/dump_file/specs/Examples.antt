@@ -44,6 +44,7 @@ pub record RowsAreRead : Type 0 where
   pub nobody : row_in (codes "0x0015 002 : (node info not available fabric scan)") ≡ Ok (record { lid = 21; port = 2; destination = Nobody })
   pub illegal : row_in (codes "0x0001 255 : (illegal port)") ≡ Ok (record { lid = 1; port = 255; destination = NotReported })
   pub illegal_path : row_in (codes "0x0000 255 : (path #0 - illegal port)") ≡ Ok (record { lid = 0; port = 255; destination = NotReported })
+  pub of_lid_0 : row_in (codes "0x0000 001 : (path #1 out of 1)") ≡ Ok (record { lid = 0; port = 1; destination = NotReported })
   pub last_port : row_in (codes "0x0005 254 : (Router portguid 0xffffffffffffffff: '')") ≡ Ok last_port_row
   pub without_end : row_in (codes "0x0003 003") ≡ Err EndNotReported
   pub top_follows : may_follow 4 (one_row ∷ []) 4 ≡ true

@@ -1,10 +1,12 @@
 //! What a row says of its LID.
 
-ghost use Rattle.std.specs.Prelude.{◌≡◌};
-ghost use Rattle.dump_file.specs.Destination.{destination_in, end_port_in, further_in, guid_said, named_in, path_in, router_in, said_in, switch_in};
+ghost use Rattle.std.specs.Prelude.{◌≡◌, None};
+ghost use Rattle.dump_file.specs.Destination.{destination_in, end_port_in, further_in, further_said, guid_said, if_said, named_in, path_in};
+ghost use Rattle.dump_file.specs.Destination.{router_in, said_in, switch_in};
 
 use crate::fault::DumpCause;
 use crate::parts::{behind, between, count_in, cut, guid_in};
+use text_words::cut_at;
 
 /// Whose a LID is, as a row says.
 #[derive(Clone, Copy, Debug, PartialEq, Eq)]
@@ -92,11 +94,28 @@ fn further_in(text: &[u8]) -> Result<Destination, DumpCause>
     ensures { result ≡ further_in text.now }
 {
     let reported = behind(b"out of ", text)?;
-    let (count, port) = cut(b':', reported)?;
+    match cut_at(b':', reported) {
+        Some((count, port)) => further_said(count, port),
+        None => without_guid(reported),
+    }
+}
+
+#[tactic(auto, unfolding(crate::specs::Destination::further_said))]
+fn further_said(count: &[u8], port: &[u8]) -> Result<Destination, DumpCause>
+    ensures { result ≡ further_said (count.now, port.now) }
+{
     count_in(count)?;
     let word = behind(b" portguid ", port)?;
     let guid = guid_in(word)?;
     Ok(Destination::FurtherLid { guid })
+}
+
+/// A LID of which the GUID is left out, by the count of paths alone.
+fn without_guid(count: &[u8]) -> Result<Destination, DumpCause>
+    ensures { result ≡ if_said count.now None }
+{
+    count_in(count)?;
+    Ok(Destination::NotReported)
 }
 
 #[tactic(auto, unfolding(crate::specs::Destination::path_in))]

@@ -22,8 +22,8 @@ use Rattle.netdiscover_file.specs.declared.node.Node.{Node}
 use Rattle.netdiscover_file.specs.declared.port.PortLine.{PortLine}
 use Rattle.netdiscover_file.specs.Assignment.{assignment_in, switch_guids_in}
 use Rattle.netdiscover_file.specs.Comment.{comment_of}
-use Rattle.netdiscover_file.specs.Discovery.{DraftState, after_assignment, after_line, after_words, are_nodes, has_taken_guid, header_of, is_of_another, new_port, node_reported, nothing, port_reported, with_comment, with_node, with_port, with_value}
-use Rattle.netdiscover_file.specs.Ends.{far_end_of, own_end_in}
+use Rattle.netdiscover_file.specs.Discovery.{DraftState, after_assignment, after_line, after_words, are_nodes, has_taken_guid, header_of, heads_chassis, is_of_another, new_port, node_reported, nothing, port_reported, with_comment, with_node, with_port, with_value}
+use Rattle.netdiscover_file.specs.Ends.{behind_own, far_end_of, own_end_in, without_external}
 use Rattle.netdiscover_file.specs.Kind.{kind_headed}
 use Rattle.netdiscover_file.specs.Laws.{IsReportedSoFar, LinesSaySo}
 use Rattle.netdiscover_file.specs.Lids.{own_lid, own_lid_in, owns}
@@ -144,8 +144,10 @@ new_line : (so_far : DraftState) (line : ℕ) (first : List ℕ) (words : List (
     → port_reported so_far line first words comment ≡ Ok reported → IsNewLine so_far reported
 unfolding port_reported
 new_line so_far line first words comment reported h =
-    let own = bind_ok (own_end_in first) (λ own. far_end_of words >>= λ far. with_far so_far line comment own far) reported h in
-    let far = bind_ok (far_end_of words) (λ far. with_far so_far line comment own.0 far) reported own.2 in
+    let own = bind_ok (own_end_in (without_external first))
+    (λ own. behind_own first words >>= λ rest. far_end_of rest >>= λ far. with_far so_far line comment own far) reported h in
+    let rest = bind_ok (behind_own first words) (λ rest. far_end_of rest >>= λ far. with_far so_far line comment own.0 far) reported own.2 in
+    let far = bind_ok (far_end_of rest.0) (λ far. with_far so_far line comment own.0 far) reported rest.2 in
     let place = bind_ok (ok_or (last_place so_far.nodes) NoSuchPort) (λ place. with_place so_far line comment own.0 far.0 place) reported far.2 in
     let lid = bind_ok (own_lid (is_switch_at so_far.nodes place.0) own.0.guid comment) (λ lid. with_lid so_far line own.0 far.0 place.0 lid) reported place.2 in
     let port = bind_ok (ok_or (port_at so_far.nodes place.0 own.0.number) NoSuchPort) (λ port. new_port so_far (line_with line own.0 far.0 lid.0 port)) reported lid.2 in
@@ -224,7 +226,7 @@ after_text so_far next number line None reported h =
 
 after_one : (so_far next : DraftState) (number : ℕ) (line : List ℕ) → IsReportedSoFar so_far → after_line number so_far line ≡ Ok next → IsReportedSoFar next
 unfolding after_line
-after_one so_far next number line reported h = by (starts_with nat_eq line (codes "Chassis ")) h
+after_one so_far next number line reported h = by (heads_chassis line) h
   where
     by : (b : Bool) → (if b then Ok so_far else after_assignment number so_far line (assignment_in line)) ≡ Ok next → IsReportedSoFar next
     by true is = unchanged so_far next reported is

@@ -1,8 +1,8 @@
 -- What a text of `ibnetdiscover` reports, or the first line that is at fault.
-use Rattle.std.specs.Prelude.{ℕ, Bool, false, not, ◌==◌, ◌&&◌, ◌||◌, nat_eq, List, [], ◌∷◌, ◌++◌, codes, bytes_eq, option_to_list}
+use Rattle.std.specs.Prelude.{ℕ, Bool, true, false, not, ◌==◌, ◌&&◌, ◌||◌, nat_eq, List, [], ◌∷◌, ◌++◌, codes, bytes_eq, option_to_list}
 use Rattle.std.specs.Prelude.{Option, Some, None, is_some, option_map, Result, Ok, Err, if◌then◌else◌}
-use Rattle.std.specs.List.{starts_with}
-use Rattle.std.specs.Option.{ok_or}
+use Rattle.std.specs.List.{list_any, starts_with}
+use Rattle.std.specs.Option.{ok_or, option_map_or}
 use Rattle.step_results.specs.AtLine.{AtLine, after_lines}
 use Rattle.step_results.specs.Steps.{◌>>=◌}
 use Rattle.text_words.specs.Lines.{lines, words_of}
@@ -16,7 +16,7 @@ use Rattle.netdiscover_file.specs.declared.assignment.SwitchGuids.{SwitchGuids}
 use Rattle.netdiscover_file.specs.Agreement.{first_wrong}
 use Rattle.netdiscover_file.specs.Assignment.{assignment_in, switch_guids_in}
 use Rattle.netdiscover_file.specs.Comment.{comment_of, initiator_in, quoted_name}
-use Rattle.netdiscover_file.specs.Ends.{far_end_of, node_id_in, own_end_in}
+use Rattle.netdiscover_file.specs.Ends.{behind_own, far_end_of, node_id_in, own_end_in, without_external}
 use Rattle.netdiscover_file.specs.Kind.{is_same_kind, is_switch, kind_headed}
 use Rattle.netdiscover_file.specs.Lids.{node_lid, own_lid}
 use Rattle.netdiscover_file.specs.Node.{is_switch_at, last_place, place_of, port_at}
@@ -76,8 +76,9 @@ new_port so_far line =
 
 unfoldable pub port_reported : DraftState → ℕ → List ℕ → List (List ℕ) → List ℕ → Result PortLine DiscoveryCause
 port_reported so_far line first words comment = do
-  own ← own_end_in first
-  far ← far_end_of words
+  own ← own_end_in (without_external first)
+  rest ← behind_own first words
+  far ← far_end_of rest
   place ← ok_or (last_place so_far.nodes) NoSuchPort
   lid ← own_lid (is_switch_at so_far.nodes place) own.guid comment
   port ← ok_or (port_at so_far.nodes place own.number) NoSuchPort
@@ -129,11 +130,29 @@ abbrev pub after_assignment : ℕ → DraftState → List ℕ → Option (List �
 after_assignment number so_far line (Some parts) = with_value so_far parts.0 parts.1
 after_assignment number so_far line None = ok_or (words_of line) Malformed >>= λ words. after_words number so_far words (comment_of line)
 
--- `Chassis ..` heads nodes, and is passed over
+-- `Chassis ..` heads nodes, and may have a `Hostname: ..` behind it: both are passed over
+abbrev pub heads_chassis : List ℕ → Bool
+heads_chassis line = starts_with nat_eq line (codes "Chassis ") || starts_with nat_eq line (codes "Hostname: ")
+
 unfoldable pub after_line : ℕ → DraftState → List ℕ → Result DraftState DiscoveryCause
 after_line number so_far line =
-    if starts_with nat_eq line (codes "Chassis ") then Ok so_far
+    if heads_chassis line then Ok so_far
     else after_assignment number so_far line (assignment_in line)
+
+-- ---- a text is one of a discovery if a line heads a node
+abbrev pub is_heading : Result NodeKind DiscoveryCause → Bool
+is_heading (Ok kind) = true
+is_heading (Err cause) = false
+
+abbrev pub begins_node : List (List ℕ) → Bool
+begins_node [] = false
+begins_node (first ∷ rest) = is_heading (kind_headed first)
+
+abbrev pub heads_node : List ℕ → Bool
+heads_node line = option_map_or begins_node (words_of line) false
+
+abbrev pub is_discovery : List ℕ → Bool
+is_discovery text = list_any heads_node (lines text)
 
 -- ---- the whole text: after the last line each cable must stand at both its ends
 abbrev pub if_agreed : DraftState → Option ℕ → Result DiscoveryState (AtLine DiscoveryCause)

@@ -1,5 +1,6 @@
 -- The two ends of a cable, as the line of a port reports them, before it is known which nodes and ports there are.
-use Rattle.std.specs.Prelude.{ℕ, Bool, not, ◌==◌, ◌&&◌, List, [], ◌∷◌, if◌then◌else◌, Option, Some, None, is_some, Result, Ok, Err}
+use Rattle.std.specs.Prelude.{ℕ, Bool, not, ◌-◌, ◌==◌, ◌&&◌, nat_eq, List, [], ◌∷◌, codes, length, take, if◌then◌else◌, Option, Some, None, is_some, Result, Ok, Err}
+use Rattle.std.specs.List.{ends_with}
 use Rattle.std.specs.Option.{ok_or}
 use Rattle.step_results.specs.Steps.{◌>>=◌}
 use Rattle.text_words.specs.Cut.{cut_at}
@@ -60,7 +61,46 @@ far_end_apart word guid_word = do
   guid ← port_guid_in guid_word
   only_if (not (is_some far.guid)) (record { node = far.node; port = far.port; guid = Some guid })
 
+-- behind the GUID nothing stands
+unfoldable pub far_end_alone : List ℕ → List (List ℕ) → Result FarEnd DiscoveryCause
+far_end_alone word [] = far_end_in word
+far_end_alone word (guid_word ∷ []) = far_end_apart word guid_word
+far_end_alone word _ = Err Malformed
+
+-- ---- `[1][ext 7]`: with `-g` a port of a chassis has the number that stands on the chassis too, which says nothing of the cable
+abbrev pub has_external : List ℕ → Bool
+has_external word = ends_with nat_eq word (codes "[ext")
+
+abbrev pub without_external : List ℕ → List ℕ
+without_external word = if has_external word then take (length word - 4) word else word
+
+-- `7]`: what stands behind the number
+unfoldable pub behind_external : List ℕ → Result (List ℕ) DiscoveryCause
+behind_external word = do
+  parts ← ok_or (cut_at (λ byte. byte == 93) word) Malformed
+  number ← decimal_in parts.0
+  Ok parts.1
+
+-- the words behind those of the port that a line is of
+unfoldable pub behind_number : List (List ℕ) → Result (List (List ℕ)) DiscoveryCause
+behind_number (number ∷ rest) = behind_external number >>= λ behind. if is_empty behind then Ok rest else Err Malformed
+behind_number [] = Err Malformed
+
+abbrev pub behind_own : List ℕ → List (List ℕ) → Result (List (List ℕ)) DiscoveryCause
+behind_own first rest = if has_external first then behind_number rest else Ok rest
+
+-- of the far end the GUID may stand behind the number on the chassis
+abbrev pub if_last : List ℕ → List ℕ → List (List ℕ) → Result FarEnd DiscoveryCause
+if_last word guid_word [] = far_end_apart word guid_word
+if_last word guid_word _ = Err Malformed
+
+abbrev pub far_end_behind : List ℕ → List ℕ → List (List ℕ) → Result FarEnd DiscoveryCause
+far_end_behind word behind rest = if is_empty behind then far_end_alone word rest else if_last word behind rest
+
+unfoldable pub far_end_numbered : List ℕ → List (List ℕ) → Result FarEnd DiscoveryCause
+far_end_numbered word (number ∷ rest) = behind_external number >>= λ behind. far_end_behind word behind rest
+far_end_numbered word [] = Err Malformed
+
 unfoldable pub far_end_of : List (List ℕ) → Result FarEnd DiscoveryCause
-far_end_of (word ∷ []) = far_end_in word
-far_end_of (word ∷ guid_word ∷ []) = far_end_apart word guid_word
-far_end_of _ = Err Malformed
+far_end_of (word ∷ rest) = if has_external word then far_end_numbered (without_external word) rest else far_end_alone word rest
+far_end_of [] = Err Malformed

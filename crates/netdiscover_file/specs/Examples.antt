@@ -10,7 +10,7 @@ use Rattle.netdiscover_file.specs.declared.kind.NodeKind.TheVariants.{Switch, Ch
 use Rattle.netdiscover_file.specs.Discovery.{discovery_of, header_of}
 use Rattle.netdiscover_file.specs.Assignment.{switch_guids_in}
 use Rattle.netdiscover_file.specs.Comment.{initiator_in}
-use Rattle.netdiscover_file.specs.Ends.{far_end_of, own_end_in}
+use Rattle.netdiscover_file.specs.Ends.{far_end_of, own_end_in, without_external}
 use Rattle.netdiscover_file.specs.Lids.{own_lid_in, owns}
 use Rattle.netdiscover_file.specs.Sound.{is_port}
 
@@ -25,6 +25,15 @@ pub record EndsAreRead : Type 0 where
   -- between two adapters a blank stands before the GUID
   pub apart : far_end_of (codes "\"H-0000000000000100\"[1]" ∷ codes "(101)" ∷ [])
       ≡ Ok (record { node = record { kind = ChannelAdapter; guid = 0x100 }; port = 1; guid = Some 0x101 })
+  -- with the number on a chassis, between a port and its GUID, or with the GUID in a word of its own
+  pub own_external : own_end_in (without_external (codes "[1][ext")) ≡ Ok (record { number = 1; guid = None })
+  pub external : far_end_of (codes "\"S-0002c902004085a0\"[36][ext" ∷ codes "7]" ∷ [])
+      ≡ Ok (record { node = record { kind = Switch; guid = 0x2c902004085a0 }; port = 36; guid = None })
+  pub external_guid : far_end_of (codes "\"H-0000000000000100\"[1][ext" ∷ codes "7](101)" ∷ [])
+      ≡ Ok (record { node = record { kind = ChannelAdapter; guid = 0x100 }; port = 1; guid = Some 0x101 })
+  pub external_apart : far_end_of (codes "\"H-0000000000000100\"[1][ext" ∷ codes "7]" ∷ codes "(101)" ∷ [])
+      ≡ Ok (record { node = record { kind = ChannelAdapter; guid = 0x100 }; port = 1; guid = Some 0x101 })
+  pub no_number : far_end_of (codes "\"S-0002c902004085a0\"[36][ext" ∷ []) ≡ Err Malformed
   -- a node's GUID has all its digits
   pub short : far_end_of (codes "\"S-2c902004085a0\"[36]" ∷ []) ≡ Err Malformed
   -- an adapter's own LID comes first, whatever the far node's name
@@ -49,9 +58,9 @@ pub record HeadersAreRead : Type 0 where
 -- Of comments the first counts that reports where it was printed; chassis are passed over, and words that are reported besides.
 abbrev switch_text : List ℕ
 switch_text =
-    codes "#\n# Initiated from node 0000000000000100 port 0000000000000101\n# Initiated from node 0000000000000200 port 0000000000000201\n\n"
+    codes "Hostname: x\n# Initiated from node 0000000000000100 port 0000000000000101\n# Initiated from node 0000000000000200 port 0000000000000201\n\n"
     ++ codes "Chassis 12 (guid 0x20)\nvendid=0x2c9\nsub_dev2=x\nswitchguid=0x20(21)\n"
-    ++ codes "Switch\t255 \"S-0000000000000020\"\t\t# \"A\" enhanced port 0 lid 65535 lmc 7\n[255]\t\"H-0000000000000100\"[1](101) \t\t# \"h\"\n"
+    ++ codes "Switch\t255 \"S-0000000000000020\"\t\t# \"A\" enhanced port 0 lid 65535 lmc 7\n[255][ext 12]\t\"H-0000000000000100\"[1](101) \t\t# \"h\"\n"
 
 abbrev adapter_text : List ℕ
 adapter_text =

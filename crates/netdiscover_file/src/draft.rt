@@ -9,7 +9,7 @@ ghost use Rattle.netdiscover_file.specs.Sound.{has_own, is_port};
 
 use crate::assignment::SwitchGuids;
 use crate::comment::quoted_name;
-use crate::ends::{NodeId, far_end_of, node_id_in, own_end_in};
+use crate::ends::{NodeId, behind_own, far_end_of, node_id_in, own_end_in, without_external};
 use crate::fault::DiscoveryCause;
 use crate::kind::NodeKind;
 use crate::lids::{node_lid, own_lid};
@@ -133,8 +133,9 @@ impl Draft {
         ensures is_port { IfOk result (λ reported. is_port self.now.nodes reported.port ≡ true) }
         ensures has_own { IfOk result (λ reported. has_own self.now.nodes reported ≡ true) }
     {
-        let own = own_end_in(first)?;
-        let far = far_end_of(words)?;
+        let own = own_end_in(without_external(first))?;
+        let rest = behind_own(first, words)?;
+        let far = far_end_of(rest)?;
         let nodes = self.nodes.as_slice();
         let place = last_place(nodes).ok_or(DiscoveryCause::NoSuchPort)?;
         let lid = own_lid(is_switch_at(nodes, place), own.guid, comment)?;

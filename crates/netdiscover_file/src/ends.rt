@@ -1,7 +1,9 @@
 //! The two ends of a cable, as the line of a port reports them.
 
 ghost use Rattle.std.specs.Prelude.{◌≡◌};
-ghost use Rattle.netdiscover_file.specs.Ends.{far_end_apart, far_end_in, far_end_of, node_id_in, own_end_in, port_guid_if_any, port_guid_in};
+ghost use Rattle.step_results.specs.Gives.{seen_by};
+ghost use Rattle.netdiscover_file.specs.Ends.{behind_external, behind_number, behind_own, far_end_alone, far_end_apart, far_end_behind, far_end_in, far_end_numbered};
+ghost use Rattle.netdiscover_file.specs.Ends.{far_end_of, has_external, if_last, node_id_in, own_end_in, port_guid_if_any, port_guid_in, without_external};
 
 use crate::cut::enclosed;
 use crate::fault::DiscoveryCause;
@@ -126,6 +128,106 @@ fn far_end_apart(word: &[u8], guid_word: &[u8]) -> Result<FarEnd, DiscoveryCause
     })
 }
 
+/// The far end, by its word, and the word of its GUID.
+#[tactic(auto, unfolding(crate::specs::Ends::far_end_alone))]
+fn far_end_alone(word: &[u8], words: Words<'_>) -> Result<FarEnd, DiscoveryCause>
+    ensures { result ≡ far_end_alone word.now words.entry }
+{
+    let mut words = words;
+    let Some(guid_word) = words.next() else {
+        return far_end_in(word);
+    };
+    if words.next().is_some() {
+        return Err(DiscoveryCause::Malformed);
+    }
+    far_end_apart(word, guid_word)
+}
+
+/// Whether the number on the chassis begins at the end of the word.
+fn has_external(word: &[u8]) -> bool
+    ensures { result ≡ has_external word.now }
+{
+    word.ends_with(b"[ext")
+}
+
+/// The word without that.
+pub(crate) fn without_external(word: &[u8]) -> &[u8]
+    ensures { result.now ≡ without_external word.now }
+{
+    match word.strip_suffix(b"[ext") {
+        Some(bare) => bare,
+        None => word,
+    }
+}
+
+/// What stands behind the number on the chassis.
+#[tactic(auto, unfolding(crate::specs::Ends::behind_external))]
+fn behind_external(word: &[u8]) -> Result<&[u8], DiscoveryCause>
+    ensures { seen_by (λ behind. behind.now) result ≡ behind_external word.now }
+{
+    let (number, behind) = cut_at(b']', word).ok_or(DiscoveryCause::Malformed)?;
+    decimal_in(number)?;
+    Ok(behind)
+}
+
+#[tactic(auto, unfolding(crate::specs::Ends::behind_number))]
+fn behind_number(words: Words<'_>) -> Result<Words<'_>, DiscoveryCause>
+    ensures { result ≡ behind_number words.entry }
+{
+    let mut words = words;
+    let Some(number) = words.next() else {
+        return Err(DiscoveryCause::Malformed);
+    };
+    let behind = behind_external(number)?;
+    if !behind.is_empty() {
+        return Err(DiscoveryCause::Malformed);
+    }
+    Ok(words)
+}
+
+/// The words behind those of the port that a line is of, by the first of them.
+pub(crate) fn behind_own<'a>(first: &[u8], words: Words<'a>) -> Result<Words<'a>, DiscoveryCause>
+    ensures { result ≡ behind_own first.now words.entry }
+{
+    if has_external(first) {
+        behind_number(words)
+    } else {
+        Ok(words)
+    }
+}
+
+fn if_last(word: &[u8], guid_word: &[u8], words: Words<'_>) -> Result<FarEnd, DiscoveryCause>
+    ensures { result ≡ if_last word.now guid_word.now words.entry }
+{
+    let mut words = words;
+    if words.next().is_some() {
+        return Err(DiscoveryCause::Malformed);
+    }
+    far_end_apart(word, guid_word)
+}
+
+fn far_end_behind(word: &[u8], behind: &[u8], words: Words<'_>) -> Result<FarEnd, DiscoveryCause>
+    ensures { result ≡ far_end_behind word.now behind.now words.entry }
+{
+    if behind.is_empty() {
+        far_end_alone(word, words)
+    } else {
+        if_last(word, behind, words)
+    }
+}
+
+#[tactic(auto, unfolding(crate::specs::Ends::far_end_numbered))]
+fn far_end_numbered(word: &[u8], words: Words<'_>) -> Result<FarEnd, DiscoveryCause>
+    ensures { result ≡ far_end_numbered word.now words.entry }
+{
+    let mut words = words;
+    let Some(number) = words.next() else {
+        return Err(DiscoveryCause::Malformed);
+    };
+    let behind = behind_external(number)?;
+    far_end_behind(word, behind, words)
+}
+
 /// The far end that a port line names, by the words after its own port.
 #[tactic(auto, unfolding(crate::specs::Ends::far_end_of))]
 pub(crate) fn far_end_of(words: Words<'_>) -> Result<FarEnd, DiscoveryCause>
@@ -135,11 +237,9 @@ pub(crate) fn far_end_of(words: Words<'_>) -> Result<FarEnd, DiscoveryCause>
     let Some(word) = words.next() else {
         return Err(DiscoveryCause::Malformed);
     };
-    let Some(guid_word) = words.next() else {
-        return far_end_in(word);
-    };
-    if words.next().is_some() {
-        return Err(DiscoveryCause::Malformed);
+    if has_external(word) {
+        far_end_numbered(without_external(word), words)
+    } else {
+        far_end_alone(word, words)
     }
-    far_end_apart(word, guid_word)
 }

@@ -3,7 +3,7 @@
 ghost use Rattle.std.specs.Prelude.{◌≡◌, IfOk};
 ghost use Rattle.step_results.specs.Gives.{LineGives};
 ghost use Rattle.step_results.specs.TextGives.{TextGives};
-ghost use Rattle.netdiscover_file.specs.Discovery.{after_line, after_words, are_nodes, discovery_of, node_reported, port_reported, whole, with_comment, with_node, with_port, with_value};
+ghost use Rattle.netdiscover_file.specs.Discovery.{after_line, after_words, are_nodes, discovery_of, heads_chassis, heads_node, is_discovery, node_reported, port_reported, whole, with_comment, with_node, with_port, with_value};
 ghost use Rattle.netdiscover_file.specs.Sound.{IsSound};
 
 use crate::agreement::first_wrong;
@@ -15,7 +15,7 @@ use crate::fault::{DiscoveryCause, DiscoveryFault};
 use crate::kind::{NodeKind, kind_headed};
 use std::alloc::Global;
 use step_results::LineError;
-use text_words::{LineReader, Words, read_lines};
+use text_words::{LineReader, Lines, Words, read_lines};
 
 impl Draft {
     fn take_node(
@@ -131,7 +131,7 @@ impl LineReader for Draft {
         number: usize,
         line: &[u8],
     ) -> Result<(), LineError<DiscoveryCause>> {
-        if line.starts_with(b"Chassis ") {
+        if heads_chassis(line) {
             return Ok(());
         }
         if let Some((key, value)) = assignment_in(line) {
@@ -140,6 +140,13 @@ impl LineReader for Draft {
         let words = Words::of(line).ok_or(DiscoveryCause::Malformed)?;
         self.take_words(alloc, number, words, comment_of(line))
     }
+}
+
+/// Whether the line heads the nodes of a chassis.
+fn heads_chassis(line: &[u8]) -> bool
+    ensures { result ≡ heads_chassis line.now }
+{
+    line.starts_with(b"Chassis ") || line.starts_with(b"Hostname: ")
 }
 
 #[tactic(auto, unfolding(crate::specs::Discovery::are_nodes))]
@@ -151,6 +158,31 @@ fn are_nodes(words: Words<'_>) -> bool
         return false;
     };
     word == b"Nodes".as_slice()
+}
+
+fn heads_node(line: &[u8]) -> bool
+    ensures { result ≡ heads_node line.now }
+{
+    let Some(mut words) = Words::of(line) else {
+        return false;
+    };
+    match words.next() {
+        Some(first) => kind_headed(first).is_ok(),
+        None => false,
+    }
+}
+
+/// Whether some line of the text heads a node, as one of `ibnetdiscover` does: its first word is `Switch`, `Ca` or `Rt`, which
+/// no line of a topology begins with.
+pub fn is_discovery(text: &[u8]) -> bool
+    ensures { result ≡ is_discovery text.now }
+{
+    for line in Lines::new(text) {
+        if heads_node(line) {
+            return true;
+        }
+    }
+    false
 }
 
 /// What a text of `ibnetdiscover` reports, or its first fault with the line.
