@@ -1,7 +1,12 @@
 -- The commands of the program and their arguments, as clap reads them.
-use Rattle.std.specs.Prelude.{codes, Some, true}
-use Rattle.clap.specs.Words.{App, Rule, Text, new_app, new_rule, with_rule, with_subcommand}
+use Rattle.std.specs.Prelude.{◌≡◌, codes, IfOk, Result, Some, true}
+use Rattle.clap.specs.Words.{App, Rule, Text, app_of, new_app, new_rule, with_rule, with_subcommand}
+use Rattle.clap.specs.declared.builder.command.Command.{Command}
 use Rattle.clap.specs.declared.builder.ArgAction.TheVariants.{Set, SetTrue}
+
+-- the command, if there is one, takes these words
+abbrev pub Reads : {E : Type 0} → Result Command E → App → Type 0
+Reads command app = IfOk command (λ made. app_of made ≡ app)
 
 -- an argument that has to be given
 abbrev pub wanted : Text → Rule
@@ -101,14 +106,14 @@ with_runs app =
     let smps = with_subcommand runs smp_command.top in
     with_subcommand smps compare_command.top
 
--- with those that judge cables and real fabrics, and that explain codes
-abbrev pub with_audits : App → App
-with_audits app =
-    let cuts = with_subcommand app cuts_command.top in
-    let imports = with_subcommand cuts import_command.top in
-    let audits = with_subcommand imports audit_command.top in
-    let keys = with_subcommand audits audit_keys_command.top in
-    with_subcommand keys explain_command.top
+-- with those that judge cables, and that make a topology from a real fabric
+abbrev pub with_cables : App → App
+with_cables app = with_subcommand (with_subcommand app cuts_command.top) import_command.top
 
+-- with those that judge real fabrics
+abbrev pub with_audits : App → App
+with_audits app = with_subcommand (with_subcommand app audit_command.top) audit_keys_command.top
+
+-- and with the one that explains codes
 abbrev pub fabric_command : App
-fabric_command = with_audits (with_runs (with_listings fabric_top))
+fabric_command = with_subcommand (with_audits (with_cables (with_runs (with_listings fabric_top)))) explain_command.top

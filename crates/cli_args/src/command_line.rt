@@ -1,12 +1,13 @@
 //! The command line of the program, for `clap`.
 
-ghost use Rattle.std.specs.Prelude.{◌≡◌, false, List, ℕ, Option, None, Some, codes, map, string_bytes, IfOk, IfErr, IsSomeAnd};
-ghost use Rattle.clap.specs.Words.{app_of, rule_of, subcommand_rows_of};
+ghost use Rattle.std.specs.Prelude.{◌≡◌, false, true, List, ℕ, Option, None, Some, codes, map, string_bytes, IfOk, IfErr, IsSomeAnd};
+ghost use Rattle.clap.specs.Words.{App, Rule, app_of, rule_of, subcommand_rows_of, with_rule, with_subcommand};
 ghost use Rattle.clap.specs.declared.builder.command.Command.TheViews.{out-Command as fields_of};
+ghost use Rattle.cli_args.specs.CommandLine.{Reads};
 ghost use Rattle.cli_args.specs.CommandLine.{audit_command, audit_keys_command, check_command, compare_command, diff_command, explain_command, fabric_command, graph_command};
 ghost use Rattle.cli_args.specs.CommandLine.{cuts_command, cuts_flag, import_command, keys_command, manager_option, optional, run_command, script_option, shares_command};
 ghost use Rattle.cli_args.specs.CommandLine.{smp_command, subnet_command, tables_command, trace_command};
-ghost use Rattle.cli_args.specs.CommandLine.{wanted, with_audits, with_listings, with_runs};
+ghost use Rattle.cli_args.specs.CommandLine.{wanted, with_audits, with_cables, with_listings, with_runs};
 ghost use Rattle.cli_args.specs.Help.{about_audit, about_audit_keys, about_check, about_compare, about_cuts, about_diff, about_explain, about_graph, about_import, about_keys};
 ghost use Rattle.cli_args.specs.Help.{about_program, about_run, about_smp};
 ghost use Rattle.cli_args.specs.Help.{about_shares, about_tables, about_trace, help_of_code, help_of_dlid, help_of_key};
@@ -278,14 +279,48 @@ fn wanted_second_partitions<'a>(alloc: Global) -> Arg<'a>
     )
 }
 
+/// A command with one more argument, if the command could be made. This takes the error of the step before, so that the
+/// function of a command has no way out, and a proof of it, for each argument.
+fn with_arg<'a>(
+    command: Result<Command<'a>, AllocError>,
+    arg: Arg<'a>,
+) -> Result<Command<'a>, AllocError>
+    requires { arg.global ≡ false }
+    ensures { (app : App) (rule : Rule) → Reads command.entry app → rule_of arg.entry ≡ rule → Reads result (with_rule app rule) }
+{
+    command?.arg(arg)
+}
+
+/// A command line with one more command.
+fn with_command<'a>(
+    all: Result<Command<'a>, AllocError>,
+    command: Result<Command<'a>, AllocError>,
+) -> Result<Command<'a>, AllocError>
+    ensures { (app sub : App) → Reads all.entry app → Reads command.entry sub → sub.top.is_plain ≡ true
+        → Reads result (with_subcommand app sub.top) }
+{
+    all?.subcommand(command?)
+}
+
+/// A command with what its help says of it before and after its arguments.
+fn described<'a>(
+    command: Result<Command<'a>, AllocError>,
+    about: &'a str,
+    help: &'a str,
+) -> Result<Command<'a>, AllocError>
+    ensures words { (app : App) → Reads command.entry app → Reads result app }
+    ensures about { IfOk result (λ command. (fields_of command).about ≡ Some about.entry) }
+    ensures help { IfOk result (λ command. (fields_of command).after_help ≡ Some help.entry) }
+{
+    Ok(command?.about(about).after_help(help))
+}
+
 /// A command that names a subnet by its topology and its partitions.
 fn subnet_command<'a>(alloc: Global, name: &'a str) -> Result<Command<'a>, AllocError>
     ensures { IfOk result (λ command. app_of command ≡ subnet_command name.entry.now) }
 {
-    let command = Command::new(alloc, name)
-        .arg(wanted_topology(alloc))?
-        .arg(wanted_partitions(alloc))?;
-    Ok(command)
+    let command = with_arg(Ok(Command::new(alloc, name)), wanted_topology(alloc));
+    with_arg(command, wanted_partitions(alloc))
 }
 
 /// The command that lists a subnet.
@@ -294,8 +329,7 @@ fn check_command<'a>(alloc: Global) -> Result<Command<'a>, AllocError>
     ensures about { IfOk result (λ command. text_in (fields_of command).about ≡ Some about_check) }
     ensures help { IfOk result (λ command. text_in (fields_of command).after_help ≡ Some LISTING.now) }
 {
-    let command = subnet_command(alloc, "check")?;
-    Ok(command.about(ABOUT_CHECK).after_help(LISTING))
+    described(subnet_command(alloc, "check"), ABOUT_CHECK, LISTING)
 }
 
 /// The command that lists which ports may talk to each other in a subnet.
@@ -304,8 +338,8 @@ fn shares_command<'a>(alloc: Global) -> Result<Command<'a>, AllocError>
     ensures about { IfOk result (λ command. text_in (fields_of command).about ≡ Some about_shares) }
     ensures help { IfOk result (λ command. text_in (fields_of command).after_help ≡ Some SHARES.now) }
 {
-    let command = subnet_command(alloc, "shares")?.arg(optional_port(alloc))?;
-    Ok(command.about(ABOUT_SHARES).after_help(SHARES))
+    let command = with_arg(subnet_command(alloc, "shares"), optional_port(alloc));
+    described(command, ABOUT_SHARES, SHARES)
 }
 
 /// The command that lists what another partition file changes.
@@ -314,8 +348,11 @@ fn diff_command<'a>(alloc: Global) -> Result<Command<'a>, AllocError>
     ensures about { IfOk result (λ command. text_in (fields_of command).about ≡ Some about_diff) }
     ensures help { IfOk result (λ command. text_in (fields_of command).after_help ≡ Some CHANGES.now) }
 {
-    let command = subnet_command(alloc, "diff")?.arg(wanted_second_partitions(alloc))?;
-    Ok(command.about(ABOUT_DIFF).after_help(CHANGES))
+    let command = with_arg(
+        subnet_command(alloc, "diff"),
+        wanted_second_partitions(alloc),
+    );
+    described(command, ABOUT_DIFF, CHANGES)
 }
 
 /// The command that prints LFTs and MFTs.
@@ -324,8 +361,8 @@ fn tables_command<'a>(alloc: Global) -> Result<Command<'a>, AllocError>
     ensures about { IfOk result (λ command. text_in (fields_of command).about ≡ Some about_tables) }
     ensures help { IfOk result (λ command. text_in (fields_of command).after_help ≡ Some TABLES.now) }
 {
-    let command = subnet_command(alloc, "tables")?.arg(optional_script(alloc))?;
-    Ok(command.about(ABOUT_TABLES).after_help(TABLES))
+    let command = with_arg(subnet_command(alloc, "tables"), optional_script(alloc));
+    described(command, ABOUT_TABLES, TABLES)
 }
 
 /// The command that prints P_Key tables.
@@ -334,8 +371,8 @@ fn keys_command<'a>(alloc: Global) -> Result<Command<'a>, AllocError>
     ensures about { IfOk result (λ command. text_in (fields_of command).about ≡ Some about_keys) }
     ensures help { IfOk result (λ command. text_in (fields_of command).after_help ≡ Some KEYS.now) }
 {
-    let command = subnet_command(alloc, "keys")?.arg(optional_script(alloc))?;
-    Ok(command.about(ABOUT_KEYS).after_help(KEYS))
+    let command = with_arg(subnet_command(alloc, "keys"), optional_script(alloc));
+    described(command, ABOUT_KEYS, KEYS)
 }
 
 /// The command that prints the path of a packet.
@@ -344,12 +381,9 @@ fn trace_command<'a>(alloc: Global) -> Result<Command<'a>, AllocError>
     ensures about { IfOk result (λ command. text_in (fields_of command).about ≡ Some about_trace) }
     ensures help { IfOk result (λ command. text_in (fields_of command).after_help ≡ Some TRACE.now) }
 {
-    let command = subnet_command(alloc, "trace")?
-        .arg(wanted_port(alloc))?
-        .arg(wanted_dlid(alloc))?
-        .arg(wanted_key(alloc))?
-        .arg(optional_script(alloc))?;
-    Ok(command.about(ABOUT_TRACE).after_help(TRACE))
+    let sent = with_arg(subnet_command(alloc, "trace"), wanted_port(alloc));
+    let packet = with_arg(with_arg(sent, wanted_dlid(alloc)), wanted_key(alloc));
+    described(with_arg(packet, optional_script(alloc)), ABOUT_TRACE, TRACE)
 }
 
 /// The command that draws a fabric.
@@ -358,10 +392,8 @@ fn graph_command<'a>(alloc: Global) -> Result<Command<'a>, AllocError>
     ensures about { IfOk result (λ command. text_in (fields_of command).about ≡ Some about_graph) }
     ensures help { IfOk result (λ command. text_in (fields_of command).after_help ≡ Some GRAPH.now) }
 {
-    let command = subnet_command(alloc, "graph")?
-        .arg(optional_script(alloc))?
-        .arg(cuts_flag(alloc))?;
-    Ok(command.about(ABOUT_GRAPH).after_help(GRAPH))
+    let drawn = with_arg(subnet_command(alloc, "graph"), optional_script(alloc));
+    described(with_arg(drawn, cuts_flag(alloc)), ABOUT_GRAPH, GRAPH)
 }
 
 /// The command that runs a script in a subnet.
@@ -370,8 +402,8 @@ fn run_command<'a>(alloc: Global) -> Result<Command<'a>, AllocError>
     ensures about { IfOk result (λ command. text_in (fields_of command).about ≡ Some about_run) }
     ensures help { IfOk result (λ command. text_in (fields_of command).after_help ≡ Some REPORT.now) }
 {
-    let command = subnet_command(alloc, "run")?.arg(wanted_script(alloc))?;
-    Ok(command.about(ABOUT_RUN).after_help(REPORT))
+    let command = with_arg(subnet_command(alloc, "run"), wanted_script(alloc));
+    described(command, ABOUT_RUN, REPORT)
 }
 
 /// The command that answers SMPs.
@@ -380,10 +412,8 @@ fn smp_command<'a>(alloc: Global) -> Result<Command<'a>, AllocError>
     ensures about { IfOk result (λ command. text_in (fields_of command).about ≡ Some about_smp) }
     ensures help { IfOk result (λ command. text_in (fields_of command).after_help ≡ Some SMPS.now) }
 {
-    let command = subnet_command(alloc, "smp")?
-        .arg(wanted_smps(alloc))?
-        .arg(script_option(alloc))?;
-    Ok(command.about(ABOUT_SMP).after_help(SMPS))
+    let smps = with_arg(subnet_command(alloc, "smp"), wanted_smps(alloc));
+    described(with_arg(smps, script_option(alloc)), ABOUT_SMP, SMPS)
 }
 
 /// The command that compares two scripts.
@@ -392,11 +422,13 @@ fn compare_command<'a>(alloc: Global) -> Result<Command<'a>, AllocError>
     ensures about { IfOk result (λ command. text_in (fields_of command).about ≡ Some about_compare) }
     ensures help { IfOk result (λ command. text_in (fields_of command).after_help ≡ Some COMPARISON.now) }
 {
-    let command = subnet_command(alloc, "compare")?
-        .arg(wanted_first_script(alloc))?
-        .arg(wanted_second_script(alloc))?
-        .arg(wanted_compared(alloc))?;
-    Ok(command.about(ABOUT_COMPARE).after_help(COMPARISON))
+    let first = with_arg(subnet_command(alloc, "compare"), wanted_first_script(alloc));
+    let scripts = with_arg(first, wanted_second_script(alloc));
+    described(
+        with_arg(scripts, wanted_compared(alloc)),
+        ABOUT_COMPARE,
+        COMPARISON,
+    )
 }
 
 /// The command that prints what the loss of cables would do.
@@ -405,10 +437,12 @@ fn cuts_command<'a>(alloc: Global) -> Result<Command<'a>, AllocError>
     ensures about { IfOk result (λ command. text_in (fields_of command).about ≡ Some about_cuts) }
     ensures help { IfOk result (λ command. text_in (fields_of command).after_help ≡ Some CUTS.now) }
 {
-    let command = subnet_command(alloc, "cuts")?
-        .arg(optional_first_end(alloc))?
-        .arg(optional_second_end(alloc))?;
-    Ok(command.about(ABOUT_CUTS).after_help(CUTS))
+    let first = with_arg(subnet_command(alloc, "cuts"), optional_first_end(alloc));
+    described(
+        with_arg(first, optional_second_end(alloc)),
+        ABOUT_CUTS,
+        CUTS,
+    )
 }
 
 /// The command that makes a topology from a real fabric.
@@ -417,10 +451,8 @@ fn import_command<'a>(alloc: Global) -> Result<Command<'a>, AllocError>
     ensures about { IfOk result (λ command. text_in (fields_of command).about ≡ Some about_import) }
     ensures help { IfOk result (λ command. text_in (fields_of command).after_help ≡ Some IMPORT.now) }
 {
-    let command = Command::new(alloc, "import")
-        .arg(wanted_netdiscover(alloc))?
-        .arg(manager_option(alloc))?;
-    Ok(command.about(ABOUT_IMPORT).after_help(IMPORT))
+    let read = with_arg(Ok(Command::new(alloc, "import")), wanted_netdiscover(alloc));
+    described(with_arg(read, manager_option(alloc)), ABOUT_IMPORT, IMPORT)
 }
 
 /// The command that judges the routes of a real fabric.
@@ -455,46 +487,56 @@ fn explain_command<'a>(alloc: Global) -> Result<Command<'a>, AllocError>
     ensures about { IfOk result (λ command. text_in (fields_of command).about ≡ Some about_explain) }
     ensures help { IfOk result (λ command. text_in (fields_of command).after_help ≡ Some CODES.now) }
 {
-    let command = Command::new(alloc, "explain").arg(optional_code(alloc))?;
-    Ok(command.about(ABOUT_EXPLAIN).after_help(CODES))
+    let command = with_arg(Ok(Command::new(alloc, "explain")), optional_code(alloc));
+    described(command, ABOUT_EXPLAIN, CODES)
 }
 
 /// A command line with the commands that list a subnet and what its fabric holds.
-fn with_listings<'a>(alloc: Global, command: Command<'a>) -> Result<Command<'a>, AllocError>
-    ensures { IfOk result (λ all. app_of all ≡ with_listings (app_of command.entry)) }
+fn with_listings<'a>(
+    alloc: Global,
+    command: Result<Command<'a>, AllocError>,
+) -> Result<Command<'a>, AllocError>
+    ensures { (app : App) → Reads command.entry app → Reads result (with_listings app) }
 {
-    let all = command
-        .subcommand(check_command(alloc)?)?
-        .subcommand(shares_command(alloc)?)?
-        .subcommand(diff_command(alloc)?)?
-        .subcommand(tables_command(alloc)?)?
-        .subcommand(keys_command(alloc)?)?;
-    Ok(all)
+    let checks = with_command(command, check_command(alloc));
+    let shares = with_command(checks, shares_command(alloc));
+    let changes = with_command(shares, diff_command(alloc));
+    let tables = with_command(changes, tables_command(alloc));
+    with_command(tables, keys_command(alloc))
 }
 
 /// A command line with the commands that follow packets and run scripts.
-fn with_runs<'a>(alloc: Global, command: Command<'a>) -> Result<Command<'a>, AllocError>
-    ensures { IfOk result (λ all. app_of all ≡ with_runs (app_of command.entry)) }
+fn with_runs<'a>(
+    alloc: Global,
+    command: Result<Command<'a>, AllocError>,
+) -> Result<Command<'a>, AllocError>
+    ensures { (app : App) → Reads command.entry app → Reads result (with_runs app) }
 {
-    let all = command
-        .subcommand(trace_command(alloc)?)?
-        .subcommand(graph_command(alloc)?)?
-        .subcommand(run_command(alloc)?)?
-        .subcommand(smp_command(alloc)?)?
-        .subcommand(compare_command(alloc)?)?;
-    Ok(all)
+    let traces = with_command(command, trace_command(alloc));
+    let graphs = with_command(traces, graph_command(alloc));
+    let runs = with_command(graphs, run_command(alloc));
+    let smps = with_command(runs, smp_command(alloc));
+    with_command(smps, compare_command(alloc))
 }
 
-/// A command line with the commands that judge cables and real fabrics, and that explain codes.
+/// A command line with the commands that judge cables, and that make a topology from a real fabric.
+fn with_cables<'a>(
+    alloc: Global,
+    command: Result<Command<'a>, AllocError>,
+) -> Result<Command<'a>, AllocError>
+    ensures { (app : App) → Reads command.entry app → Reads result (with_cables app) }
+{
+    let cuts = with_command(command, cuts_command(alloc));
+    with_command(cuts, import_command(alloc))
+}
+
+/// A command line with the commands that judge real fabrics.
 fn with_audits<'a>(alloc: Global, command: Command<'a>) -> Result<Command<'a>, AllocError>
-    ensures { IfOk result (λ all. app_of all ≡ with_audits (app_of command.entry)) }
+    ensures { (app : App) → app_of command.entry ≡ app → Reads result (with_audits app) }
 {
     let all = command
-        .subcommand(cuts_command(alloc)?)?
-        .subcommand(import_command(alloc)?)?
         .subcommand(audit_command(alloc)?)?
-        .subcommand(audit_keys_command(alloc)?)?
-        .subcommand(explain_command(alloc)?)?;
+        .subcommand(audit_keys_command(alloc)?)?;
     Ok(all)
 }
 
@@ -507,9 +549,11 @@ fn fabric_command<'a>(alloc: Global) -> Result<Command<'a>, AllocError>
     ensures help { IfOk result (λ command. text_in (fields_of command).after_help ≡ Some STATUSES.now) }
 {
     let top = Command::new(alloc, "fabric").subcommand_required(true);
-    let listings = with_listings(alloc, top)?;
-    let runs = with_runs(alloc, listings)?;
-    let command = with_audits(alloc, runs)?.bin_name("fabric")?;
+    let listings = with_listings(alloc, Ok(top));
+    let runs = with_runs(alloc, listings);
+    let cables = with_cables(alloc, runs)?;
+    let audits = with_audits(alloc, cables);
+    let command = with_command(audits, explain_command(alloc))?.bin_name("fabric")?;
     Ok(command.version("0.1.0").about(ABOUT).after_help(STATUSES))
 }
 

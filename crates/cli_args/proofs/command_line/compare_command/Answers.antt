@@ -1,16 +1,7 @@
-use Rattle.std.proofs.Common.{◌≡◌, ◌∙◌, ap₂}
-use Rattle.clap.specs.Words.{app_of, with_rule}
-use Rattle.cli_args.specs.CommandLine.{compare_command}
 use Rattle.cli_args.proofs.command_line.compare_command.Goals as goal
 
 pub returns-clause-words : goal.returns-clause-words
 returns-clause-words c =
-    let words_are : app_of c.in_ok-command.command ≡ compare_command =
-    c.in_ok-command.ensures.shape c.wanted_compared.ensures.global
-    ∙ ap₂ with_rule
-    (c.in_ok-arg-2.ensures.shape c.wanted_second_script.ensures.global
-    ∙ ap₂ with_rule
-    (c.in_ok-arg.ensures.shape c.wanted_first_script.ensures.global ∙ ap₂ with_rule c.in_ok-subnet_command.ensures c.wanted_first_script.ensures.rule)
-    c.wanted_second_script.ensures.rule)
-    c.wanted_compared.ensures.rule in
-    rw (c.after_help.ensures, c.about.ensures) words_are
+    let first = c.with_arg-first.ensures _ _ c.subnet_command.ensures c.wanted_first_script.ensures.rule in
+    let scripts = c.with_arg-scripts.ensures _ _ first c.wanted_second_script.ensures.rule in
+    c.described.ensures.words _ (c.with_arg.ensures _ _ scripts c.wanted_compared.ensures.rule)

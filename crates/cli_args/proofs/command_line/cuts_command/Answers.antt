@@ -1,13 +1,6 @@
-use Rattle.std.proofs.Common.{◌≡◌, ◌∙◌, ap₂}
-use Rattle.clap.specs.Words.{app_of, with_rule}
-use Rattle.cli_args.specs.CommandLine.{cuts_command}
 use Rattle.cli_args.proofs.command_line.cuts_command.Goals as goal
 
 pub returns-clause-words : goal.returns-clause-words
 returns-clause-words c =
-    let words_are : app_of c.in_ok-command.command ≡ cuts_command =
-    c.in_ok-command.ensures.shape c.optional_second_end.ensures.global
-    ∙ ap₂ with_rule
-    (c.in_ok-arg.ensures.shape c.optional_first_end.ensures.global ∙ ap₂ with_rule c.in_ok-subnet_command.ensures c.optional_first_end.ensures.rule)
-    c.optional_second_end.ensures.rule in
-    rw (c.after_help.ensures, c.about.ensures) words_are
+    let first = c.with_arg-first.ensures _ _ c.subnet_command.ensures c.optional_first_end.ensures.rule in
+    c.described.ensures.words _ (c.with_arg.ensures _ _ first c.optional_second_end.ensures.rule)

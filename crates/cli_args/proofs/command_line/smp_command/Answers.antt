@@ -1,13 +1,6 @@
-use Rattle.std.proofs.Common.{◌≡◌, ◌∙◌, ap₂}
-use Rattle.clap.specs.Words.{app_of, with_rule}
-use Rattle.cli_args.specs.CommandLine.{smp_command}
 use Rattle.cli_args.proofs.command_line.smp_command.Goals as goal
 
 pub returns-clause-words : goal.returns-clause-words
 returns-clause-words c =
-    let words_are : app_of c.in_ok-command.command ≡ smp_command =
-    c.in_ok-command.ensures.shape c.script_option.ensures.global
-    ∙ ap₂ with_rule
-    (c.in_ok-arg.ensures.shape c.wanted_smps.ensures.global ∙ ap₂ with_rule c.in_ok-subnet_command.ensures c.wanted_smps.ensures.rule)
-    c.script_option.ensures.rule in
-    rw (c.after_help.ensures, c.about.ensures) words_are
+    let smps = c.with_arg-smps.ensures _ _ c.subnet_command.ensures c.wanted_smps.ensures.rule in
+    c.described.ensures.words _ (c.with_arg.ensures _ _ smps c.script_option.ensures.rule)
