@@ -1,18 +1,23 @@
 #!/usr/bin/env python3
 """What `fabric audit-keys` prints, worked out a second time, plainly:
 
-    tests/oracle/keys.py NETDISCOVER PKEYS PARTITIONS [--sm GUID]   prints the audit, and then a line `status N`
-    tests/oracle/keys.py --make SEED                                writes netdiscover, pkeys and partitions by chance into this folder
+    tests/oracle/keys.py NETDISCOVER PKEYS PARTITIONS [--sm GUID | --all]   prints the audit, and then a line `status N`
+    tests/oracle/keys.py --make SEED                                        writes netdiscover, pkeys and partitions by chance into this folder
+    tests/oracle/keys.py --try PROGRAM COUNT                                makes COUNT such fabrics, and compares what `PROGRAM audit-keys` prints
 
 Partition files may have what --make and the files of tests/opensm-keys have: definitions with a P_Key, flags, and lists of GUIDs,
 ALL, ALL_CAS, ALL_SWITCHES and SELF."""
 
 import collections
+import difflib
+import itertools
 import random
 import re
+import subprocess
 import sys
 
-End = collections.namedtuple("End", "name guid lid number switch far")  # far: the GUID of the switch and its port
+End = collections.namedtuple("End", "name guid node lid number switch far")  # far: the GUID of the switch and its port
+FEW_PAIRS = 100
 
 
 def encoded(name, taken):
@@ -52,13 +57,13 @@ class Fabric:
         for node, port in lines:
             if port[1] - 1 not in known:
                 adapters[port[1] - 1] = encoded(node["name"], taken)
-        self.ends = [End(f"{name}/0", node["port"], node["lid"], 0, node["guid"], None) for name, node in self.switches.values()]
+        self.ends = [End(f"{name}/0", node["port"], node["guid"], node["lid"], 0, node["guid"], None) for name, node in self.switches.values()]
         for node, (number, guid, far, far_port, lid) in lines:
             first = guid - 1
             while first not in adapters:
                 first -= 1
             facing = (far, far_port) if far in self.switches else None
-            self.ends.append(End(f"{adapters[first]}/{guid - first}", guid, lid, number, None, facing))
+            self.ends.append(End(f"{adapters[first]}/{guid - first}", guid, node["guid"], lid, number, None, facing))
 
 
 def answers(file):
@@ -81,9 +86,10 @@ def answers(file):
 
 
 def memberships(file, fabric, manager):
-    """The keys that the file gives each end, by its GUID."""
+    """The keys that the file gives each end, and those that OpenSM reads in it, by its GUID; and the GUIDs that it lists."""
     if file == "-":
-        return {end.guid: [0xFFFF] for end in fabric.ends}
+        given = {end.guid: [0xFFFF] for end in fabric.ends}
+        return given, given, []
     text = re.sub(r"#.*", "", open(file).read())
     items = collections.OrderedDict({0x7FFF: []})
     ruled = False
@@ -99,18 +105,25 @@ def memberships(file, fabric, manager):
                 items.setdefault(base, []).append((port, membership == "full" if membership else full))
             else:
                 items.setdefault(base, [])
+    listed_guids = [int(port, 16) for listed in items.values() for port, _ in listed if port.startswith("0x")]
+    words = items[0x7FFF]
+    built_in = [("ALL", False), ("SELF", True)]
+    # A rule that says `ALL=limited` alone is read as none.
+    opensms = {**items, 0x7FFF: built_in + ([] if words == [("ALL", False)] else words)}
     if not ruled:
-        items[0x7FFF].append(("ALL", False))
-    items[0x7FFF].append(("SELF", True))
-    given = {}
+        items[0x7FFF] = [("ALL", False)]
+    items[0x7FFF] = items[0x7FFF] + [("SELF", True)]
+    given, read = {}, {}
     for end in fabric.ends:
         is_listed = {"ALL": True, "ALL_CAS": end.switch is None, "ALL_SWITCHES": end.switch is not None, "SELF": end.guid == manager}
-        given[end.guid] = []
-        for base, listed in items.items():
-            met = [full for port, full in listed if (is_listed[port] if port in is_listed else int(port, 16) == end.guid)]
+        given[end.guid], read[end.guid] = [], []
+        for base in items:
+            met, last = ([full for port, full in listed if (is_listed[port] if port in is_listed else int(port, 16) == end.guid)] for listed in (items[base], opensms[base]))
             if met:
                 given[end.guid].append(base | (0x8000 if any(met) else 0))
-    return given
+            if last:
+                read[end.guid].append(base | (0x8000 if last[-1] else 0))
+    return given, read, list(dict.fromkeys(listed_guids))
 
 
 def base(key):
@@ -121,14 +134,22 @@ def lacking(keys, others):
     return [key for key in keys if base(key) not in {base(other) for other in others}]
 
 
+def talk(wanted, keys, others):
+    """Whether two ports with these keys may talk in the partition of this base."""
+    keys, others = ([key for key in each if base(key) == wanted] for each in (keys, others))
+    return bool(keys and others) and max(keys + others) >= 0x8000
+
+
 class Audit:
-    def __init__(self, netdiscover, pkeys, partitions, manager):
+    def __init__(self, netdiscover, pkeys, partitions, manager=None, all_pairs=False):
         self.fabric = Fabric(netdiscover)
         self.answers = answers(pkeys)
-        self.given = memberships(partitions, self.fabric, manager or self.fabric.manager)
-        self.keys, self.facing, self.moved, self.unread = [], [], [], []
+        self.all_pairs = all_pairs
+        self.manager = manager or self.fabric.manager
+        self.given, self.opensms, self.listed = memberships(partitions, self.fabric, self.manager)
+        self.keys, self.facing, self.cut, self.moved, self.unread = [], [], [], [], []
         self.counts = collections.Counter()
-        self.clean = True
+        self.clean = self.agrees = True
 
     def node(self, lid):
         fields = self.answers.get(("nodeinfo", str(lid)), {})
@@ -142,9 +163,10 @@ class Audit:
                     return table
         return None
 
-    def note(self, lines, kind, port, keys):
-        lines += [f"{kind} {port} 0x{key:04x}" for key in keys]
+    def note(self, lines, kind, port, keys, opensms=lambda key: False):
+        lines += [f"{kind} {port} 0x{key:04x}" + (" (OpenSM reads the file so)" if opensms(key) else "") for key in keys]
         self.counts[kind] += len(keys)
+        self.agrees &= not keys
 
     def own(self, end):
         """The keys that stand at an end, if it is judged."""
@@ -152,19 +174,23 @@ class Audit:
         wanted, field = (end.switch, "Guid") if end.switch else (end.guid, "PortGuid")
         if node and int(node[field], 16) != wanted:
             self.moved.append(f"moved {end.name} {end.lid} 0x{end.guid:016x} 0x{int(node[field], 16):016x}")
+            self.clean = False
             return None
         table = self.table(end.lid, end.number, 0)
         if table is None:
             self.unread.append(f"unread {end.name}")
+            self.clean = False
             return None
         held, given = [key for key in table if base(key)], self.given[end.guid]
         missing = lacking(given, held)
         changed = [key for key in held if key not in given and base(key) in {base(other) for other in given}]
-        self.note(self.keys, "extra", end.name, lacking(held, given))
-        self.note(self.keys, "missing", end.name, missing)
-        self.note(self.keys, "membership", end.name, changed)
+        opensms = self.opensms[end.guid]
+        self.note(self.keys, "extra", end.name, lacking(held, given), lambda key: key in opensms)
+        self.note(self.keys, "missing", end.name, missing, lambda key: lacking([key], opensms))
+        self.note(self.keys, "membership", end.name, changed, lambda key: key in opensms)
         if missing and len(held) == len(table):
             self.keys.append(f"full {end.name}")
+            self.counts["full"] += 1
         if set(held) == set(given):
             self.counts["as the file"] += 1
         else:
@@ -182,6 +208,7 @@ class Audit:
         if not {"PartEnforceInb", "PartEnforceOutb"} <= info.keys():
             self.facing.append(f"unread {port}")
             self.counts["unread switch"] += 1
+            self.clean = False
             return
         bits = info["PartEnforceInb"] + info["PartEnforceOutb"]
         if bits == "00":
@@ -194,24 +221,83 @@ class Audit:
         if table is None:
             self.facing.append(f"unread {port}")
             self.counts["unread switch"] += 1
+            self.clean = False
         elif held is not None:
             keys = [key for key in table if base(key)]
             self.note(self.facing, "lacks", port, [base(key) for key in lacking(held, keys)])
+            self.cut += [(port, end, base(key)) for key in lacking(held, keys)]
             self.note(self.facing, "more", port, [base(key) for key in lacking(keys, held)])
             self.clean &= {base(key) for key in held} == {base(key) for key in keys}
 
+    def partitions(self, read):
+        """Of each base that is there: whether tables or the file have it alone, and the pairs that talk by one of them."""
+        alone, pairs = [], []
+        for wanted in sorted({base(key) for end, held in read for key in held + self.given[end.guid]}):
+            stands = sum(any(base(key) == wanted for key in held) for _, held in read)
+            given = sum(any(base(key) == wanted for key in self.given[end.guid]) for end, _ in read)
+            if not stands:
+                alone.append(f"absent 0x{wanted:04x} {given}")
+            if not given:
+                alone.append(f"stray 0x{wanted:04x} {stands}")
+            found = {"- ": [], "+ ": []}
+            for (one, held), (other, others) in itertools.combinations(read, 2):
+                tables, file = talk(wanted, held, others), talk(wanted, self.given[one.guid], self.given[other.guid])
+                if tables != file:
+                    found["+ " if tables else "- "].append(f"share {one.name} {other.name} 0x{wanted:04x}")
+            for sign, lines in found.items():
+                counted = len(lines) > FEW_PAIRS and not self.all_pairs
+                pairs += [f"{sign}pairs 0x{wanted:04x} {len(lines)}"] if counted else [sign + line for line in lines]
+        return alone, pairs
+
+    def cuts(self, read):
+        held = {end.guid: keys for end, keys in read}
+        for port, end, wanted in self.cut:
+            others = sum(talk(wanted, held[end.guid], keys) for other, keys in read if other is not end)
+            if others:
+                yield f"cut {port} 0x{wanted:04x} {others}"
+
+    def diagnosis(self, read, alone):
+        lines = []
+        if self.counts["extra"] + self.counts["missing"] + self.counts["membership"]:
+            if read and all(set(held) == {0xFFFF} for _, held in read):
+                lines.append("every port that was read has 0xffff alone: OpenSM dropped its file, or had none")
+            else:
+                if all(set(held) == set(self.opensms[end.guid]) for end, held in read):
+                    lines.append("the tables are what OpenSM makes of this file: the last word that names a port counts")
+                if alone and not self.counts["full"]:
+                    lines.append("the tables follow another file, or another program wrote them: see stray and absent")
+        for end, held in read:
+            if end.guid == self.manager and 0xFFFF not in held:
+                lines.append(f"the SM port {end.name} is not a full member of 0x7fff: limited members cannot ask the SA")
+        if self.counts["full"]:
+            lines.append("a table has no place for keys of the file: see full")
+        return ["diagnosis: " + line for line in lines]
+
+    def strangers(self):
+        for guid in self.listed:
+            if guid not in {end.guid for end in self.fabric.ends}:
+                ports = [end.name for end in self.fabric.ends if end.node == guid]
+                yield " ".join(["node-guid" if ports else "no-port", f"0x{guid:016x}", *ports])
+        yield from (f"no-partition {end.name}" for end in self.fabric.ends if not self.given[end.guid])
+
     def lines(self):
+        read = []
         for end in self.fabric.ends:
             held = self.own(end)
+            if held is not None:
+                read.append((end, held))
             if end.far:
                 self.faced(end, held)
         count = self.counts
-        return self.keys + self.facing + self.moved + self.unread + [
+        alone, pairs = self.partitions(read)
+        facing = ["off everywhere"] if count["faced"] and count["off"] == count["faced"] else self.facing
+        verdict = "the tables follow the file" if self.clean else "not all tables were read; those that were follow the file" if self.agrees else "the tables do not follow the file"
+        return self.diagnosis(read, alone) + alone + pairs + self.keys + facing + list(self.cuts(read)) + self.moved + self.unread + list(self.strangers()) + [
             f"ports: {len(self.fabric.ends)}, {count['as the file']} as the file, {len(self.unread)} unread, {len(self.moved)} moved",
             f"keys: {count['extra']} extra, {count['missing']} missing, {count['membership']} of other membership",
             f"switch ports: {count['faced']}, {count['off']} off, {count['half']} half, {count['unread switch']} unread",
             f"bases: {count['lacks']} lacking, {count['more']} more",
-            "verdict: the tables that were read follow the file" if self.clean else "verdict: the tables do not follow the file",
+            "verdict: " + verdict,
             f"status {int(not self.clean)}",
         ]
 
@@ -264,7 +350,7 @@ def make(seed):
     open("partitions", "w").write("\n".join(rules) + "\n")
 
     fabric = Fabric("netdiscover")
-    given = memberships("partitions", fabric, fabric.manager)
+    given, _, _ = memberships("partitions", fabric, fabric.manager)
 
     def edited(keys, capacity):
         keys = list(keys)
@@ -303,7 +389,25 @@ def make(seed):
     open("pkeys", "w").write("\n".join(out) + "\n")
 
 
+def tried(program, seed):
+    """Whether the program says of the fabric of this seed what is worked out here."""
+    make(seed)
+    all_pairs = seed % 2 == 0
+    options = ["--all"] if all_pairs else []
+    run = subprocess.run([program, "audit-keys", "netdiscover", "pkeys", "partitions", *options], capture_output=True, stdin=subprocess.DEVNULL)
+    given = (run.stdout + run.stderr).decode() + f"status {run.returncode}\n"
+    wanted = "\n".join(Audit("netdiscover", "pkeys", "partitions", all_pairs=all_pairs).lines()) + "\n"
+    if given != wanted:
+        print(f"tests/keys: the fabric of seed {seed} differs (-: wanted, +: given)")
+        print("\n".join(list(difflib.unified_diff(wanted.split("\n"), given.split("\n"), lineterm=""))[2:20]))
+    return given == wanted
+
+
 if sys.argv[1] == "--make":
     make(int(sys.argv[2]))
+elif sys.argv[1] == "--try":
+    results = [tried(sys.argv[2], seed) for seed in range(1, int(sys.argv[3]) + 1)]
+    print(f"{sum(results)} passed, {len(results) - sum(results)} failed")
 else:
-    print("\n".join(Audit(*sys.argv[1:4], int(sys.argv[5], 16) if len(sys.argv) > 5 else None).lines()))
+    all_pairs = "--all" in sys.argv
+    print("\n".join(Audit(*sys.argv[1:4], int(sys.argv[5], 16) if "--sm" in sys.argv else None, all_pairs).lines()))

@@ -160,9 +160,12 @@ audit_keys_given : (rows : List Row) → IsGiven rows (audit_keys_by rows)
 audit_keys_given rows call is =
     by (first_of (codes "NETDISCOVER") rows) refl (first_of (codes "PKEYS") rows) refl (first_of (codes "PARTS") rows) refl (guid_by (first_of (codes "SM") rows)) is
   where
+    all : Bool
+    all = is_given rows (codes "ALL")
+
     by : (netdiscover : Option Text) → first_of (codes "NETDISCOVER") rows ≡ netdiscover → (pkeys : Option Text) → first_of (codes "PKEYS") rows ≡ pkeys
         → (partitions : Option Text) → first_of (codes "PARTS") rows ≡ partitions → (guid : Option (Option ℕ))
-        → audit_keys_with netdiscover pkeys partitions guid ≡ Some call → All (IsWordOf rows) (opened_for (Ok call))
+        → audit_keys_with netdiscover pkeys partitions guid all ≡ Some call → All (IsWordOf rows) (opened_for (Ok call))
     by (Some netdiscover) n (Some pkeys) k (Some partitions) p (Some guid) is =
         subst (λ (asked : Call Names Text). All (IsWordOf rows) (opened_for (Ok asked))) (same_call _ call is)
         (All-cons (IsWordOf rows) netdiscover (pkeys ∷ option_to_list (file_in partitions)) (codes "NETDISCOVER", n)

@@ -76,10 +76,14 @@ import_command = with_rule (with_rule (new_app (codes "import")) (wanted (codes 
 abbrev pub audit_command : App
 audit_command = with_rule (with_rule (new_app (codes "audit")) (wanted (codes "TOPO"))) (wanted (codes "DUMP"))
 
+-- `--all`
+abbrev pub all_flag : Rule
+all_flag = record (new_rule (codes "ALL")) { long = Some (codes "all"); action = Some SetTrue }
+
 abbrev pub audit_keys_command : App
 audit_keys_command =
     let answers = with_rule (with_rule (new_app (codes "audit-keys")) (wanted (codes "NETDISCOVER"))) (wanted (codes "PKEYS")) in
-    with_rule (with_rule answers (wanted (codes "PARTS"))) manager_option
+    with_rule (with_rule (with_rule answers (wanted (codes "PARTS"))) manager_option) all_flag
 
 abbrev pub explain_command : App
 explain_command = with_rule (new_app (codes "explain")) (optional (codes "CODE"))

@@ -64,7 +64,7 @@ abbrev pub named_call : Call Asked (Bor Text) → Call Names Text
 named_call (Subnet asked) = Subnet (names asked)
 named_call (Import netdiscover manager) = Import netdiscover.now manager
 named_call (Audit topology dump) = Audit topology.now dump.now
-named_call (AuditKeys netdiscover pkeys partitions manager) = AuditKeys netdiscover.now pkeys.now (option_map (λ name. name.now) partitions) manager
+named_call (AuditKeys netdiscover pkeys partitions manager all) = AuditKeys netdiscover.now pkeys.now (option_map (λ name. name.now) partitions) manager all
 named_call (Explain code) = Explain code
 
 -- what arguments ask for, or the text of their refusal, if it is known
@@ -156,14 +156,14 @@ audit_by (Some topology) (Some dump) = Some (Audit topology dump)
 audit_by _ _ = None
 
 -- a discovery, answers of smpquery and partitions
-abbrev pub audit_keys_with : Option Text → Option Text → Option Text → Option (Option ℕ) → Option (Call Names Text)
-audit_keys_with (Some netdiscover) (Some pkeys) (Some partitions) (Some manager) = Some (AuditKeys netdiscover pkeys (file_in partitions) manager)
-audit_keys_with _ _ _ _ = None
+abbrev pub audit_keys_with : Option Text → Option Text → Option Text → Option (Option ℕ) → (all : Bool) → Option (Call Names Text)
+audit_keys_with (Some netdiscover) (Some pkeys) (Some partitions) (Some manager) all = Some (AuditKeys netdiscover pkeys (file_in partitions) manager all)
+audit_keys_with _ _ _ _ all = None
 
 abbrev pub audit_keys_by : List Row → Option (Call Names Text)
 audit_keys_by rows =
     audit_keys_with (first_of (codes "NETDISCOVER") rows) (first_of (codes "PKEYS") rows) (first_of (codes "PARTS") rows)
-    (guid_by (first_of (codes "SM") rows))
+    (guid_by (first_of (codes "SM") rows)) (is_given rows (codes "ALL"))
 
 -- an argument that is not a code asks for nothing
 abbrev pub explain_by : Option Text → Option (Call Names Text)
@@ -288,5 +288,5 @@ opened_for (Err text) = []
 opened_for (Ok (Subnet asked)) = all_names asked
 opened_for (Ok (Import netdiscover manager)) = netdiscover ∷ []
 opened_for (Ok (Audit topology dump)) = topology ∷ dump ∷ []
-opened_for (Ok (AuditKeys netdiscover pkeys partitions manager)) = netdiscover ∷ pkeys ∷ option_to_list partitions
+opened_for (Ok (AuditKeys netdiscover pkeys partitions manager all)) = netdiscover ∷ pkeys ∷ option_to_list partitions
 opened_for (Ok (Explain code)) = []

@@ -140,6 +140,8 @@ pub enum Call<A, W> {
         partitions: Option<W>,
         /// The GUID of the SM port, if it is given.
         manager: Option<u64>,
+        /// Whether each pair of end ports is to be listed.
+        all: bool,
     },
     /// Explain a code, or list all codes.
     Explain(Option<Code>),

@@ -5,14 +5,14 @@ ghost use Rattle.clap.specs.Words.{App, Rule, app_of, rule_of, subcommand_rows_o
 ghost use Rattle.clap.specs.declared.builder.command.Command.TheViews.{out-Command as fields_of};
 ghost use Rattle.cli_args.specs.CommandLine.{Reads};
 ghost use Rattle.cli_args.specs.CommandLine.{audit_command, audit_keys_command, check_command, compare_command, diff_command, explain_command, fabric_command, graph_command};
-ghost use Rattle.cli_args.specs.CommandLine.{cuts_command, cuts_flag, import_command, keys_command, manager_option, optional, run_command, script_option, shares_command};
+ghost use Rattle.cli_args.specs.CommandLine.{all_flag, cuts_command, cuts_flag, import_command, keys_command, manager_option, optional, run_command, script_option, shares_command};
 ghost use Rattle.cli_args.specs.CommandLine.{smp_command, subnet_command, tables_command, trace_command};
 ghost use Rattle.cli_args.specs.CommandLine.{wanted, with_audits, with_cables, with_listings, with_runs};
 ghost use Rattle.cli_args.specs.Help.{about_audit, about_audit_keys, about_check, about_compare, about_cuts, about_diff, about_explain, about_graph, about_import, about_keys};
 ghost use Rattle.cli_args.specs.Help.{about_program, about_run, about_smp};
 ghost use Rattle.cli_args.specs.Help.{about_shares, about_tables, about_trace, help_of_code, help_of_dlid, help_of_key};
 ghost use Rattle.cli_args.specs.Help.{help_of_compared, help_of_first_script, help_of_partitions, help_of_second_script};
-ghost use Rattle.cli_args.specs.Help.{help_of_cuts, help_of_dump, help_of_first_end, help_of_second_end};
+ghost use Rattle.cli_args.specs.Help.{help_of_all, help_of_cuts, help_of_dump, help_of_first_end, help_of_second_end};
 ghost use Rattle.cli_args.specs.Help.{help_of_manager, help_of_netdiscover, help_of_pkeys, help_of_port, help_of_script, help_of_script_before, help_of_smps};
 ghost use Rattle.cli_args.specs.Help.{help_of_second_partitions, help_of_sender, help_of_topology};
 ghost use Rattle.cli_args.specs.Help.{program_name, program_version, text_in};
@@ -211,6 +211,17 @@ fn cuts_flag<'a>(alloc: Global) -> Arg<'a>
         .long("cuts")
         .action(ArgAction::SetTrue)
         .help("Draws in red the cables that the fabric cannot do without")
+}
+
+fn all_flag<'a>(alloc: Global) -> Arg<'a>
+    ensures global { result.global ≡ false }
+    ensures rule { rule_of result ≡ all_flag }
+    ensures help { text_in result.help ≡ Some help_of_all }
+{
+    Arg::new(alloc, "ALL")
+        .long("all")
+        .action(ArgAction::SetTrue)
+        .help("Lists each pair of ports, however many a partition has")
 }
 
 fn wanted_netdiscover<'a>(alloc: Global) -> Arg<'a>
@@ -461,10 +472,8 @@ fn audit_command<'a>(alloc: Global) -> Result<Command<'a>, AllocError>
     ensures about { IfOk result (λ command. text_in (fields_of command).about ≡ Some about_audit) }
     ensures help { IfOk result (λ command. text_in (fields_of command).after_help ≡ Some AUDIT.now) }
 {
-    let command = Command::new(alloc, "audit")
-        .arg(wanted_topology(alloc))?
-        .arg(wanted_dump(alloc))?;
-    Ok(command.about(ABOUT_AUDIT).after_help(AUDIT))
+    let found = with_arg(Ok(Command::new(alloc, "audit")), wanted_topology(alloc));
+    described(with_arg(found, wanted_dump(alloc)), ABOUT_AUDIT, AUDIT)
 }
 
 /// The command that compares the P_Key tables of a real fabric with a partition file.
@@ -473,12 +482,16 @@ fn audit_keys_command<'a>(alloc: Global) -> Result<Command<'a>, AllocError>
     ensures about { IfOk result (λ command. text_in (fields_of command).about ≡ Some about_audit_keys) }
     ensures help { IfOk result (λ command. text_in (fields_of command).after_help ≡ Some AUDIT_KEYS.now) }
 {
-    let command = Command::new(alloc, "audit-keys")
-        .arg(wanted_netdiscover(alloc))?
-        .arg(wanted_pkeys(alloc))?
-        .arg(wanted_partitions(alloc))?
-        .arg(manager_option(alloc))?;
-    Ok(command.about(ABOUT_AUDIT_KEYS).after_help(AUDIT_KEYS))
+    let found = with_arg(
+        Ok(Command::new(alloc, "audit-keys")),
+        wanted_netdiscover(alloc),
+    );
+    let files = with_arg(
+        with_arg(found, wanted_pkeys(alloc)),
+        wanted_partitions(alloc),
+    );
+    let command = with_arg(with_arg(files, manager_option(alloc)), all_flag(alloc));
+    described(command, ABOUT_AUDIT_KEYS, AUDIT_KEYS)
 }
 
 /// The command that explains codes.

@@ -398,35 +398,54 @@ For example, for your own fabric:
 pub(crate) const AUDIT_KEYS: &str = with_statuses!(
     "The tables are compared as they are, whichever SM wrote them; nothing is brought up. The status is 0 if
 and only if
-  - each end port that was read has exactly the P_Keys that the file gives it,
-  - each switch port that faces a CA port and drops packets (in one direction or both) has exactly the
-    bases of that CA port, if both were read.
-Otherwise the status is 1, and nothing is written on standard error. Ports that were not read are
-listed, and do not change the status.
+  - each end port was read, and has exactly the P_Keys that the file gives it,
+  - each switch port that faces a CA port was read and, if it drops packets (in one direction or both),
+    has exactly the bases of that CA port.
+Otherwise the status is 1, and nothing is written on standard error.
 
-First comes how tables of end ports differ from the file:
+First comes what many differences have in common:
+  diagnosis: WORDS
+
+Then each partition that the tables or the file have alone:
+  stray BASE N                it stands at N ports, and the file gives it to no port that was read
+  absent BASE N               the file gives it to N ports that were read, and it stands at none
+
+Then who may talk by the tables (+) or by the file (-) alone. If a partition has more than 100 such
+pairs, they are counted; --all lists them:
+  + share PORT PORT BASE
+  - pairs BASE N
+
+Then how tables of end ports differ from the file. OpenSM takes the last word that names a port; if
+that makes the difference, the line says so:
   extra PORT KEY              the key stands, and the file gives no key of its base
   missing PORT KEY            the file gives the key, and no key of its base stands
   membership PORT KEY         the key stands, and the file gives the other membership
   full PORT                   keys are missing, and the table has no empty place
 
 Then how switch ports differ from the CA ports that they face:
+  off everywhere              none of them drops anything
   off PORT                    it drops nothing
   half PORT                   it drops packets in one direction alone
   lacks PORT BASE             it drops packets of this base, which the CA port has
   more PORT BASE              it lets packets of this base through, which the CA port has not
   unread PORT                 its table, or what it enforces, was not read
+  cut PORT BASE N             it drops packets between its CA port and N ports that may talk
 
 Then ports that are not judged:
   moved PORT LID GUID GUID2   ibnetdiscover has GUID at the LID, and smpquery GUID2: collect again
   unread PORT                 its table was not read
+
+Then what the file lists in vain:
+  no-port GUID                no port of the fabric has this GUID
+  node-guid GUID PORT ..      it is the GUID of a node, which has these ports
+  no-partition PORT           the file gives this port no P_Key
 
 Last come counts:
   ports: N, N as the file, N unread, N moved
   keys: N extra, N missing, N of other membership
   switch ports: N, N off, N half, N unread
   bases: N lacking, N more
-  verdict: the tables that were read follow the file
+  verdict: the tables follow the file
 
 For example, on a node of your own fabric:
   ibnetdiscover >discovered

@@ -334,6 +334,7 @@ fn audit_keys<'a>(found: &ArgMatches<'a>) -> Option<Call<Asked<'a>, &'a str>>
         pkeys,
         partitions: file_in(partitions),
         manager: guid_by(word_of(found, "SM"))?,
+        all: is_given(found, "ALL"),
     })
 }
 

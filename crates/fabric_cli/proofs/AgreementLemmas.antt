@@ -70,7 +70,7 @@ judged_alike file other (Ok (Audit topology dump)) same =
       bytes_alike file other topology (All-head (λ name. file name ≡ other name) topology (dump ∷ []) same),
       bytes_alike file other dump (All-head (λ name. file name ≡ other name) dump [] more),
     ) refl
-judged_alike file other (Ok (AuditKeys netdiscover pkeys partitions manager)) same =
+judged_alike file other (Ok (AuditKeys netdiscover pkeys partitions manager all)) same =
     let more = All-tail (λ name. file name ≡ other name) netdiscover (pkeys ∷ option_to_list partitions) same in
     let last : All (λ name. file name ≡ other name) (option_to_list partitions) = All-tail (λ name. file name ≡ other name) pkeys (option_to_list partitions) more in
     rw (

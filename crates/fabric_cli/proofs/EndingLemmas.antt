@@ -195,8 +195,8 @@ for_some_bytes (Err shown) P Q f some = f (ended (refused shown)) some
 for_some_bytes (Ok (Subnet names)) P Q f some = (some.0, some.1, f (to_judge some.0) some.2)
 for_some_bytes (Ok (Import netdiscover manager)) P Q f some = (some.0, f (ended (imported manager some.0)) some.1)
 for_some_bytes (Ok (Audit topology dump)) P Q f some = (some.0, some.1, f (ended (audited some.0 some.1)) some.2)
-for_some_bytes (Ok (AuditKeys netdiscover pkeys partitions manager)) P Q f some =
-    (some.0, some.1, some.2, some.3, f (ended (keys_audited manager some.0 some.1 some.2)) some.4)
+for_some_bytes (Ok (AuditKeys netdiscover pkeys partitions manager all)) P Q f some =
+    (some.0, some.1, some.2, some.3, f (ended (keys_audited manager all some.0 some.1 some.2)) some.4)
 for_some_bytes (Ok (Explain code)) P Q f some = f (ended (complete (explained code))) some
 
 -- what is answered of a file that was read is what is answered of the files
@@ -214,13 +214,13 @@ of_two None first second one other result a out out' is answers = tt
 of_two (Some file) first second one other result a out out' is answers = rw (is.0, is.1) answers
 
 -- and of three, the last of which need not be there
-pub of_three : (reported : Option Contents) (first second one other : List ℕ) (third last : Option (List ℕ)) (manager : Option ℕ) (result : Result Answer Stop) (a : Bool)
+pub of_three : (reported : Option Contents) (first second one other : List ℕ) (third last : Option (List ℕ)) (manager : Option ℕ) (all : Bool) (result : Result Answer Stop) (a : Bool)
     (out out' : Option (List ℕ))
     → IfSome reported (λ file. (file first ≡ Some one) × (file second ≡ Some other) × (bytes_if_named file third ≡ Ok last))
-    → Answers (ended (keys_audited manager one other last)) result a out out'
-    → IfSome reported (λ file. Answers (judged_for file (Ok (AuditKeys first second third manager))) result a out out')
-of_three None first second one other third last manager result a out out' is answers = tt
-of_three (Some file) first second one other third last manager result a out out' is answers = rw (is.0, is.1, is.2) answers
+    → Answers (ended (keys_audited manager all one other last)) result a out out'
+    → IfSome reported (λ file. Answers (judged_for file (Ok (AuditKeys first second third manager all))) result a out out')
+of_three None first second one other third last manager all result a out out' is answers = tt
+of_three (Some file) first second one other third last manager all result a out out' is answers = rw (is.0, is.1, is.2) answers
 
 -- ---- of a call
 -- where the files say what they hold

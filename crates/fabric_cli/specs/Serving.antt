@@ -322,30 +322,30 @@ abbrev pub partitions_given : Option (List ℕ) → Result (List Partition) (AtL
 partitions_given (Some text) = partitions_of text
 partitions_given None = Ok no_file
 
-abbrev pub keys_by : TopologyState → DiscoveryState → List KeysAnswer → Result (List Partition) (AtLine PartitionCause) → Ending
-keys_by plan discovery answers (Ok partitions) = keys_ending (keys_audit plan discovery answers partitions)
-keys_by plan discovery answers (Err at) = faulted 1 (partitions_line (partitions_code at.cause) at.line)
+abbrev pub keys_by : (all : Bool) → TopologyState → DiscoveryState → List KeysAnswer → Result (List Partition) (AtLine PartitionCause) → Ending
+keys_by all plan discovery answers (Ok partitions) = keys_ending (keys_audit plan discovery answers partitions all)
+keys_by all plan discovery answers (Err at) = faulted 1 (partitions_line (partitions_code at.cause) at.line)
 
-abbrev pub keys_over : TopologyState → DiscoveryState → Option (List ℕ) → Result (List KeysAnswer) (AtLine KeysCause) → Ending
-keys_over plan discovery partitions (Ok answers) = keys_by plan discovery answers (partitions_given partitions)
-keys_over plan discovery partitions (Err at) = faulted 1 (foreign_line (KeysFault at.cause) at.line)
+abbrev pub keys_over : (all : Bool) → TopologyState → DiscoveryState → Option (List ℕ) → Result (List KeysAnswer) (AtLine KeysCause) → Ending
+keys_over all plan discovery partitions (Ok answers) = keys_by all plan discovery answers (partitions_given partitions)
+keys_over all plan discovery partitions (Err at) = faulted 1 (foreign_line (KeysFault at.cause) at.line)
 
 -- the text of an import is read as a topology, so it has no error here
-abbrev pub keys_in_topology : DiscoveryState → (pkeys : List ℕ) → Option (List ℕ) → Result TopologyState (AtLine TopologyCause) → Ending
-keys_in_topology discovery pkeys partitions (Ok plan) = keys_over plan discovery partitions (answers_of pkeys)
-keys_in_topology discovery pkeys partitions (Err at) = faulted 1 (topology_line (topology_code at.cause) at.line)
+abbrev pub keys_in_topology : (all : Bool) → DiscoveryState → (pkeys : List ℕ) → Option (List ℕ) → Result TopologyState (AtLine TopologyCause) → Ending
+keys_in_topology all discovery pkeys partitions (Ok plan) = keys_over all plan discovery partitions (answers_of pkeys)
+keys_in_topology all discovery pkeys partitions (Err at) = faulted 1 (topology_line (topology_code at.cause) at.line)
 
-abbrev pub keys_of_import : DiscoveryState → (pkeys : List ℕ) → Option (List ℕ) → Result (List ℕ) (AtLine ImportCause) → Ending
-keys_of_import discovery pkeys partitions (Ok text) = keys_in_topology discovery pkeys partitions (topology_within Large text)
-keys_of_import discovery pkeys partitions (Err at) = faulted 1 (foreign_line (Import at.cause) at.line)
+abbrev pub keys_of_import : (all : Bool) → DiscoveryState → (pkeys : List ℕ) → Option (List ℕ) → Result (List ℕ) (AtLine ImportCause) → Ending
+keys_of_import all discovery pkeys partitions (Ok text) = keys_in_topology all discovery pkeys partitions (topology_within Large text)
+keys_of_import all discovery pkeys partitions (Err at) = faulted 1 (foreign_line (Import at.cause) at.line)
 
-abbrev pub keys_of_discovery : Option ℕ → (pkeys : List ℕ) → Option (List ℕ) → Result DiscoveryState (AtLine DiscoveryCause) → Ending
-keys_of_discovery manager pkeys partitions (Ok discovery) = keys_of_import discovery pkeys partitions (import_of discovery manager)
-keys_of_discovery manager pkeys partitions (Err at) = faulted 1 (foreign_line (Discovery at.cause) at.line)
+abbrev pub keys_of_discovery : Option ℕ → (all : Bool) → (pkeys : List ℕ) → Option (List ℕ) → Result DiscoveryState (AtLine DiscoveryCause) → Ending
+keys_of_discovery manager all pkeys partitions (Ok discovery) = keys_of_import all discovery pkeys partitions (import_of discovery manager)
+keys_of_discovery manager all pkeys partitions (Err at) = faulted 1 (foreign_line (Discovery at.cause) at.line)
 
 -- the discovery is checked before the answers, and these before the partitions
-abbrev pub keys_audited : Option ℕ → (netdiscover pkeys : List ℕ) → Option (List ℕ) → Ending
-keys_audited manager netdiscover pkeys partitions = keys_of_discovery manager pkeys partitions (discovery_of netdiscover)
+abbrev pub keys_audited : Option ℕ → (all : Bool) → (netdiscover pkeys : List ℕ) → Option (List ℕ) → Ending
+keys_audited manager all netdiscover pkeys partitions = keys_of_discovery manager all pkeys partitions (discovery_of netdiscover)
 
 -- ---- what the loss of cables would do: the fabric is brought up before the arguments for one are checked
 -- of all cables, of the one between two given ports, or as a picture
@@ -443,11 +443,11 @@ audit_of_files (Ok plan) (Ok tables) = audited plan tables
 audit_of_files (Ok plan) (Err ending) = ending
 audit_of_files (Err ending) tables = ending
 
-abbrev pub keys_of_files : Option ℕ → Result (List ℕ) Ending → Result (List ℕ) Ending → Result (Option (List ℕ)) Ending → Ending
-keys_of_files manager (Ok netdiscover) (Ok pkeys) (Ok partitions) = keys_audited manager netdiscover pkeys partitions
-keys_of_files manager (Ok netdiscover) (Ok pkeys) (Err ending) = ending
-keys_of_files manager (Ok netdiscover) (Err ending) partitions = ending
-keys_of_files manager (Err ending) pkeys partitions = ending
+abbrev pub keys_of_files : Option ℕ → (all : Bool) → Result (List ℕ) Ending → Result (List ℕ) Ending → Result (Option (List ℕ)) Ending → Ending
+keys_of_files manager all (Ok netdiscover) (Ok pkeys) (Ok partitions) = keys_audited manager all netdiscover pkeys partitions
+keys_of_files manager all (Ok netdiscover) (Ok pkeys) (Err ending) = ending
+keys_of_files manager all (Ok netdiscover) (Err ending) partitions = ending
+keys_of_files manager all (Err ending) pkeys partitions = ending
 
 -- what is checked in an invocation that asks for this, if each name opens to the bytes of `file`
 abbrev pub judged_for : Contents → Asking → Judged
@@ -455,8 +455,8 @@ judged_for file (Err shown) = ended (refused shown)
 judged_for file (Ok (Subnet names)) = judged_if_read (texts_of file names)
 judged_for file (Ok (call.Import netdiscover manager)) = ended (import_of_file manager (bytes_of file netdiscover))
 judged_for file (Ok (call.Audit topology dump)) = ended (audit_of_files (bytes_of file topology) (bytes_of file dump))
-judged_for file (Ok (call.AuditKeys netdiscover pkeys partitions manager)) =
-    ended (keys_of_files manager (bytes_of file netdiscover) (bytes_of file pkeys) (bytes_if_named file partitions))
+judged_for file (Ok (call.AuditKeys netdiscover pkeys partitions manager all)) =
+    ended (keys_of_files manager all (bytes_of file netdiscover) (bytes_of file pkeys) (bytes_if_named file partitions))
 judged_for file (Ok (Explain code)) = ended (complete (explained code))
 
 -- what is to be done, whatever its files contain
@@ -480,8 +480,8 @@ ForSomeBytes (Err shown) Is = Is (ended (refused shown))
 ForSomeBytes (Ok (Subnet names)) Is = (texts : Bytes) × AreFor names texts × Is (to_judge texts)
 ForSomeBytes (Ok (call.Import netdiscover manager)) Is = (text : List ℕ) × Is (ended (imported manager text))
 ForSomeBytes (Ok (call.Audit topology dump)) Is = (plan tables : List ℕ) × Is (ended (audited plan tables))
-ForSomeBytes (Ok (call.AuditKeys netdiscover pkeys partitions manager)) Is =
-    (found answers : List ℕ) × (parts : Option (List ℕ)) × (is_some parts ≡ is_some partitions) × Is (ended (keys_audited manager found answers parts))
+ForSomeBytes (Ok (call.AuditKeys netdiscover pkeys partitions manager all)) Is =
+    (found answers : List ℕ) × (parts : Option (List ℕ)) × (is_some parts ≡ is_some partitions) × Is (ended (keys_audited manager all found answers parts))
 ForSomeBytes (Ok (Explain code)) Is = Is (ended (complete (explained code)))
 
 -- the text is the known one

@@ -116,13 +116,14 @@ fn keys_by<'a>(
     discovery: &Discovery,
     answers: &SmpqueryAnswers,
     partitions: &Option<Vec<u8>>,
+    all: bool,
 ) -> Result<KeysAudit, Stop<'a>>
-    ensures exact { EndsIn keys_ending (ended (keys_by plan.now discovery.now answers.now
+    ensures exact { EndsIn keys_ending (ended (keys_by all plan.now discovery.now answers.now
         (partitions_given (option_map (λ items. items.items) partitions.now)))) result }
     ensures fault { IfErr result IsOfRun }
 {
     match partitions_given(alloc, partitions) {
-        Ok(partitions) => Ok(audit_keys(alloc, plan, discovery, answers, &partitions)?),
+        Ok(partitions) => Ok(audit_keys(alloc, plan, discovery, answers, &partitions, all)?),
         Err(fault) => Err(partitions_stop(fault)),
     }
 }
@@ -132,13 +133,14 @@ fn keys_over<'a>(
     plan: &LargeTopology,
     discovery: &Discovery,
     texts: &KeysTexts,
+    all: bool,
 ) -> Result<KeysAudit, Stop<'a>>
-    ensures exact { EndsIn keys_ending (ended (keys_over plan.now discovery.now
+    ensures exact { EndsIn keys_ending (ended (keys_over all plan.now discovery.now
         (option_map (λ items. items.items) texts.now.partitions) (answers_of texts.now.pkeys.items))) result }
     ensures fault { IfErr result IsOfRun }
 {
     match pkeys_file::read(alloc, texts.pkeys.as_slice()) {
-        Ok(answers) => keys_by(alloc, plan, discovery, &answers, &texts.partitions),
+        Ok(answers) => keys_by(alloc, plan, discovery, &answers, &texts.partitions, all),
         Err(fault) => Err(keys_stop(fault)),
     }
 }
@@ -148,13 +150,14 @@ fn keys_in_topology<'a>(
     discovery: &Discovery,
     topology: &[u8],
     texts: &KeysTexts,
+    all: bool,
 ) -> Result<KeysAudit, Stop<'a>>
-    ensures exact { EndsIn keys_ending (ended (keys_in_topology discovery.now texts.now.pkeys.items
+    ensures exact { EndsIn keys_ending (ended (keys_in_topology all discovery.now texts.now.pkeys.items
         (option_map (λ items. items.items) texts.now.partitions) (topology_within Large topology.now))) result }
     ensures fault { IfErr result IsOfRun }
 {
     match topo_file::read_within(alloc, topology, Limits::Large) {
-        Ok(plan) => keys_over(alloc, &plan, discovery, texts),
+        Ok(plan) => keys_over(alloc, &plan, discovery, texts, all),
         Err(fault) => Err(topology_stop(fault)),
     }
 }
@@ -164,13 +167,14 @@ fn keys_of_import<'a>(
     discovery: &Discovery,
     texts: &KeysTexts,
     manager: Option<u64>,
+    all: bool,
 ) -> Result<KeysAudit, Stop<'a>>
-    ensures exact { EndsIn keys_ending (ended (keys_of_import discovery.now texts.now.pkeys.items
+    ensures exact { EndsIn keys_ending (ended (keys_of_import all discovery.now texts.now.pkeys.items
         (option_map (λ items. items.items) texts.now.partitions) (import_of discovery.now manager))) result }
     ensures fault { IfErr result IsOfRun }
 {
     match topology_text(alloc, discovery, manager) {
-        Ok(text) => keys_in_topology(alloc, discovery, text.as_slice(), texts),
+        Ok(text) => keys_in_topology(alloc, discovery, text.as_slice(), texts, all),
         Err(error) => Err(import_stop(error)),
     }
 }
@@ -180,13 +184,14 @@ pub fn keys_audited<'a>(
     alloc: Global,
     texts: &KeysTexts,
     manager: Option<u64>,
+    all: bool,
 ) -> Result<KeysAudit, Stop<'a>>
-    ensures exact { EndsIn keys_ending (ended (keys_audited manager texts.now.netdiscover.items texts.now.pkeys.items
+    ensures exact { EndsIn keys_ending (ended (keys_audited manager all texts.now.netdiscover.items texts.now.pkeys.items
         (option_map (λ items. items.items) texts.now.partitions))) result }
     ensures fault { IfErr result IsOfRun }
 {
     match netdiscover_file::read(alloc, texts.netdiscover.as_slice()) {
-        Ok(discovery) => keys_of_import(alloc, &discovery, texts, manager),
+        Ok(discovery) => keys_of_import(alloc, &discovery, texts, manager, all),
         Err(fault) => Err(discovery_stop(fault)),
     }
 }

@@ -164,6 +164,7 @@ fn answered<'a, P: Parser, F: Files, O: Output>(
                 pkeys,
                 partitions,
                 manager,
+                all,
             },
         ) => {
             let asked = KeysFiles {
@@ -171,7 +172,7 @@ fn answered<'a, P: Parser, F: Files, O: Output>(
                 pkeys,
                 partitions,
             };
-            answered_of_keys(alloc, &asked, manager, files, out)
+            answered_of_keys(alloc, &asked, manager, all, files, out)
         }
         Ok(Call::Explain(code)) => written(out, text_or_stop(explained(alloc, code))),
         Err(refused) => Err(Stop::of_words(refused)),
@@ -231,20 +232,21 @@ fn answered_of_keys<'a, F: Files, O: Output>(
     alloc: Global,
     asked: &KeysFiles<'a>,
     manager: Option<u64>,
+    all: bool,
     files: &mut F,
     out: &mut O,
 ) -> Result<Answer, Stop<'a>>
     ensures order { OpensInOrder (F.opened files.old) (F.opened files.new) (keys_names asked.now) }
     ensures all { IsReported result → OpensAll (F.opened files.old) (F.opened files.new) (keys_names asked.now) }
-    ensures exact { IfSome (F.reported files.old) (λ file. Answers (judged_for file (Ok (keys_call asked.now manager))) result
+    ensures exact { IfSome (F.reported files.old) (λ file. Answers (judged_for file (Ok (keys_call asked.now manager all))) result
         (O.is_sure out.old) (O.contents out.old) (O.contents out.new)) }
-    ensures any_files { IsReported result → ForSomeBytes (Ok (keys_call asked.now manager))
+    ensures any_files { IsReported result → ForSomeBytes (Ok (keys_call asked.now manager all))
         (λ judged. Answers judged result (O.is_sure out.old) (O.contents out.old) (O.contents out.new)) }
     ensures unread { IfErr result (NamesUnread (F.reported files.old) (F.reads files.old)
         (F.opened files.old) (F.opened files.new) (keys_names asked.now)) }
 {
     match read_keys_files(alloc, files, asked) {
-        Ok(texts) => written_keys(out, keys_audited(alloc, &texts, manager)),
+        Ok(texts) => written_keys(out, keys_audited(alloc, &texts, manager, all)),
         Err(stop) => Err(stop),
     }
 }

@@ -11,7 +11,7 @@ use Rattle.keys_audit.specs.declared.port.FacingPort.{FacingPort}
 use Rattle.keys_audit.specs.declared.port.HeldKeys.{HeldKeys}
 use Rattle.keys_audit.specs.Differences.{are_clean, enforces, facing_fits_by, fits_if_enforced, is_clean, keys_follow, tables_fit}
 use Rattle.keys_audit.specs.Held.{is_key}
-use Rattle.keys_audit.specs.Laws.{FitsIfEnforced, HaveSameBases, HaveSameKeys, IsRight, PassesTheRight, TablesThatFollowAreClean, TheStatusIsThatOfEachPort}
+use Rattle.keys_audit.specs.Laws.{FitsIfEnforced, HasKeys, HaveBases, HaveSameBases, HaveSameKeys, IsRight, PassesTheRight, TablesThatFollowAreClean, TheStatusIsThatOfEachPort}
 
 equal : (n : ℕ) → (n == n) ≡ true
 equal n = grind (arith, nat_tests)
@@ -62,29 +62,21 @@ module _ (f : ℕ → ℕ) where
       rw (means_all xs ys (λ n there. sym (each n) ∙ there), means_all ys xs (λ n there. each n ∙ there)) refl
 
 -- ---- one port
-keys_mean : (table : Option HeldKeys) (file : List ℕ) → keys_follow table file ≡ true → IfSome table (λ (t : HeldKeys). HaveSameKeys t.keys file)
-keys_mean None file is = tt
-keys_mean (Some table) file is = same_means (λ key. key) table.keys file is
+keys_mean : (table : Option HeldKeys) (file : List ℕ) → keys_follow table file ≡ true → HasKeys table file
+keys_mean None file is = absurd (false≢true is)
+keys_mean (Some table) file is = record { held = table; read = refl; same = same_means (λ key. key) table.keys file is }
 
-means_keys : (table : Option HeldKeys) (file : List ℕ) → IfSome table (λ (t : HeldKeys). HaveSameKeys t.keys file) → keys_follow table file ≡ true
-means_keys None file is = refl
-means_keys (Some table) file is = means_same (λ key. key) table.keys file is
+means_keys : (table : Option HeldKeys) (file : List ℕ) → HasKeys table file → keys_follow table file ≡ true
+means_keys table file is = rw is.read (means_same (λ key. key) is.held.keys file is.same)
 
-abbrev FitBoth : Option HeldKeys → Option HeldKeys → Type 0
-FitBoth table adapter = IfSome table (λ (t : HeldKeys). IfSome adapter (λ (a : HeldKeys). HaveSameBases t.keys a.keys))
+fit_means : (table adapter : Option HeldKeys) → tables_fit table adapter ≡ true → HaveBases table adapter
+fit_means None adapter is = absurd (false≢true is)
+fit_means (Some table) None is = absurd (false≢true is)
+fit_means (Some table) (Some adapter) is =
+    record { held = table; other = adapter; read = refl; other_read = refl; same = same_means base_of table.keys adapter.keys is }
 
-fit_means : (table adapter : Option HeldKeys) → tables_fit table adapter ≡ true → FitBoth table adapter
-fit_means None adapter is = tt
-fit_means (Some table) None is = tt
-fit_means (Some table) (Some adapter) is = same_means base_of table.keys adapter.keys is
-
-means_fit : (table adapter : Option HeldKeys) → FitBoth table adapter → tables_fit table adapter ≡ true
-means_fit None adapter is = refl
-means_fit (Some table) None is = refl
-means_fit (Some table) (Some adapter) is = means_same base_of table.keys adapter.keys is
-
-abbrev FitsIf : Option Enforcement → Option HeldKeys → Option HeldKeys → Type 0
-FitsIf enforcement table adapter = IfSome enforcement (λ (e : Enforcement). enforces e ≡ true → FitBoth table adapter)
+means_fit : (table adapter : Option HeldKeys) → HaveBases table adapter → tables_fit table adapter ≡ true
+means_fit table adapter is = rw (is.read, is.other_read) (means_same base_of is.held.keys is.other.keys is.same)
 
 fits_by : (b fit : Bool) → (not b || fit) ≡ true → b ≡ true → fit ≡ true
 fits_by true fit is on = is
@@ -94,25 +86,29 @@ by_fits : (b fit : Bool) → (b ≡ true → fit ≡ true) → (not b || fit) �
 by_fits true fit is = is refl
 by_fits false fit is = refl
 
-enforced_means : (enforcement : Option Enforcement) (table adapter : Option HeldKeys) → fits_if_enforced enforcement table adapter ≡ true
-    → FitsIf enforcement table adapter
-enforced_means None table adapter is = tt
-enforced_means (Some enforcement) table adapter is = λ on. fit_means table adapter (fits_by (enforces enforcement) (tables_fit table adapter) is on)
+fits_means : (facing : FacingPort) (enforcement : Option Enforcement) (adapter : Option HeldKeys) → facing.enforcement ≡ enforcement
+    → fits_if_enforced enforcement facing.table adapter ≡ true → FitsIfEnforced facing adapter
+fits_means facing None adapter read is = absurd (false≢true is)
+fits_means facing (Some enforcement) adapter read is = record {
+  enforcement = enforcement;
+  read = read;
+  bases = λ on. fit_means facing.table adapter (fits_by (enforces enforcement) (tables_fit facing.table adapter) is on);
+}
 
-means_enforced : (enforcement : Option Enforcement) (table adapter : Option HeldKeys) → FitsIf enforcement table adapter
-    → fits_if_enforced enforcement table adapter ≡ true
-means_enforced None table adapter is = refl
-means_enforced (Some enforcement) table adapter is = by_fits (enforces enforcement) (tables_fit table adapter) (λ on. means_fit table adapter (is on))
+means_fits : (facing : FacingPort) (adapter : Option HeldKeys) → FitsIfEnforced facing adapter
+    → fits_if_enforced facing.enforcement facing.table adapter ≡ true
+means_fits facing adapter is =
+    rw is.read (by_fits (enforces is.enforcement) (tables_fit facing.table adapter) (λ on. means_fit facing.table adapter (is.bases on)))
 
 facing_means : (facing : Option FacingPort) (adapter : Option HeldKeys) → facing_fits_by facing adapter ≡ true
     → IfSome facing (λ (f : FacingPort). FitsIfEnforced f adapter)
 facing_means None adapter is = tt
-facing_means (Some facing) adapter is = enforced_means facing.enforcement facing.table adapter is
+facing_means (Some facing) adapter is = fits_means facing facing.enforcement adapter refl is
 
 means_facing : (facing : Option FacingPort) (adapter : Option HeldKeys) → IfSome facing (λ (f : FacingPort). FitsIfEnforced f adapter)
     → facing_fits_by facing adapter ≡ true
 means_facing None adapter is = refl
-means_facing (Some facing) adapter is = means_enforced facing.enforcement facing.table adapter is
+means_facing (Some facing) adapter is = means_fits facing adapter is
 
 port_means : (port : AuditedPort) → is_clean port ≡ true → IsRight port
 port_means port is =

@@ -1,3 +1,5 @@
 mod LoopLemmas
 mod LawLemmas
 mod WrongLemmas
+mod BaseLemmas
+mod PairLemmas

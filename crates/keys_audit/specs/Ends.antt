@@ -1,5 +1,5 @@
 -- The end ports of a discovery, and the ports of the topology with the same GUIDs.
-use Rattle.std.specs.Prelude.{ℕ, ◌+◌, ◌==◌, List, [], ◌∷◌, ◌++◌, flat_map, fold, length, position, slice_get, if◌then◌else◌, Option, Some, None, is_some, option_map, unwrap_or}
+use Rattle.std.specs.Prelude.{ℕ, true, false, ◌+◌, ◌==◌, List, [], ◌∷◌, ◌++◌, flat_map, fold, length, position, slice_get, if◌then◌else◌, Option, Some, None, is_some, option_map, unwrap_or}
 use Rattle.std.specs.List.{range_with_len}
 use Rattle.std.specs.Option.{option_and_then, option_map_or}
 use Rattle.fabric_parts.specs.declared.cable.PortRef.{PortRef}
@@ -50,18 +50,23 @@ abbrev pub switch_guid : FoundNode → ℕ
 switch_guid node = unwrap_or node.port_guid node.id.guid
 
 abbrev pub switch_with : FoundNode → Option ℕ → List End
-switch_with node (Some lid) = record { guid = switch_guid node; lid = lid; switch = Some node.id.guid; number = 0; far = None } ∷ []
+switch_with node (Some lid) =
+    record { guid = switch_guid node; node_guid = node.id.guid; lid = lid; is_switch = true; number = 0; far = None } ∷ []
 switch_with node None = []
 
 abbrev pub switch_end : FoundNode → List End
 switch_end node = if is_switch_kind node.id.kind then switch_with node node.lid else []
 
-abbrev pub line_with : PortLine → Option ℕ → Option ℕ → List End
-line_with line (Some guid) (Some lid) = record { guid = guid; lid = lid; switch = None; number = line.port.port; far = Some line.far } ∷ []
-line_with line _ _ = []
+abbrev pub line_with : (node_guid : ℕ) → PortLine → Option ℕ → Option ℕ → List End
+line_with node_guid line (Some guid) (Some lid) =
+    record { guid = guid; node_guid = node_guid; lid = lid; is_switch = false; number = line.port.port; far = Some line.far } ∷ []
+line_with node_guid line _ _ = []
 
-abbrev pub line_end : PortLine → List End
-line_end line = line_with line line.guid line.lid
+abbrev pub node_guid_at : List FoundNode → ℕ → ℕ
+node_guid_at nodes place = option_map_or (λ node. node.id.guid) (slice_get nodes place) 0
+
+abbrev pub line_end : List FoundNode → PortLine → List End
+line_end nodes line = line_with (node_guid_at nodes line.port.node) line line.guid line.lid
 
 abbrev pub ends_of : DiscoveryState → List End
-ends_of discovery = flat_map switch_end discovery.nodes ++ flat_map line_end discovery.ports
+ends_of discovery = flat_map switch_end discovery.nodes ++ flat_map (line_end discovery.nodes) discovery.ports

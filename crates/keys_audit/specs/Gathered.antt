@@ -27,6 +27,7 @@ use Rattle.keys_audit.specs.declared.port.FacingPort.{FacingPort}
 use Rattle.keys_audit.specs.declared.port.HeldKeys.{HeldKeys}
 use Rattle.keys_audit.specs.Ends.{ends_of, index_of, named, switch_guid}
 use Rattle.keys_audit.specs.Held.{held}
+use Rattle.keys_audit.specs.OpenSm.{keys_by_opensm}
 
 -- the files: ports of the topology by GUID, the subnet manager's port among them, the discovery, and the answers
 pub record FilesState : Type 0 where
@@ -60,12 +61,8 @@ moved_switch guid reply = if reply.guid == guid then None else Some reply.guid
 abbrev pub moved_port : ℕ → NodeReply → Option ℕ
 moved_port guid reply = if reply.port_guid == guid then None else Some reply.port_guid
 
-abbrev pub moved_with : End → Option ℕ → NodeReply → Option ℕ
-moved_with end (Some switch) reply = moved_switch switch reply
-moved_with end None reply = moved_port end.guid reply
-
 abbrev pub moved_by : End → Option NodeReply → Option ℕ
-moved_by end (Some reply) = moved_with end end.switch reply
+moved_by end (Some reply) = if end.is_switch then moved_switch end.node_guid reply else moved_port end.guid reply
 moved_by end None = None
 
 abbrev pub moved_to : List Answer → End → Option ℕ
@@ -128,22 +125,21 @@ abbrev pub facing_of : FilesState → End → Option FacingPort
 facing_of files end = option_and_then (facing_far files) end.far
 
 -- ---- the keys that the file gives it
-abbrev pub is_switch_end : Option ℕ → Bool
-is_switch_end (Some guid) = true
-is_switch_end None = false
-
 abbrev pub end_port : FilesState → PortRef → End → EndPort
-end_port files port end = record { guid = end.guid; is_switch = is_switch_end end.switch; is_sm = is_same_port port files.manager }
+end_port files port end = record { guid = end.guid; is_switch = end.is_switch; is_sm = is_same_port port files.manager }
 
 -- ---- all of it
 unfoldable pub gathered : FilesState → End → PortRef → AuditedPort
 gathered files end port = record {
   port = port;
   guid = end.guid;
+  node_guid = end.node_guid;
   lid = end.lid;
+  is_manager = is_same_port port files.manager;
   moved = moved_to files.answers end;
   table = unless_moved (moved_to files.answers end) (end_table files.answers end);
   file = keys_in files.partitions (end_port files port end);
+  opensms = keys_by_opensm files.partitions (end_port files port end);
   facing = facing_of files end;
 }
 

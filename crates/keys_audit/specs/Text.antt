@@ -1,30 +1,31 @@
 -- What is printed.
-use Rattle.std.specs.Prelude.{ℕ, Bool, true, false, ◌==◌, ◌&&◌, List, [], ◌∷◌, ◌++◌, codes, decimal, count_by, flat_map, length, if◌then◌else◌, Option, Some, None, is_none, is_some}
-use Rattle.std.specs.Int.{w16, to_be_bytes}
+use Rattle.std.specs.Prelude.{ℕ, Bool, true, false, not, ◌==◌, ◌&&◌, List, [], ◌∷◌, ◌++◌, codes, decimal, count_by, flat_map, length, if◌then◌else◌, Option, Some, None, is_none, is_some}
+use Rattle.std.specs.List.{list_any}
 use Rattle.fabric_parts.specs.declared.cable.PortRef.{PortRef}
 use Rattle.netdiscover_file.specs.Discovery.{DiscoveryState}
 use Rattle.partition_file.specs.declared.partition.Partition.{Partition}
 use Rattle.pkeys_file.specs.declared.answer.Answer.{Answer}
-use Rattle.text_parts.specs.Parts.{guid_text, hex_text, port_name}
+use Rattle.text_parts.specs.Parts.{guid_text}
 use Rattle.topo_file.specs.declared.node.Node.{Node}
-use Rattle.topo_file.specs.Node.{name_at}
 use Rattle.topo_file.specs.Topology.{TopologyState}
 use Rattle.keys_audit.specs.declared.differences.Difference.{Difference}
 use Rattle.keys_audit.specs.declared.differences.DifferenceKind.{DifferenceKind}
 use Rattle.keys_audit.specs.declared.differences.DifferenceKind.TheVariants.{Extra, Missing, Membership, Full, Off, Half, Lacks, More, UnreadSwitchPort}
 use Rattle.keys_audit.specs.declared.port.AuditedPort.{AuditedPort}
-use Rattle.keys_audit.specs.Differences.{are_clean, facing_differences, follows_file, port_differences}
+use Rattle.keys_audit.specs.Cuts.{cut_lines}
+use Rattle.keys_audit.specs.Diagnosis.{diagnosis, is_another}
+use Rattle.keys_audit.specs.Differences.{are_clean, facing_differences, follows_file, is_of_key, none_differs, port_differences}
 use Rattle.keys_audit.specs.Gathered.{ports_of_files}
+use Rattle.keys_audit.specs.Names.{key_word, port_text}
+use Rattle.keys_audit.specs.Standing.{pair_changes, strays}
+use Rattle.keys_audit.specs.Strangers.{strangers}
 
 -- what is found: the lines, and whether the tables follow the file
 pub record KeysAuditState : Type 0 where
   pub text : List ℕ
   pub is_clean : Bool
 
-abbrev pub port_text : List Node → PortRef → List ℕ
-port_text nodes port = port_name (name_at nodes port.node) port.port
-
--- ---- differences: `extra c1/1 0x8103`, `off left/2`
+-- ---- differences: `extra c1/1 0x8103`, `membership c1/1 0x0010 (OpenSM reads the file so)`, `off left/2`
 abbrev pub kind_word : DifferenceKind → List ℕ
 kind_word Extra = codes "extra "
 kind_word Missing = codes "missing "
@@ -36,13 +37,15 @@ kind_word Lacks = codes "lacks "
 kind_word More = codes "more "
 kind_word UnreadSwitchPort = codes "unread "
 
-abbrev pub key_word : ℕ → List ℕ
-key_word key = codes " " ++ hex_text (to_be_bytes w16 key)
+abbrev pub opensm_words : Bool → List ℕ
+opensm_words true = codes " (OpenSM reads the file so)"
+opensm_words false = []
 
 -- of a switch port that does not enforce, or was not read, and of a full table no key is printed: its difference has 0
 unfoldable pub difference_line : List Node → Difference → List ℕ
 difference_line nodes difference =
-    kind_word difference.kind ++ port_text nodes difference.port ++ (if difference.key == 0 then [] else key_word difference.key) ++ 10 ∷ []
+    kind_word difference.kind ++ port_text nodes difference.port ++ (if difference.key == 0 then [] else key_word difference.key)
+    ++ opensm_words difference.is_opensms ++ 10 ∷ []
 
 -- ---- ports that are not judged
 abbrev pub is_unread : AuditedPort → Bool
@@ -87,7 +90,7 @@ abbrev pub count_of : DifferenceKind → List Difference → ℕ
 count_of kind differences = count_by (is_of kind) differences
 
 abbrev pub is_as_file : AuditedPort → Bool
-is_as_file port = is_some port.table && follows_file port
+is_as_file port = follows_file port
 
 abbrev pub is_moved : AuditedPort → Bool
 is_moved port = is_some port.moved
@@ -127,30 +130,50 @@ unfoldable pub bases_line : List Difference → List ℕ
 bases_line differences =
     codes "bases: " ++ decimal (count_of Lacks differences) ++ codes " lacking, " ++ decimal (count_of More differences) ++ codes " more\n"
 
-abbrev pub verdict_line : Bool → List ℕ
-verdict_line true = codes "verdict: the tables that were read follow the file\n"
-verdict_line false = codes "verdict: the tables do not follow the file\n"
+abbrev pub verdict_line : (is_clean agrees : Bool) → List ℕ
+verdict_line true agrees = codes "verdict: the tables follow the file\n"
+verdict_line false true = codes "verdict: not all tables were read; those that were follow the file\n"
+verdict_line false false = codes "verdict: the tables do not follow the file\n"
+
+-- ---- switch ports; where none drops anything, one line says so
+abbrev pub are_off : (faced off : ℕ) → Bool
+are_off faced off = not (faced == 0) && (off == faced)
+
+unfoldable pub switch_lines : List Node → List AuditedPort → List Difference → List ℕ
+switch_lines nodes ports switches =
+    if are_off (count_by is_faced ports) (count_of Off switches) then codes "off everywhere\n" else flat_map (difference_line nodes) switches
 
 -- ---- the whole
-unfoldable pub lines_of : List Node → List AuditedPort → List Difference → List Difference → List ℕ
-lines_of nodes ports keys switches =
-    flat_map (difference_line nodes) keys ++ flat_map (difference_line nodes) switches
-    ++ flat_map (moved_lines nodes) ports ++ flat_map (unread_lines nodes) ports
+abbrev pub is_of_key_any : List Difference → Bool
+is_of_key_any keys = list_any is_of_key keys
+
+-- what counts most comes first
+unfoldable pub first_lines : List Node → (all : Bool) → List AuditedPort → List Difference → List ℕ
+first_lines nodes all ports keys =
+    diagnosis nodes ports (is_of_key_any keys) (not (count_of Full keys == 0)) (is_another (strays ports) (not (count_of Full keys == 0)))
+    ++ strays ports ++ pair_changes nodes all ports ++ flat_map (difference_line nodes) keys
+
+unfoldable pub later_lines : List Node → List AuditedPort → List Partition → List Difference → List ℕ
+later_lines nodes ports partitions switches =
+    switch_lines nodes ports switches ++ flat_map (cut_lines nodes ports) ports ++ flat_map (moved_lines nodes) ports ++ flat_map (unread_lines nodes) ports
+    ++ strangers nodes ports partitions
 
 unfoldable pub counts_of : List AuditedPort → List Difference → List Difference → List ℕ
 counts_of ports keys switches = ports_line ports ++ keys_line keys ++ switch_ports_line ports switches ++ bases_line switches
 
-unfoldable pub text_by : List Node → List AuditedPort → List Difference → List Difference → List ℕ
-text_by nodes ports keys switches =
-    lines_of nodes ports keys switches ++ counts_of ports keys switches ++ verdict_line (are_clean ports)
+unfoldable pub text_by : List Node → (all : Bool) → List AuditedPort → List Partition → List Difference → List Difference → List ℕ
+text_by nodes all ports partitions keys switches =
+    first_lines nodes all ports keys ++ later_lines nodes ports partitions switches ++ counts_of ports keys switches
+    ++ verdict_line (are_clean ports) (none_differs keys switches)
 
--- over any ports
-unfoldable pub audit_of : List Node → List AuditedPort → KeysAuditState
-audit_of nodes ports = record {
-  text = text_by nodes ports (flat_map port_differences ports) (flat_map facing_differences ports);
+-- over any ports; `all` asks for each pair of end ports
+unfoldable pub audit_of : List Node → (all : Bool) → List AuditedPort → List Partition → KeysAuditState
+audit_of nodes all ports partitions = record {
+  text = text_by nodes all ports partitions (flat_map port_differences ports) (flat_map facing_differences ports);
   is_clean = are_clean ports;
 }
 
 -- of the files
-abbrev pub keys_audit : TopologyState → DiscoveryState → List Answer → List Partition → KeysAuditState
-keys_audit plan discovery answers partitions = audit_of plan.nodes (ports_of_files plan discovery answers partitions)
+abbrev pub keys_audit : TopologyState → DiscoveryState → List Answer → List Partition → (all : Bool) → KeysAuditState
+keys_audit plan discovery answers partitions all =
+    audit_of plan.nodes all (ports_of_files plan discovery answers partitions) partitions

@@ -1,17 +1,17 @@
 -- Wrong rules for the status, and the law that each breaks.
-use Rattle.std.specs.Prelude.{ℕ, Bool, true, not, ◌&&◌, ◌||◌, List, Option, Some, None, is_some}
+use Rattle.std.specs.Prelude.{ℕ, Bool, true, false, not, ◌&&◌, ◌||◌, List, Option, Some, None, is_none}
 use Rattle.keys_audit.specs.declared.port.AuditedPort.{AuditedPort}
 use Rattle.keys_audit.specs.declared.port.Enforcement.{Enforcement}
 use Rattle.keys_audit.specs.declared.port.FacingPort.{FacingPort}
 use Rattle.keys_audit.specs.declared.port.HeldKeys.{HeldKeys}
-use Rattle.keys_audit.specs.Differences.{enforces_both, facing_fits, follows_file, is_clean, tables_fit}
+use Rattle.keys_audit.specs.Differences.{enforces_both, facing_fits, fits_if_enforced, follows_file, is_clean, tables_fit}
 use Rattle.keys_audit.specs.Held.{all_held, have_same_bases}
 use Rattle.keys_audit.specs.Laws.{PassesTheRight}
 
 -- ---- membership is ignored: bases are compared
 abbrev pub same_bases_stand : Option HeldKeys → List ℕ → Bool
 same_bases_stand (Some table) file = have_same_bases table.keys file
-same_bases_stand None file = true
+same_bases_stand None file = false
 
 abbrev pub by_bases : AuditedPort → Bool
 by_bases port = same_bases_stand port.table port.file && facing_fits port
@@ -22,7 +22,7 @@ BasesAreNotEnough = PassesTheRight by_bases → ⊥
 -- ---- what stands is in the file, whatever is missing
 abbrev pub all_are_given : Option HeldKeys → List ℕ → Bool
 all_are_given (Some table) file = all_held table.keys file
-all_are_given None file = true
+all_are_given None file = false
 
 abbrev pub without_missing : AuditedPort → Bool
 without_missing port = all_are_given port.table port.file && facing_fits port
@@ -30,17 +30,28 @@ without_missing port = all_are_given port.table port.file && facing_fits port
 abbrev pub MissingKeysCount : Type 0
 MissingKeysCount = PassesTheRight without_missing → ⊥
 
--- ---- a port that was not read lacks its keys
-abbrev pub if_read : AuditedPort → Bool
-if_read port = is_some port.table && is_clean port
+-- ---- a port that was not read is let pass
+abbrev pub or_unread : AuditedPort → Bool
+or_unread port = is_none port.table || is_clean port
 
-abbrev pub UnreadPortsLackNothing : Type 0
-UnreadPortsLackNothing = PassesTheRight if_read → ⊥
+abbrev pub UnreadPortsDoNotPass : Type 0
+UnreadPortsDoNotPass = PassesTheRight or_unread → ⊥
+
+-- ---- a switch port that was not read is let pass
+abbrev pub fits_or_unread : Option FacingPort → Option HeldKeys → Bool
+fits_or_unread (Some facing) adapter = is_none facing.enforcement || fits_if_enforced facing.enforcement facing.table adapter
+fits_or_unread None adapter = true
+
+abbrev pub with_unread_switch : AuditedPort → Bool
+with_unread_switch port = follows_file port && fits_or_unread port.facing port.table
+
+abbrev pub UnreadSwitchPortsDoNotPass : Type 0
+UnreadSwitchPortsDoNotPass = PassesTheRight with_unread_switch → ⊥
 
 -- ---- a switch port that drops packets in one direction alone enforces nothing
 abbrev pub fits_if_both : Option Enforcement → Option HeldKeys → Option HeldKeys → Bool
 fits_if_both (Some enforcement) table adapter = not (enforces_both enforcement) || tables_fit table adapter
-fits_if_both None table adapter = true
+fits_if_both None table adapter = false
 
 abbrev pub facing_fits_both : Option FacingPort → Option HeldKeys → Bool
 facing_fits_both (Some facing) adapter = fits_if_both facing.enforcement facing.table adapter

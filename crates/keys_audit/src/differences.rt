@@ -1,13 +1,14 @@
 //! How tables differ from the partition file, and those of switch ports from those of the adapter ports that they face.
 
-ghost use Rattle.std.specs.Prelude.{◌≡◌, ◌++◌, map, IfOk, OnOk};
+ghost use Rattle.std.specs.Prelude.{◌≡◌, ◌++◌, Some, map, IfOk, OnOk};
 ghost use Rattle.pkey_rules.specs.PKey.{base_of};
-ghost use Rattle.std.specs.List.{flat_map};
-ghost use Rattle.keys_audit.specs.Differences.{are_clean, bases_by, bases_with, differences_with, each, enforced_by, enforces, enforces_both};
+ghost use Rattle.std.specs.List.{flat_map, list_any};
+ghost use Rattle.keys_audit.specs.Differences.{are_clean, bases_by, bases_with, differences_by, differences_with, each, enforced_by, enforces, enforces_both, is_by_opensm, is_of_key, none_differs};
 ghost use Rattle.keys_audit.specs.Differences.{facing_differences, facing_fits, fits_if_enforced, follows_file, is_clean, lacks_room, noted, noted_if, port_differences, tables_fit};
-ghost use Rattle.keys_audit.specs.declared.differences.DifferenceKind.TheVariants.{Full};
 
-use crate::held::{have_same_bases, have_same_keys, of_other_bases, of_other_membership};
+use crate::held::{
+    has_base, have_same_bases, have_same_keys, holds, of_other_bases, of_other_membership,
+};
 use crate::port::{AuditedPort, Enforcement, FacingPort, HeldKeys};
 use fabric_parts::PortRef;
 use pkey_rules::base_of;
@@ -45,6 +46,24 @@ pub struct Difference {
     pub port: PortRef,
     /// The key or the base; 0 if there is none.
     pub key: u16,
+    /// Whether OpenSM, by its own reading of the file, makes just this of the key's base.
+    pub is_opensms: bool,
+}
+
+/// Whether OpenSM, which reads these keys in the file for the port, makes just this of the key's base.
+fn is_by_opensm(kind: DifferenceKind, opensms: &[u16], key: u16) -> bool
+    ensures { result ≡ is_by_opensm kind opensms.now key }
+{
+    match kind {
+        DifferenceKind::Extra | DifferenceKind::Membership => holds(key, opensms),
+        DifferenceKind::Missing => !has_base(base_of(key), opensms),
+        DifferenceKind::Full
+        | DifferenceKind::Off
+        | DifferenceKind::Half
+        | DifferenceKind::Lacks
+        | DifferenceKind::More
+        | DifferenceKind::UnreadSwitchPort => false,
+    }
 }
 
 /// Adds one difference for each of these keys.
@@ -52,15 +71,17 @@ fn push_each(
     list: &mut Vec<Difference>,
     kind: DifferenceKind,
     port: PortRef,
+    opensms: &[u16],
     keys: &[u16],
 ) -> Result<(), AllocError>
-    ensures { OnOk result (list.new.items ≡ list.old.items ++ each kind port keys.now) }
+    ensures { OnOk result (list.new.items ≡ list.old.items ++ each kind port opensms.now keys.now) }
 {
     for key in keys {
         list.push(Difference {
             kind,
             port,
             key: *key,
+            is_opensms: is_by_opensm(kind, opensms, *key),
         })?;
     }
     Ok(())
@@ -69,7 +90,12 @@ fn push_each(
 fn note(list: &mut Vec<Difference>, kind: DifferenceKind, port: PortRef) -> Result<(), AllocError>
     ensures { OnOk result (list.new.items ≡ list.old.items ++ noted kind port) }
 {
-    list.push(Difference { kind, port, key: 0 })?;
+    list.push(Difference {
+        kind,
+        port,
+        key: 0,
+        is_opensms: false,
+    })?;
     Ok(())
 }
 
@@ -97,16 +123,22 @@ fn lacks_room(alloc: Global, table: &HeldKeys, file: &[u16]) -> Result<bool, All
 fn push_differences_of(
     alloc: Global,
     list: &mut Vec<Difference>,
-    port: PortRef,
+    port: &AuditedPort,
     table: &HeldKeys,
-    file: &[u16],
 ) -> Result<(), AllocError>
-    ensures { OnOk result (list.new.items
-        ≡ list.old.items ++ (differences_with port table.now.keys file.now ++ noted_if (lacks_room table.now file.now) Full port)) }
+    ensures { OnOk result (list.new.items ≡ list.old.items ++ differences_by port.now (Some table.now)) }
 {
-    push_differences_with(alloc, list, port, table.keys.as_slice(), file)?;
+    let file = port.file.as_slice();
+    push_differences_with(
+        alloc,
+        list,
+        port.port,
+        table.keys.as_slice(),
+        file,
+        port.opensms.as_slice(),
+    )?;
     let lacks = lacks_room(alloc, table, file)?;
-    note_if(list, lacks, DifferenceKind::Full, port)
+    note_if(list, lacks, DifferenceKind::Full, port.port)
 }
 
 #[tactic(auto, unfolding(crate::specs::Differences::differences_with))]
@@ -116,15 +148,16 @@ fn push_differences_with(
     port: PortRef,
     keys: &[u16],
     file: &[u16],
+    opensms: &[u16],
 ) -> Result<(), AllocError>
-    ensures { OnOk result (list.new.items ≡ list.old.items ++ differences_with port keys.now file.now) }
+    ensures { OnOk result (list.new.items ≡ list.old.items ++ differences_with port keys.now file.now opensms.now) }
 {
     let extra = of_other_bases(alloc, keys, file)?;
     let missing = of_other_bases(alloc, file, keys)?;
     let changed = of_other_membership(alloc, keys, file)?;
-    push_each(list, DifferenceKind::Extra, port, &extra)?;
-    push_each(list, DifferenceKind::Missing, port, &missing)?;
-    push_each(list, DifferenceKind::Membership, port, &changed)
+    push_each(list, DifferenceKind::Extra, port, opensms, &extra)?;
+    push_each(list, DifferenceKind::Missing, port, opensms, &missing)?;
+    push_each(list, DifferenceKind::Membership, port, opensms, &changed)
 }
 
 fn push_port_differences(
@@ -135,7 +168,7 @@ fn push_port_differences(
     ensures { OnOk result (list.new.items ≡ list.old.items ++ port_differences port.now) }
 {
     match &port.table {
-        Some(table) => { push_differences_of(alloc, list, port.port, table, port.file.as_slice()) }
+        Some(table) => push_differences_of(alloc, list, port, table),
         None => Ok(()),
     }
 }
@@ -172,7 +205,7 @@ impl Enforcement {
     }
 }
 
-fn bases_of(alloc: Global, keys: &[u16]) -> Result<Vec<u16>, AllocError>
+pub(crate) fn bases_of(alloc: Global, keys: &[u16]) -> Result<Vec<u16>, AllocError>
     ensures { IfOk result (λ bases. bases.items ≡ map base_of keys.now) }
 {
     keys.iter().map(|key| base_of(*key)).collect(alloc)
@@ -192,8 +225,8 @@ fn push_bases_with(
     let lacking = bases_of(alloc, &lacking)?;
     let more = of_other_bases(alloc, keys, adapter)?;
     let more = bases_of(alloc, &more)?;
-    push_each(list, DifferenceKind::Lacks, port, &lacking)?;
-    push_each(list, DifferenceKind::More, port, &more)
+    push_each(list, DifferenceKind::Lacks, port, &[], &lacking)?;
+    push_each(list, DifferenceKind::More, port, &[], &more)
 }
 
 fn push_bases_by(
@@ -270,13 +303,13 @@ pub(crate) fn facing_differences(
     Ok(list)
 }
 
-/// Whether a port that was read has the keys of the file.
+/// Whether a port was read and has the keys of the file.
 pub(crate) fn follows_file(port: &AuditedPort) -> bool
     ensures { result ≡ follows_file port.now }
 {
     match &port.table {
         Some(table) => have_same_keys(table.keys.as_slice(), port.file.as_slice()),
-        None => true,
+        None => false,
     }
 }
 
@@ -287,7 +320,7 @@ fn tables_fit(table: &Option<HeldKeys>, adapter: &Option<HeldKeys>) -> bool
         (Some(table), Some(adapter)) => {
             have_same_bases(table.keys.as_slice(), adapter.keys.as_slice())
         }
-        _ => true,
+        _ => false,
     }
 }
 
@@ -296,7 +329,7 @@ fn fits_if_enforced(facing: &FacingPort, adapter: &Option<HeldKeys>) -> bool
 {
     match facing.enforcement {
         Some(enforcement) => !enforcement.enforces() || tables_fit(&facing.table, adapter),
-        None => true,
+        None => false,
     }
 }
 
@@ -315,7 +348,21 @@ fn is_clean(port: &AuditedPort) -> bool
     follows_file(port) && facing_fits(port)
 }
 
-/// Whether nothing differs that counts for the status.
+/// Whether none of these differences, of end ports and of switch ports, is of a key or of a base.
+pub(crate) fn none_differs(keys: &[Difference], switches: &[Difference]) -> bool
+    ensures { result ≡ none_differs keys.now switches.now }
+{
+    !has_key(keys) && !has_key(switches)
+}
+
+/// Whether one of these differences is of a key or of a base.
+pub(crate) fn has_key(list: &[Difference]) -> bool
+    ensures { result ≡ list_any is_of_key list.now }
+{
+    list.iter().any(|difference| difference.key != 0)
+}
+
+/// Whether all was read, and nothing differs that counts for the status.
 pub(crate) fn are_clean(ports: &[AuditedPort]) -> bool
     ensures { result ≡ are_clean ports.now }
 {

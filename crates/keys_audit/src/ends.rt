@@ -2,7 +2,7 @@
 
 ghost use Rattle.std.specs.Prelude.{◌≡◌, ◌++◌, IfOk, OnOk};
 ghost use Rattle.std.specs.List.{flat_map};
-ghost use Rattle.keys_audit.specs.Ends.{ends_of, line_end, switch_end, switch_guid};
+ghost use Rattle.keys_audit.specs.Ends.{ends_of, line_end, node_guid_at, switch_end, switch_guid};
 
 use netdiscover_file::{Discovery, FarEnd, Node, PortLine};
 use std::alloc::{AllocError, Global};
@@ -11,9 +11,11 @@ use std::alloc::{AllocError, Global};
 #[derive(Clone, Copy, Debug)]
 pub(crate) struct End {
     pub(crate) guid: u64,
+    /// The GUID of its node.
+    pub(crate) node_guid: u64,
     pub(crate) lid: u16,
-    /// Of port 0 of a switch the GUID of the switch.
-    pub(crate) switch: Option<u64>,
+    /// Whether it is port 0 of a switch.
+    pub(crate) is_switch: bool,
     /// Its number.
     pub(crate) number: u8,
     /// Of a port of an adapter the port at the other end of its cable.
@@ -37,8 +39,9 @@ fn push_switch(ends: &mut Vec<End>, node: &Node) -> Result<(), AllocError>
         Some(lid) => {
             ends.push(End {
                 guid: switch_guid(node),
+                node_guid: node.id.guid,
                 lid,
-                switch: Some(node.id.guid),
+                is_switch: true,
                 number: 0,
                 far: None,
             })?;
@@ -48,15 +51,23 @@ fn push_switch(ends: &mut Vec<End>, node: &Node) -> Result<(), AllocError>
     }
 }
 
-fn push_line(ends: &mut Vec<End>, line: &PortLine) -> Result<(), AllocError>
-    ensures { OnOk result (ends.new.items ≡ ends.old.items ++ line_end line.now) }
+/// The GUID of the node there.
+fn node_guid_at(nodes: &[Node], place: usize) -> u64
+    ensures { result ≡ node_guid_at nodes.now place }
+{
+    nodes.get(place).map_or(0, |node| node.id.guid)
+}
+
+fn push_line(ends: &mut Vec<End>, nodes: &[Node], line: &PortLine) -> Result<(), AllocError>
+    ensures { OnOk result (ends.new.items ≡ ends.old.items ++ line_end nodes.now line.now) }
 {
     match (line.guid, line.lid) {
         (Some(guid), Some(lid)) => {
             ends.push(End {
                 guid,
+                node_guid: node_guid_at(nodes, line.port.node),
                 lid,
-                switch: None,
+                is_switch: false,
                 number: line.port.port,
                 far: Some(line.far),
             })?;
@@ -75,11 +86,11 @@ fn push_switches(ends: &mut Vec<End>, nodes: &[Node]) -> Result<(), AllocError>
     Ok(())
 }
 
-fn push_lines(ends: &mut Vec<End>, lines: &[PortLine]) -> Result<(), AllocError>
-    ensures { OnOk result (ends.new.items ≡ ends.old.items ++ flat_map line_end lines.now) }
+fn push_lines(ends: &mut Vec<End>, nodes: &[Node], lines: &[PortLine]) -> Result<(), AllocError>
+    ensures { OnOk result (ends.new.items ≡ ends.old.items ++ flat_map (line_end nodes.now) lines.now) }
 {
     for line in lines {
-        push_line(ends, line)?;
+        push_line(ends, nodes, line)?;
     }
     Ok(())
 }
@@ -90,6 +101,6 @@ pub(crate) fn ends_of(alloc: Global, discovery: &Discovery) -> Result<Vec<End>, 
 {
     let mut ends = Vec::new(alloc);
     push_switches(&mut ends, discovery.nodes())?;
-    push_lines(&mut ends, discovery.ports())?;
+    push_lines(&mut ends, discovery.nodes(), discovery.ports())?;
     Ok(ends)
 }

@@ -5,12 +5,13 @@ ghost use Rattle.std.specs.List.{flat_map};
 ghost use Rattle.std.specs.Option.{option_copied};
 ghost use Rattle.partition_file.specs.Members.{keys_in};
 ghost use Rattle.keys_audit.specs.Gathered.{end_port, end_table, enforcement_in, facing_at, facing_by_lid, facing_far, facing_of, facing_of_node, facing_on, far_node};
-ghost use Rattle.keys_audit.specs.Gathered.{gathered, gathered_end, is_switch_end, lid_if_same, moved_by, moved_port, moved_switch, moved_to, moved_with, node_in};
+ghost use Rattle.keys_audit.specs.Gathered.{gathered, gathered_end, lid_if_same, moved_by, moved_port, moved_switch, moved_to, node_in};
 ghost use Rattle.keys_audit.specs.Gathered.{or_table, ports_of_files, ports_with, reply_to, switch_lid, table_at, table_in, unless_moved, unread_port};
 
 use crate::ends::{End, ends_of, switch_guid};
 use crate::held::held;
 use crate::names::PortIndex;
+use crate::opensm::keys_by_opensm;
 use crate::port::{AuditedPort, Enforcement, FacingPort, HeldKeys};
 use fabric_parts::PortRef;
 use netdiscover_file::{Discovery, FarEnd, Node};
@@ -100,10 +101,13 @@ fn moved_by(end: &End, reply: Option<NodeReply>) -> Option<u64>
     ensures { result ≡ moved_by end.now reply }
 {
     match reply {
-        Some(reply) => match end.switch {
-            Some(switch) => moved_switch(switch, reply),
-            None => moved_port(end.guid, reply),
-        },
+        Some(reply) => {
+            if end.is_switch {
+                moved_switch(end.node_guid, reply)
+            } else {
+                moved_port(end.guid, reply)
+            }
+        }
         None => None,
     }
 }
@@ -268,7 +272,7 @@ impl<'a> Files<'a> {
     {
         EndPort {
             guid: end.guid,
-            is_switch: end.switch.is_some(),
+            is_switch: end.is_switch,
             is_sm: port == self.manager,
         }
     }
@@ -279,15 +283,20 @@ impl<'a> Files<'a> {
     {
         let moved = self.moved_to(end);
         let table = self.table_unless_moved(alloc, end, moved)?;
-        let file = keys_in(alloc, self.partitions, self.end_port(port, end))?;
+        let end_port = self.end_port(port, end);
+        let file = keys_in(alloc, self.partitions, end_port)?;
+        let opensms = keys_by_opensm(alloc, self.partitions, &end_port)?;
         let facing = self.facing_of(alloc, end)?;
         Ok(AuditedPort {
             port,
             guid: end.guid,
+            node_guid: end.node_guid,
             lid: end.lid,
+            is_manager: end_port.is_sm,
             moved,
             table,
             file,
+            opensms,
             facing,
         })
     }

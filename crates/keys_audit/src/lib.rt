@@ -1,20 +1,27 @@
 //! P_Key tables that stand in a live fabric, compared with the partition file that they should follow.
 #![tactic(auto)]
 
+mod cuts;
+mod diagnosis;
 mod differences;
 mod ends;
 mod gathering;
 mod held;
 mod laws;
 mod names;
+mod opensm;
 mod outcome;
+mod parts;
 mod port;
+mod standing;
+mod strangers;
 mod text;
 mod wrong_rules;
 
 pub use crate::differences::{Difference, DifferenceKind};
 pub use crate::laws::{
-    tables_that_follow_are_clean, the_right_ports_pass, the_status_is_that_of_each_port,
+    pairs_of_tables_are_theirs, pairs_of_the_file_are_its, tables_that_follow_are_clean,
+    the_right_ports_pass, the_status_is_that_of_each_port,
 };
 pub use crate::outcome::KeysAudit;
 pub use crate::port::{AuditedPort, Enforcement, FacingPort, HeldKeys};

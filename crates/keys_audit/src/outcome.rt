@@ -27,8 +27,8 @@ impl KeysAudit {
         self.text.as_slice()
     }
 
-    /// Whether each end port that was read holds exactly the keys of the file, and each switch port that enforces has exactly
-    /// the bases of the adapter port that it faces.
+    /// Whether each end port was read and holds exactly the keys of the file, and each switch port that faces an adapter port was
+    /// read and, if it enforces, has exactly the bases of that port.
     pub fn is_clean(&self) -> bool
         ensures { result ≡ self.now.is_clean }
     {

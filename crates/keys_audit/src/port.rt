@@ -39,14 +39,20 @@ pub struct AuditedPort {
     pub port: PortRef,
     /// Its GUID.
     pub guid: u64,
+    /// The GUID of its node.
+    pub node_guid: u64,
     /// Its LID, by the discovery.
     pub lid: u16,
+    /// Whether the subnet manager runs on it.
+    pub is_manager: bool,
     /// The GUID that answered at this LID, if it is another port's: LIDs moved after the discovery.
     pub moved: Option<u64>,
     /// Its table, if that was read.
     pub table: Option<HeldKeys>,
     /// The keys that the partition file gives it, no two of one base.
     pub file: KeyList,
+    /// The keys that OpenSM gives it by the same file, no two of one base.
+    pub opensms: KeyList,
     /// The switch port that faces it, if one does.
     pub facing: Option<FacingPort>,
 }

@@ -1,30 +1,31 @@
 //! The lines.
 
-ghost use Rattle.std.specs.Prelude.{◌≡◌, ◌++◌, [], ◌==◌, if◌then◌else◌, count_by, IfOk, OnOk};
+ghost use Rattle.std.specs.Prelude.{◌≡◌, ◌++◌, [], ◌==◌, if◌then◌else◌, count_by, not, IfOk, OnOk};
 ghost use Rattle.std.specs.List.{flat_map};
 ghost use Rattle.keys_audit.specs.Text.{audit_of, bases_line, code_of_kind, count_of, counts_of, difference_line, is_as_file, is_faced, is_moved, is_of, is_unread};
-ghost use Rattle.keys_audit.specs.Text.{half_part, key_word, keys_audit, keys_line, kind_word, lines_of, moved_lines, off_part, port_text, ports_line, read_part, switch_ports_line};
-ghost use Rattle.keys_audit.specs.Text.{text_by, unread_line, unread_lines, unread_part, verdict_line};
+ghost use Rattle.keys_audit.specs.Names.{key_word};
+ghost use Rattle.keys_audit.specs.Text.{first_lines, half_part, keys_audit, keys_line, kind_word, later_lines, moved_lines, off_part, opensm_words, ports_line, read_part};
+ghost use Rattle.keys_audit.specs.Text.{switch_lines, switch_ports_line, unread_lines, unread_part, verdict_line};
+ghost use Rattle.keys_audit.specs.declared.differences.DifferenceKind.TheVariants.{Full};
 
+use crate::cuts::push_cuts;
+use crate::diagnosis::{is_another, push_diagnosis};
 use crate::differences::{
-    Difference, DifferenceKind, are_clean, differences, facing_differences, follows_file,
+    Difference, DifferenceKind, are_clean, differences, facing_differences, follows_file, has_key,
+    none_differs,
 };
 use crate::gathering::ports_of_files;
 use crate::outcome::KeysAudit;
+use crate::parts::{push_key, push_port};
 use crate::port::AuditedPort;
-use fabric_parts::PortRef;
+use crate::standing::{Listing, push_pair_changes, rising_bases, strays};
+use crate::strangers::push_strangers;
 use netdiscover_file::Discovery;
 use partition_file::Partitions;
 use pkeys_file::Answers;
 use std::alloc::{AllocError, Global};
-use text_parts::{push_decimal, push_guid, push_hex, push_port_name};
-use topo_file::{LargeTopology, Node, name_at};
-
-fn push_port(text: &mut Vec<u8>, nodes: &[Node], port: PortRef) -> Result<(), AllocError>
-    ensures { OnOk result (text.new.items ≡ text.old.items ++ port_text nodes.now port) }
-{
-    push_port_name(text, name_at(nodes, port.node), port.port)
-}
+use text_parts::{push_decimal, push_guid};
+use topo_file::{LargeTopology, Node};
 
 impl DifferenceKind {
     ghost use Rattle.std.specs.Prelude.{◌≡◌};
@@ -69,8 +70,16 @@ fn push_key_if_any(text: &mut Vec<u8>, key: u16) -> Result<(), AllocError>
     if key == 0 {
         return Ok(());
     }
-    text.extend_from_slice(b" ")?;
-    push_hex(text, &key.to_be_bytes())
+    push_key(text, key)
+}
+
+fn push_opensm(text: &mut Vec<u8>, is_opensms: bool) -> Result<(), AllocError>
+    ensures { OnOk result (text.new.items ≡ text.old.items ++ opensm_words is_opensms) }
+{
+    if is_opensms {
+        text.extend_from_slice(b" (OpenSM reads the file so)")?;
+    }
+    Ok(())
 }
 
 #[tactic(auto, unfolding(crate::specs::Text::difference_line))]
@@ -84,6 +93,7 @@ fn push_difference(
     text.extend_from_slice(difference.kind.word())?;
     push_port(text, nodes, difference.port)?;
     push_key_if_any(text, difference.key)?;
+    push_opensm(text, difference.is_opensms)?;
     text.push(b'\n')?;
     Ok(())
 }
@@ -168,10 +178,7 @@ fn count_of(kind: DifferenceKind, list: &[Difference]) -> usize
 fn files_count(ports: &[AuditedPort]) -> usize
     ensures { result ≡ count_by is_as_file ports.now }
 {
-    ports
-        .iter()
-        .filter(|port| port.table.is_some() && follows_file(*port))
-        .count()
+    ports.iter().filter(|port| follows_file(*port)).count()
 }
 
 fn unread_count(ports: &[AuditedPort]) -> usize
@@ -280,20 +287,72 @@ fn push_bases_line(text: &mut Vec<u8>, list: &[Difference]) -> Result<(), AllocE
     text.extend_from_slice(b" more\n")
 }
 
-#[tactic(auto, unfolding(crate::specs::Text::lines_of))]
-fn push_lines(
+#[tactic(auto, unfolding(crate::specs::Text::switch_lines))]
+fn push_switches(
     text: &mut Vec<u8>,
     nodes: &[Node],
     ports: &[AuditedPort],
-    keys: &[Difference],
     switches: &[Difference],
 ) -> Result<(), AllocError>
-    ensures { OnOk result (text.new.items ≡ text.old.items ++ lines_of nodes.now ports.now keys.now switches.now) }
+    ensures { OnOk result (text.new.items ≡ text.old.items ++ switch_lines nodes.now ports.now switches.now) }
 {
-    push_differences(text, nodes, keys)?;
-    push_differences(text, nodes, switches)?;
+    let faced = faced_count(ports);
+    if faced != 0 && count_of(DifferenceKind::Off, switches) == faced {
+        return text.extend_from_slice(b"off everywhere\n");
+    }
+    push_differences(text, nodes, switches)
+}
+
+fn is_full_any(keys: &[Difference]) -> bool
+    ensures { result ≡ not (count_of Full keys.now == 0) }
+{
+    count_of(DifferenceKind::Full, keys) != 0
+}
+
+#[tactic(auto, unfolding(crate::specs::Text::first_lines))]
+fn push_first_lines(
+    alloc: Global,
+    text: &mut Vec<u8>,
+    listing: Listing<'_>,
+    keys: &[Difference],
+) -> Result<(), AllocError>
+    ensures { OnOk result (text.new.items
+        ≡ text.old.items ++ first_lines listing.entry.nodes.now listing.entry.all listing.entry.ports.now keys.now) }
+{
+    let ports = listing.ports;
+    let bases = rising_bases(alloc, ports)?;
+    let others = strays(alloc, ports, &bases)?;
+    let is_full = is_full_any(keys);
+    push_diagnosis(
+        text,
+        listing.nodes,
+        ports,
+        has_key(keys),
+        is_full,
+        is_another(&others, is_full),
+    )?;
+    text.extend_from_slice(&others)?;
+    push_pair_changes(alloc, text, listing, ports, &bases)?;
+    push_differences(text, listing.nodes, keys)
+}
+
+#[tactic(auto, unfolding(crate::specs::Text::later_lines))]
+fn push_later_lines(
+    alloc: Global,
+    text: &mut Vec<u8>,
+    listing: Listing<'_>,
+    partitions: &Partitions,
+    switches: &[Difference],
+) -> Result<(), AllocError>
+    ensures { OnOk result (text.new.items
+        ≡ text.old.items ++ later_lines listing.entry.nodes.now listing.entry.ports.now partitions.now switches.now) }
+{
+    let (nodes, ports) = (listing.nodes, listing.ports);
+    push_switches(text, nodes, ports, switches)?;
+    push_cuts(alloc, text, listing)?;
     push_moved(text, nodes, ports)?;
-    push_unread(text, nodes, ports)
+    push_unread(text, nodes, ports)?;
+    push_strangers(alloc, text, nodes, ports, partitions)
 }
 
 #[tactic(auto, unfolding(crate::specs::Text::counts_of))]
@@ -311,45 +370,62 @@ fn push_counts(
     push_bases_line(text, switches)
 }
 
-fn verdict_line(is_clean: bool) -> &'static [u8]
-    ensures { result.now ≡ verdict_line is_clean }
+fn verdict_line(is_clean: bool, agrees: bool) -> &'static [u8]
+    ensures { result.now ≡ verdict_line is_clean agrees }
 {
     if is_clean {
-        b"verdict: the tables that were read follow the file\n"
+        b"verdict: the tables follow the file\n"
+    } else if agrees {
+        b"verdict: not all tables were read; those that were follow the file\n"
     } else {
         b"verdict: the tables do not follow the file\n"
     }
 }
 
 #[tactic(auto, unfolding(crate::specs::Text::audit_of, crate::specs::Text::text_by))]
-fn audit_of(alloc: Global, nodes: &[Node], ports: &[AuditedPort]) -> Result<KeysAudit, AllocError>
-    ensures { IfOk result (λ found. found ≡ audit_of nodes.now ports.now) }
+fn audit_of(
+    alloc: Global,
+    listing: Listing<'_>,
+    partitions: &Partitions,
+) -> Result<KeysAudit, AllocError>
+    ensures { IfOk result (λ found. found
+        ≡ audit_of listing.entry.nodes.now listing.entry.all listing.entry.ports.now partitions.now) }
 {
+    let ports = listing.ports;
     let keys = differences(alloc, ports)?;
     let switches = facing_differences(alloc, ports)?;
     let is_clean = are_clean(ports);
     let mut text = Vec::new(alloc);
-    push_lines(&mut text, nodes, ports, &keys, &switches)?;
+    push_first_lines(alloc, &mut text, listing, &keys)?;
+    push_later_lines(alloc, &mut text, listing, partitions, &switches)?;
     push_counts(&mut text, ports, &keys, &switches)?;
-    text.extend_from_slice(verdict_line(is_clean))?;
+    text.extend_from_slice(verdict_line(is_clean, none_differs(&keys, &switches)))?;
     Ok(KeysAudit { text, is_clean })
 }
 
 /// Compares the tables that `smpquery` read with the partition file. It can only run out of memory.
 ///
 /// The discovery and the answers are of the same fabric as the topology, which gives the names and the port of the subnet
-/// manager. What is printed is stated in `specs/Text.antt`: the keys in which tables of end ports differ, then how switch ports
-/// that face adapter ports differ from them, ports that are not judged, counts and the verdict. Time is linear in the ports
-/// times the keys of a table squared, and in the ports times the lists of the file.
+/// manager. What is printed is stated in `specs/Text.antt`: diagnoses, who may talk by the tables alone or by the file alone, the
+/// keys in which tables of end ports differ, how switch ports that face adapter ports differ from them, ports that are not
+/// judged, GUIDs of the file that no port has, counts and the verdict. `all` asks for each pair of a partition, however many. Time
+/// is linear in the ports times the keys of a table squared, in the ports times the lists of the file, and in the ports times
+/// their keys times the partitions; and quadratic in the ports of a partition of which pairs are listed.
 pub fn audit_keys(
     alloc: Global,
     plan: &LargeTopology,
     discovery: &Discovery,
     answers: &Answers,
     partitions: &Partitions,
+    all: bool,
 ) -> Result<KeysAudit, AllocError>
-    ensures { IfOk result (λ found. found ≡ keys_audit plan.now discovery.now answers.now partitions.now) }
+    ensures { IfOk result (λ found. found ≡ keys_audit plan.now discovery.now answers.now partitions.now all) }
 {
     let ports = ports_of_files(alloc, plan, discovery, answers, partitions)?;
-    audit_of(alloc, plan.nodes(), &ports)
+    let listing = Listing {
+        nodes: plan.nodes(),
+        ports: &ports,
+        all,
+    };
+    audit_of(alloc, listing, partitions)
 }

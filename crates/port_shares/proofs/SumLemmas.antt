@@ -28,7 +28,7 @@ full_in base keys = list_any (λ key. (base_of key == base) && is_full key) keys
 abbrev pub may_talk : ℕ → List ℕ → List ℕ → Bool
 may_talk base ps qs = has_base base ps && (has_base base qs && (full_in base ps || full_in base qs))
 
-full_is_member : (base : ℕ) (keys : List ℕ) → full_in base keys ≡ true → has_base base keys ≡ true
+pub full_is_member : (base : ℕ) (keys : List ℕ) → full_in base keys ≡ true → has_base base keys ≡ true
 full_is_member base keys some =
     list_any_weaker (λ key. (base_of key == base) && is_full key) (λ key. base_of key == base)
     (λ key both. (and_parts (base_of key == base) (is_full key) both).0) keys some
@@ -68,7 +68,7 @@ talk_step true false false true fip h = refl
 talk_step true false false false true h = h refl
 talk_step true false false false false h = refl
 
-talk_by : (base : ℕ) (ps qs : List ℕ) → (base == 0) ≡ false → shares_base base ps qs ≡ may_talk base ps qs
+pub talk_by : (base : ℕ) (ps qs : List ℕ) → (base == 0) ≡ false → shares_base base ps qs ≡ may_talk base ps qs
 talk_by base [] qs some = refl
 talk_by base (p ∷ ps) qs some = elim (cases_Bool (base_of p == base)) [
   | inl here ↦
@@ -78,7 +78,7 @@ talk_by base (p ∷ ps) qs some = elim (cases_Bool (base_of p == base)) [
 ]
 
 -- ---- shares of two ports
-abbrev one_if : Bool → ℕ
+abbrev pub one_if : Bool → ℕ
 one_if so = if so then 1 else 0
 
 count_made : (base : ℕ) (p q : SubnetPort) (xs : List ℕ) → count_by (λ share. share.base == base) (map (share_of p q) xs) ≡ count_by (λ x. x == base) xs
@@ -87,7 +87,7 @@ count_made base p q (x ∷ xs) =
     sum_by-cons (λ share. one_if (share.base == base)) (share_of p q x) (map (share_of p q) xs)
     ∙ ap (λ n. one_if (x == base) + n) (count_made base p q xs) ∙ sym (sum_by-cons (λ y. one_if (y == base)) x xs)
 
-nothing_added : (n : ℕ) → 0 + n ≡ n
+pub nothing_added : (n : ℕ) → 0 + n ≡ n
 nothing_added n = omega arith
 
 count_kept : (base : ℕ) (p : ℕ → Bool) (xs : List ℕ) → count_by (λ x. x == base) (filter p xs) ≡ (if p base then count_by (λ x. x == base) xs else 0)
@@ -150,7 +150,7 @@ of_pair base p q is =
     ∙ ap one_if (talk_by base p.keys q.keys some)
 
 -- ---- shares of a port with those behind it
-abbrev picked : (member full : Bool) → (members fulls : ℕ) → ℕ
+abbrev pub picked : (member full : Bool) → (members fulls : ℕ) → ℕ
 picked member full members fulls = if member then (if full then members else fulls) else 0
 
 abbrev count_members : ℕ → List SubnetPort → ℕ
@@ -183,7 +183,7 @@ row base p (q ∷ ports) is =
     ∙ ap₂ (picked (is_member base p) (is_full_member base p)) (sym (sum_by-cons (λ port. one_if (is_member base port)) q ports)) (sym (sum_by-cons (λ port. one_if (is_full_member base port)) q ports))
 
 -- ---- all shares under a base, twice
-abbrev twice_all : (members full : ℕ) → ℕ
+abbrev pub twice_all : (members full : ℕ) → ℕ
 twice_all members full = full * (full - 1 + 2 * (members - full))
 
 pub no_more_full : (base : ℕ) (ports : List SubnetPort) → count_full base ports ≤ count_members base ports
@@ -208,14 +208,14 @@ two_more n x =
     rw e (omega (arith, one, two))
 
 -- one more limited member
-limited_more : (members full all : ℕ) → full ≤ members → all * 2 ≡ twice_all members full → (full + all) * 2 ≡ twice_all (1 + members) full
+pub limited_more : (members full all : ℕ) → full ≤ members → all * 2 ≡ twice_all members full → (full + all) * 2 ≡ twice_all (1 + members) full
 limited_more members full all less is =
     let next : (full - 1 + 2 * (1 + members - full)) ≡ (full - 1 + 2 * (members - full)) + 2 = omega (arith, less) in
     let grown = two_more full (full - 1 + 2 * (members - full)) in
     rw next (omega (arith, is, grown))
 
 -- one more full member
-full_more : (members full all : ℕ) → full ≤ members → all * 2 ≡ twice_all members full → (members + all) * 2 ≡ twice_all (1 + members) (1 + full)
+pub full_more : (members full all : ℕ) → full ≤ members → all * 2 ≡ twice_all members full → (members + all) * 2 ≡ twice_all (1 + members) (1 + full)
 full_more members zero all less is = omega (arith, is)
 full_more members (suc n) all less is =
     let x : ℕ = suc n - 1 + 2 * (members - suc n) in

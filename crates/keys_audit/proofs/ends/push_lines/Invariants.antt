@@ -4,4 +4,4 @@ use Rattle.keys_audit.specs.Ends.{line_end}
 use Rattle.keys_audit.proofs.ends.push_lines.Given as goal
 
 abbrev pub invariant-loop-line : goal.invariant-loop-line
-invariant-loop-line l = l.ends.items ≡ l.fn.ends.items ++ flat_map line_end (take l.line-index l.fn.lines)
+invariant-loop-line l = l.ends.items ≡ l.fn.ends.items ++ flat_map (line_end l.fn.nodes) (take l.line-index l.fn.lines)

@@ -1,0 +1,3 @@
+mod CountLemmas
+pub mod LawLemmas
+mod WrongLemmas

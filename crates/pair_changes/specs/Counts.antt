@@ -1,0 +1,30 @@
+-- Members counted. No definition of what is printed stands on this one.
+use Rattle.std.specs.Prelude.{ℕ, ◌+◌, ◌-◌, Bool, ◌&&◌, ◌||◌, List, count_by}
+use Rattle.port_shares.specs.Pairs.{pair_count}
+use Rattle.pair_changes.specs.declared.pairs.Member.{Member}
+use Rattle.pair_changes.specs.Membership.{is_full_member, is_member}
+
+abbrev pub is_now : Member → Bool
+is_now member = is_member member.after
+
+abbrev pub is_full_now : Member → Bool
+is_full_now member = is_member member.after && is_full_member member.after
+
+abbrev pub is_in_both : Member → Bool
+is_in_both member = is_member member.after && is_member member.before
+
+abbrev pub is_full_in_both_now : Member → Bool
+is_full_in_both_now member = is_in_both member && is_full_member member.after
+
+abbrev pub is_full_in_both_before : Member → Bool
+is_full_in_both_before member = is_in_both member && is_full_member member.before
+
+abbrev pub is_full_in_any : Member → Bool
+is_full_in_any member = is_in_both member && (is_full_member member.after || is_full_member member.before)
+
+-- pairs that may talk now and might before
+abbrev pub kept_count : List Member → ℕ
+kept_count members =
+    pair_count (count_by is_in_both members) (count_by is_full_in_both_now members)
+    + pair_count (count_by is_in_both members) (count_by is_full_in_both_before members)
+    - pair_count (count_by is_in_both members) (count_by is_full_in_any members)

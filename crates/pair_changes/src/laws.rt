@@ -1,0 +1,13 @@
+//! What the pairs say. The functions do nothing: their contracts are the laws.
+
+ghost use Rattle.pair_changes.specs.Laws.{PairsAreListed, TalkingIsMatching};
+
+/// Ports of two memberships may talk exactly if they hold P_Keys of the partition that match.
+pub fn talking_is_matching()
+    ensures { TalkingIsMatching }
+{}
+
+/// The list has exactly the pairs of a port and one behind it that may talk now and might not before.
+pub fn pairs_are_listed()
+    ensures { PairsAreListed }
+{}
