@@ -1,8 +1,8 @@
 #!/usr/bin/env python3
-"""Works out anew what `fabric audit` has to print of a topology and a dump, and its status:
-    tests/oracle/audit.py TOPOLOGY DUMP
-It knows nothing of the program: it reads lines by patterns, follows each LID with a set of switches seen, and looks for
-circles by a search from each channel.
+"""Works out anew what `fabric audit` has to print of a fabric and a dump, and its status:
+    tests/oracle/audit.py FABRIC DUMP
+FABRIC is a topology, or what ibnetdiscover printed. It knows nothing of the program: it reads lines by patterns, follows each
+LID with a set of switches seen, and looks for circles by a search from each channel.
 """
 import collections
 import re
@@ -11,7 +11,7 @@ import sys
 sys.dont_write_bytecode = True
 from topology import Topology  # noqa: E402
 
-Node = collections.namedtuple("Node", "is_switch name guid ports")
+Node = collections.namedtuple("Node", "is_switch name guid ports is_aggregation", defaults=[False])
 Row = collections.namedtuple("Row", "port guid kind")
 
 
@@ -20,6 +20,50 @@ def read_topology(file):
     places = {name: place for place, name in enumerate(topology.nodes)}
     nodes = [Node(node.is_switch, name, node.guid, node.ports) for name, node in topology.nodes.items()]
     return nodes, [[(places[name], port) for name, port in cable] for cable in topology.cables]
+
+
+HEADER = re.compile(r'(Switch|Ca|Rt)\s+(\d+) "[SHR]-([0-9a-f]+)"\s+# "(.*)"')
+LINE = re.compile(r'\[(\d+)\](?:\[ext \d+\])?(?:\(([0-9a-f]+)\))?\s+"[SHR]-([0-9a-f]+)"\[(\d+)\]')
+
+
+class Found:
+    """What ibnetdiscover printed: nodes, the cables that join a switch and those that do not, and end ports by GUID."""
+
+    def __init__(self, text):
+        self.nodes, ends, own, names = [], [], [], []
+        port_0 = None
+        for line in text.splitlines():
+            if found := re.match(r"switchguid=0x[0-9a-f]+\(([0-9a-f]+)\)", line):
+                port_0 = int(found[1], 16)
+            elif found := HEADER.match(line):
+                place, guid = len(self.nodes), int(found[3], 16)
+                is_switch = found[1] == "Switch"
+                self.nodes.append(Node(is_switch, found[4], guid, int(found[2]), not is_switch and found[4].endswith("Aggregation Node")))
+                if is_switch:
+                    own.append((port_0 or guid, (place, 0)))
+                port_0 = None
+            elif found := LINE.match(line):
+                here = len(self.nodes) - 1, int(found[1])
+                if found[2]:
+                    own.append((int(found[2], 16), here))
+                ends.append((here, (int(found[3], 16), int(found[4]))))
+        own.sort(key=lambda end: end[1][1] != 0)  # those of switches first
+        self.ports = {}
+        for guid, at in own:
+            self.ports.setdefault(guid, at)
+        places = {node.guid: place for place, node in enumerate(self.nodes)}
+        cables = [(here, (places[guid], port)) for here, (guid, port) in ends]
+        once = [cable for cable in cables if cable[0] <= cable[1]]
+        joins = [any(self.nodes[place].is_switch for place, _ in cable) for cable in once]
+        self.cables = [cable for cable, joined in zip(once, joins) if joined]
+        self.apart = [cable for cable, joined in zip(once, joins) if not joined]
+        counts = collections.Counter(node.name for node in self.nodes)
+        for place, node in enumerate(self.nodes):
+            if not node.name or counts[node.name] > 1:
+                names.append(f"{node.name} 0x{node.guid:016x}".removeprefix(" " if not node.name else ""))
+            else:
+                names.append(node.name)
+        self.nodes = [node._replace(name=name) for node, name in zip(self.nodes, names)]
 
 
 def read_dump(file):
@@ -39,13 +83,18 @@ def read_dump(file):
 
 
 class Net:
-    def __init__(self, topology, dump):
-        self.nodes, self.cables = read_topology(topology)
+    def __init__(self, fabric, dump):
+        text = open(fabric, errors="surrogateescape").read()
+        found = Found(text) if re.search(r"^(Switch|Ca|Rt)\s", text, re.M) else None
+        if found:
+            self.nodes, self.cables, self.apart = found.nodes, found.cables, found.apart
+        else:
+            (self.nodes, self.cables), self.apart = read_topology(fabric), []
         self.tables = read_dump(dump)
         self.far = {here: there for a, b in self.cables for here, there in ((a, b), (b, a))}
         self.switches = [place for place, node in enumerate(self.nodes) if node.is_switch]
-        ports = {}
-        for place, node in enumerate(self.nodes):
+        ports = found.ports if found else {}
+        for place, node in enumerate([] if found else self.nodes):
             for number in [0] if node.is_switch else range(1, node.ports + 1):
                 ports.setdefault(node.guid + number, (place, number))
         self.lids = sorted({lid for _, rows in self.tables.values() for lid in rows})
@@ -56,10 +105,13 @@ class Net:
                     self.guids.setdefault(lid, row.guid)
         # a row that calls a LID a channel adapter's or a switch's is believed: then its port is one of that kind
         self.ends = {lid: ports[guid] for lid, guid in self.guids.items() if guid in ports and self.fits(lid, ports[guid])}
-        self.attached = [place for place in self.switches if any(at[0] == place and not self.is_switch(end[0]) for at, end in self.far.items())]
+        self.attached = [place for place in self.switches if any(at[0] == place and self.is_host(end[0]) for at, end in self.far.items())]
 
     def is_switch(self, place):
         return self.nodes[place].is_switch
+
+    def is_host(self, place):
+        return not self.is_switch(place) and not self.nodes[place].is_aggregation
 
     def kinds(self, lid):
         """What the rows of the switches of the topology say of the LID."""
@@ -75,13 +127,28 @@ class Net:
     def name(self, place):
         return self.nodes[place].name
 
+    def whose(self, lid):
+        """The LID, and the port that has it."""
+        return f"{lid} ({self.port(self.ends[lid])})" if lid in self.ends else f"{lid}"
+
+    def closing(self, ring, lids):
+        """The LIDs by which each channel of a circle waits for the next."""
+        def leaves(at, lid):
+            return self.entry(at[0], lid) == at[1]
+
+        for a, b in zip(ring, ring[1:] + ring[:1]):
+            yield self.whose(min(lid for lid in lids if leaves(a, lid) and leaves(b, lid)))
+
+    def circle_line(self, word, ring, lids):
+        return f"{word} {' '.join(map(self.port, ring))} by LIDs {' '.join(self.closing(ring, lids))}"
+
     def entry(self, place, lid):
         """A port, `None`, or 'unknown'."""
         if self.nodes[place].guid not in self.tables:
             return "unknown"
         top, rows = self.tables[self.nodes[place].guid]
         if lid not in rows:
-            return "unknown" if lid == top and top % 64 == 0 else None
+            return "unknown" if lid == top and top % 64 == 0 or self.nodes[place].ports >= 128 else None
         return None if rows[lid].port == 255 else rows[lid].port
 
     def turn(self, place, lid):
@@ -116,6 +183,8 @@ class Net:
         return ring if at == ("goes", place) else None
 
     def files(self):
+        for a, b in self.apart:
+            yield f"# passed over: {self.port(a)} {self.port(b)}"
         for place in self.switches:
             if self.nodes[place].guid not in self.tables:
                 yield f"no-table {self.name(place)}"
@@ -140,14 +209,16 @@ class Net:
             if row and row.kind == "node info not available" and row.port != 255:
                 yield f"stray {self.name(place)} {lid}"
         elif kind == "hole":
-            yield f"hole {self.name(place)} {lid}"
+            yield f"hole {self.name(place)} {self.whose(lid)}"
+        elif kind == "unknown" and self.nodes[place].guid in self.tables and self.nodes[place].ports >= 128:
+            yield f"left-out {self.name(place)} {self.whose(lid)}"
         if lid in self.ends and kind == "nowhere":
-            yield f"nowhere {self.name(place)} {lid} port {what}"
+            yield f"nowhere {self.name(place)} {self.whose(lid)} port {what}"
         if lid in self.ends and kind == "arrives" and what != self.ends[lid]:
-            yield f"wrong {self.name(place)} {lid} {self.port(what)}"
+            yield f"wrong {self.name(place)} {self.whose(lid)} {self.port(what)}"
         ring = self.loop(place, lid) if kind == "goes" else None
         if ring and min(ring) == place:
-            yield f"loop {lid} {' '.join(map(self.name, ring))}"
+            yield f"loop {self.whose(lid)} {' '.join(map(self.name, ring))}"
 
     def circle(self, lids):
         """The shortest circle through the least channel that is on one, by the least channel at each step."""
@@ -178,25 +249,35 @@ class Net:
         """A row gives the LID to a channel adapter or a switch that the topology lacks."""
         return lid not in self.ends and self.kinds(lid) & {"Channel Adapter", "Switch"}
 
+    def knows_next(self, place, lid):
+        """The entry is known of the switch to which this one sends the LID, if there is one."""
+        kind, what = self.turn(place, lid)
+        return kind != "goes" or self.turn(what, lid)[0] != "unknown"
+
     def audit(self):
         """The lines, and the status."""
-        adapters = [lid for lid in self.lids if lid in self.ends and not self.is_switch(self.ends[lid][0])]
+        hosts = [lid for lid in self.lids if lid in self.ends and self.is_host(self.ends[lid][0])]
+        aggregation = [lid for lid in self.lids if lid in self.ends and self.nodes[self.ends[lid][0]].is_aggregation]
         own = [lid for lid in self.lids if lid in self.ends and self.is_switch(self.ends[lid][0])]
-        ring = self.circle([lid for lid in self.lids if lid not in own])
+        others = [lid for lid in self.lids if lid not in own]
+        ring = self.circle(others)
         other = None if ring else self.circle(self.lids)
         lines = list(self.files())
         unnamed = any(line.startswith("no-lid") for line in lines)
         lines += [line for place in self.switches for lid in self.lids for line in self.trouble(place, lid)]
-        lines += [f"deadlock {' '.join(map(self.port, ring))}"] if ring else []
-        lines += [f"deadlock switch-lids {' '.join(map(self.port, other))}"] if other else []
+        lines += [self.circle_line("deadlock", ring, others)] if ring else []
+        lines += [self.circle_line("deadlock switch-lids", other, self.lids)] if other else []
         transit = [place for place in self.switches if place not in self.attached]
         groups = [
-            ("adapters", [(place, lid) for place in self.attached for lid in adapters], ", deadlock" if ring else ", no deadlock"),
-            ("transit", [(place, lid) for place in transit for lid in adapters], ""),
+            ("adapters", [(place, lid) for place in self.attached for lid in hosts], ", deadlock" if ring else ", no deadlock"),
+            ("transit", [(place, lid) for place in transit for lid in hosts], ""),
+            ("aggregation", [(place, lid) for place in self.switches for lid in aggregation], ""),
             ("switches", [(place, lid) for place in self.switches for lid in own], ""),
         ]
         groups.append(("audit", [pair for _, pairs, _ in groups for pair in pairs], ", deadlock" if ring or other else ", no deadlock"))
         for title, pairs, words in groups:
+            if title == "aggregation" and not pairs:
+                continue
             fates = collections.Counter(self.fate(place, lid) for place, lid in pairs)
             kinds = [("reached", "reached"), ("hole", "holes"), ("nowhere", "nowhere"), ("wrong", "wrong"), ("loop", "loops"), ("unknown", "unknown")]
             lines.append(f"{title}: {len(pairs)} pairs, " + ", ".join(f"{fates[kind]} {word}" for kind, word in kinds) + words)
@@ -208,6 +289,7 @@ class Net:
                 ("unreached", all(self.fate(*pair) == "reached" for pair in groups[0][1])),
                 ("deadlock", not ring),
                 ("mismatch", self.tables and guids == set(self.tables) and not any(map(self.lacks, self.lids))),
+                ("unknown", all(self.knows_next(place, lid) for place in self.switches for lid in others)),
             ]
             if not holds
         ]

@@ -144,14 +144,14 @@ import_given rows manager call is = by (first_of (codes "NETDISCOVER") rows) ref
     by (Some netdiscover) n None is = absurd cc
     by None n guid is = absurd cc
 
-audit_given : (rows : List Row) → IsGiven rows (audit_by (first_of (codes "TOPO") rows) (first_of (codes "DUMP") rows))
-audit_given rows call is = by (first_of (codes "TOPO") rows) refl (first_of (codes "DUMP") rows) refl is
+audit_given : (rows : List Row) → IsGiven rows (audit_by (first_of (codes "FABRIC") rows) (first_of (codes "DUMP") rows))
+audit_given rows call is = by (first_of (codes "FABRIC") rows) refl (first_of (codes "DUMP") rows) refl is
   where
-    by : (topology : Option Text) → first_of (codes "TOPO") rows ≡ topology → (dump : Option Text) → first_of (codes "DUMP") rows ≡ dump
+    by : (topology : Option Text) → first_of (codes "FABRIC") rows ≡ topology → (dump : Option Text) → first_of (codes "DUMP") rows ≡ dump
         → audit_by topology dump ≡ Some call → All (IsWordOf rows) (opened_for (Ok call))
     by (Some topology) t (Some dump) d is =
         subst (λ (asked : Call Names Text). All (IsWordOf rows) (opened_for (Ok asked))) (same_call _ call is)
-        (All-cons (IsWordOf rows) topology (dump ∷ []) (codes "TOPO", t)
+        (All-cons (IsWordOf rows) topology (dump ∷ []) (codes "FABRIC", t)
         (All-cons (IsWordOf rows) dump [] (codes "DUMP", d) (All-nil (IsWordOf rows))))
     by (Some topology) t None d is = absurd cc
     by None t dump d is = absurd cc

@@ -74,7 +74,7 @@ abbrev pub import_command : App
 import_command = with_rule (with_rule (new_app (codes "import")) (wanted (codes "NETDISCOVER"))) manager_option
 
 abbrev pub audit_command : App
-audit_command = with_rule (with_rule (new_app (codes "audit")) (wanted (codes "TOPO"))) (wanted (codes "DUMP"))
+audit_command = with_rule (with_rule (new_app (codes "audit")) (wanted (codes "FABRIC"))) (wanted (codes "DUMP"))
 
 -- `--all`
 abbrev pub all_flag : Rule

@@ -112,6 +112,9 @@ help_of_second_end = codes "The switch port at its other end"
 abbrev pub help_of_cuts : List ℕ
 help_of_cuts = codes "Draws in red the cables that the fabric cannot do without"
 
+abbrev pub help_of_fabric : List ℕ
+help_of_fabric = codes "What ibnetdiscover printed of the fabric, or its topology"
+
 abbrev pub help_of_all : List ℕ
 help_of_all = codes "Lists each pair of ports, however many a partition has"
 

@@ -188,7 +188,7 @@ call_in command.Smp rows = in_subnet rows (smps_by (first_of (codes "SMPS") rows
 call_in command.Compare rows = in_subnet rows (compare_by rows)
 call_in command.Cuts rows = in_subnet rows (cuts_by (first_of (codes "PORT") rows) (first_of (codes "PORT2") rows))
 call_in command.Import rows = import_by (first_of (codes "NETDISCOVER") rows) (guid_by (first_of (codes "SM") rows))
-call_in command.Audit rows = audit_by (first_of (codes "TOPO") rows) (first_of (codes "DUMP") rows)
+call_in command.Audit rows = audit_by (first_of (codes "FABRIC") rows) (first_of (codes "DUMP") rows)
 call_in command.AuditKeys rows = audit_keys_by rows
 call_in command.Explain rows = explain_by (first_of (codes "CODE") rows)
 

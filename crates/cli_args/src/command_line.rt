@@ -13,7 +13,7 @@ ghost use Rattle.cli_args.specs.Help.{about_program, about_run, about_smp};
 ghost use Rattle.cli_args.specs.Help.{about_shares, about_tables, about_trace, help_of_code, help_of_dlid, help_of_key};
 ghost use Rattle.cli_args.specs.Help.{help_of_compared, help_of_first_script, help_of_partitions, help_of_second_script};
 ghost use Rattle.cli_args.specs.Help.{help_of_all, help_of_cuts, help_of_dump, help_of_first_end, help_of_second_end};
-ghost use Rattle.cli_args.specs.Help.{help_of_manager, help_of_netdiscover, help_of_pkeys, help_of_port, help_of_script, help_of_script_before, help_of_smps};
+ghost use Rattle.cli_args.specs.Help.{help_of_fabric, help_of_manager, help_of_netdiscover, help_of_pkeys, help_of_port, help_of_script, help_of_script_before, help_of_smps};
 ghost use Rattle.cli_args.specs.Help.{help_of_second_partitions, help_of_sender, help_of_topology};
 ghost use Rattle.cli_args.specs.Help.{program_name, program_version, text_in};
 ghost use Rattle.cli_args.specs.Refusals.{IsShown};
@@ -211,6 +211,18 @@ fn cuts_flag<'a>(alloc: Global) -> Arg<'a>
         .long("cuts")
         .action(ArgAction::SetTrue)
         .help("Draws in red the cables that the fabric cannot do without")
+}
+
+fn wanted_fabric<'a>(alloc: Global) -> Arg<'a>
+    ensures global { result.global ≡ false }
+    ensures rule { rule_of result ≡ wanted (codes "FABRIC") }
+    ensures help { text_in result.help ≡ Some help_of_fabric }
+{
+    wanted(
+        alloc,
+        "FABRIC",
+        "What ibnetdiscover printed of the fabric, or its topology",
+    )
 }
 
 fn all_flag<'a>(alloc: Global) -> Arg<'a>
@@ -472,7 +484,7 @@ fn audit_command<'a>(alloc: Global) -> Result<Command<'a>, AllocError>
     ensures about { IfOk result (λ command. text_in (fields_of command).about ≡ Some about_audit) }
     ensures help { IfOk result (λ command. text_in (fields_of command).after_help ≡ Some AUDIT.now) }
 {
-    let found = with_arg(Ok(Command::new(alloc, "audit")), wanted_topology(alloc));
+    let found = with_arg(Ok(Command::new(alloc, "audit")), wanted_fabric(alloc));
     described(with_arg(found, wanted_dump(alloc)), ABOUT_AUDIT, AUDIT)
 }
 

@@ -344,51 +344,60 @@ a fabric that no topology describes.
 );
 
 pub(crate) const AUDIT: &str = with_statuses!(
-    "The LFTs are judged as they are, whichever SM wrote them; nothing is brought up. Routes are safe, and
-the status is 0, if and only if
+    "FABRIC is what ibnetdiscover printed, of a fabric of any size, or a topology. The LFTs are judged as they
+are, whichever SM wrote them; nothing is brought up. Routes are safe, and the status is 0, if and only
+if
   - each CA port that has a cable has a LID,
-  - from every switch to which a CA is attached, the LFTs lead to each of these LIDs,
+  - from every switch to which a CA is attached, the LFTs lead to each of these LIDs (aggregation nodes
+    are left out on both sides),
   - there is no credit loop along all LIDs except the switches' own,
-  - the dump and the topology have the same switches and CA ports.
+  - the dump and FABRIC have the same switches and CA ports,
+  - where a switch sends such a LID to another switch, the entry there is known.
 Otherwise the status is 1, and nothing is written on standard error. Credit loops are judged as if all
-packets used one virtual lane; multicast is not judged.
+packets used one virtual lane; multicast is not judged. Routers count as CAs. Behind a LID stands its
+port, if one is known.
 
 First comes what one file has and the other lacks:
+  # passed over: PORT PORT     a cable between these joins no switch
   no-table SWITCH             the dump has no table of this switch
-  no-switch GUID              the dump has a table of a switch that the topology lacks
-  no-port LID GUID            the LID is of a port that the topology lacks
+  no-switch GUID              the dump has a table of a switch that FABRIC lacks
+  no-port LID GUID            the LID is of a port that FABRIC lacks
   no-lid PORT                 no row has a LID of this CA port, which has a cable
   untold LID                  dump_fts leaves out the last LID of a table if it is a multiple of 64
 
 Then what is wrong at each switch, LID by LID:
-  hole SWITCH LID             it has no port for the LID
-  nowhere SWITCH LID port P   that port has no cable
-  wrong SWITCH LID PORT       it leads to another end port, PORT
-  loop LID SWITCH SWITCH ..   the entries form a loop through these switches
+  hole SWITCH LID (PORT)      it has no port for the LID
+  left-out SWITCH LID (PORT)  the dump has no row, and the switch has 128 ports or more: ask ibroute
+  nowhere SWITCH LID (PORT) port P  that port has no cable
+  wrong SWITCH LID (PORT) PORT      it leads to another end port, the last one
+  loop LID (PORT) SWITCH SWITCH ..  the entries form a loop through these switches
   stray SWITCH LID            it has a port for a LID that is nobody's
 
-Then, if there is one, a credit loop, as the ports along it:
-  deadlock PORT PORT ..              along all LIDs except the switches' own
-  deadlock switch-lids PORT PORT ..  along all LIDs, if there is none without those; decides nothing
+Then, if there is one, a credit loop, as the ports along it. Each waits for the next one by one of the
+LIDs behind them, and the last port for the first one:
+  deadlock PORT PORT .. by LIDs LID (PORT) ..   along all LIDs except the switches' own
+  deadlock switch-lids PORT PORT .. by LIDs ..  along all LIDs, if there is none without those;
+                                                decides nothing
 
 Last come counts of pairs of a switch and a LID, by what happens to a packet from there:
   adapters: N pairs, N reached, N holes, N nowhere, N wrong, N loops, N unknown, no deadlock
   transit: N pairs, ..
+  aggregation: N pairs, ..
   switches: N pairs, ..
   audit: N pairs, ..
   verdict: safe, as if all packets used one virtual lane; multicast is not judged
 
 The pairs of `adapters:` are of a switch to which a CA is attached and a CA's LID, and only these
-decide; those of `transit:` are of another switch and a CA's LID; those of `switches:` are of a
-switch's LID; those of `audit:` are all. If routes are not safe, the last line begins with
-`verdict: not safe (REASON, ..), as if`; the reasons are no-lid, unreached, deadlock and mismatch,
-for the four conditions above.
+decide; those of `transit:` are of another switch and a CA's LID. Aggregation nodes are no CAs here:
+`aggregation:`, printed if there are any, counts pairs of a switch and the LID of one. Those of
+`switches:` are of a switch's LID; those of `audit:` are all. If routes are not safe, the last line
+begins with `verdict: not safe (REASON, ..), as if`; the reasons are no-lid, unreached, deadlock,
+mismatch and unknown, for the five conditions above.
 
 For example, for your own fabric:
   ibnetdiscover >discovered
-  fabric import discovered >topology
   dump_fts >tables
-  fabric audit topology tables
+  fabric audit discovered tables
 
 ",
     "help",

@@ -142,7 +142,7 @@ fn call_of<'a>(command: Subcommand, found: &ArgMatches<'a>) -> Option<Call<Asked
             in_subnet(found, ends)
         }
         Subcommand::Import => import_by(word_of(found, "NETDISCOVER"), word_of(found, "SM")),
-        Subcommand::Audit => audit_by(word_of(found, "TOPO"), word_of(found, "DUMP")),
+        Subcommand::Audit => audit_by(word_of(found, "FABRIC"), word_of(found, "DUMP")),
         Subcommand::AuditKeys => audit_keys(found),
         Subcommand::Explain => explain_by(word_of(found, "CODE")),
     }

@@ -63,7 +63,7 @@ use Rattle.fabric_cli.specs.declared.answering.Answer.TheVariants.{Complete, War
 use Rattle.fabric_parts.specs.declared.limits.Limits.TheVariants.{Large}
 use Rattle.dump_file.specs.Dump.{DumpState, dump_of}
 use Rattle.dump_file.specs.declared.fault.DumpCause.{DumpCause}
-use Rattle.route_audit.specs.Audit.{AuditState, audit}
+use Rattle.route_audit.specs.Audit.{AuditState, audit, audit_discovery}
 use Rattle.keys_audit.specs.Text.{KeysAuditState, keys_audit}
 use Rattle.pkeys_file.specs.Answers.{answers_of}
 use Rattle.pkeys_file.specs.declared.answer.Answer.{Answer as KeysAnswer}
@@ -74,7 +74,7 @@ use Rattle.partition_file.specs.declared.fault.PartitionCause.{PartitionCause}
 use Rattle.partition_file.specs.declared.partition.Partition.{Partition}
 use Rattle.topo_file.specs.Fault.{code_of as topology_code}
 use Rattle.topo_file.specs.declared.fault.TopologyCause.{TopologyCause}
-use Rattle.netdiscover_file.specs.Discovery.{DiscoveryState, discovery_of}
+use Rattle.netdiscover_file.specs.Discovery.{DiscoveryState, discovery_of, is_discovery}
 use Rattle.netdiscover_file.specs.declared.fault.DiscoveryCause.{DiscoveryCause}
 use Rattle.topology_import.specs.Import.{import_of}
 use Rattle.topology_import.specs.declared.fault.ImportCause.{ImportCause}
@@ -297,7 +297,7 @@ imported_from manager (Err at) = faulted 1 (foreign_line (Discovery at.cause) at
 abbrev pub imported : Option ℕ → List ℕ → Ending
 imported manager text = imported_from manager (discovery_of text)
 
--- ---- the LFTs of a topology's fabric, which is not brought up
+-- ---- the LFTs of the fabric of a topology or a discovery, which is not brought up
 abbrev pub audit_ending : AuditState → Ending
 audit_ending found = if found.is_safe then complete found.text else warned found.text
 
@@ -310,8 +310,18 @@ abbrev pub audited_over : Result TopologyState (AtLine TopologyCause) → List �
 audited_over (Ok plan) dump = audited_by plan (dump_of dump)
 audited_over (Err at) dump = faulted 1 (topology_line (topology_code at.cause) at.line)
 
+abbrev pub audited_of : DiscoveryState → Result DumpState (AtLine DumpCause) → Ending
+audited_of found (Ok dump) = audit_ending (audit_discovery found dump)
+audited_of found (Err at) = faulted 1 (foreign_line (Dump at.cause) at.line)
+
+abbrev pub audited_from : Result DiscoveryState (AtLine DiscoveryCause) → List ℕ → Ending
+audited_from (Ok found) dump = audited_of found (dump_of dump)
+audited_from (Err at) dump = faulted 1 (foreign_line (Discovery at.cause) at.line)
+
+-- a text that heads a node as `ibnetdiscover` does is a discovery, any other a topology
 abbrev pub audited : List ℕ → List ℕ → Ending
-audited topology dump = audited_over (topology_within Large topology) dump
+audited fabric dump =
+    if is_discovery fabric then audited_from (discovery_of fabric) dump else audited_over (topology_within Large fabric) dump
 
 -- ---- the P_Key tables of a discovery's fabric, which is not brought up, against a partition file
 abbrev pub keys_ending : KeysAuditState → Ending

@@ -8,9 +8,12 @@ ghost use Rattle.cli_args.specs.declared.call.Inspection.TheVariants.{Graph as I
 ghost use Rattle.cli_args.specs.declared.call.Work.TheVariants as work;
 ghost use Rattle.fabric_cli.specs.Faults.{IsOfRun};
 ghost use Rattle.fabric_cli.specs.Serving.{asked_port, changes_in, looked_at, second_stop, shares_in, texts_with, traced};
-ghost use Rattle.fabric_cli.specs.Serving.{ComesTo, CutComes, EndsIn, audit_ending, audited, audited_by, audited_over, comparison_text, discovery_stop, dump_stop};
+ghost use Rattle.fabric_cli.specs.Serving.{ComesTo, CutComes, EndsIn, audit_ending, audited, audited_by, audited_from, audited_of, audited_over, comparison_text, discovery_stop, dump_stop};
 ghost use Rattle.fabric_cli.specs.Serving.{ended, import_stop, imported, imported_as, topology_stop, yes_or_no};
 ghost use Rattle.dump_file.specs.Dump.{dump_of};
+ghost use Rattle.fabric_parts.specs.declared.limits.Limits.TheVariants.{Large};
+ghost use Rattle.netdiscover_file.specs.Discovery.{discovery_of};
+ghost use Rattle.topo_file.specs.Topology.{topology_within};
 ghost use Rattle.topology_import.specs.Import.{import_of};
 ghost use Rattle.fabric_cli.specs.declared.faults.Stop.TheVariants.{NoMemory};
 ghost use Rattle.subnet_core.specs.BringUp.{up_in};
@@ -24,11 +27,11 @@ use dump_file::DumpFault;
 use fabric_graph::graph_text;
 use fabric_parts::Limits;
 use fabric_tables::{keys_text, tables_text};
-use netdiscover_file::{Discovery, DiscoveryFault};
+use netdiscover_file::{Discovery, DiscoveryFault, is_discovery};
 use packet_trace::trace_text;
 use partition_changes::changes_text;
 use port_shares::listed_shares;
-use route_audit::{Audit, audit};
+use route_audit::{Audit, audit, audit_discovery};
 use script_lines::named_cable;
 use std::alloc::{AllocError, Global};
 use subnet_core::{
@@ -395,14 +398,44 @@ pub fn import_stop<'a>(error: ImportFault) -> Stop<'a>
     }
 }
 
-/// The audit of a dump's LFTs for a topology.
-pub fn audited<'a>(alloc: Global, topology: &[u8], dump: &[u8]) -> Result<Audit, Stop<'a>>
-    ensures exact { EndsIn audit_ending (ended (audited topology.now dump.now)) result }
+/// The audit of a dump's LFTs for a topology, or for what `ibnetdiscover` printed.
+pub fn audited<'a>(alloc: Global, fabric: &[u8], dump: &[u8]) -> Result<Audit, Stop<'a>>
+    ensures exact { EndsIn audit_ending (ended (audited fabric.now dump.now)) result }
+    ensures fault { IfErr result IsOfRun }
+{
+    if is_discovery(fabric) {
+        return audited_from(alloc, fabric, dump);
+    }
+    audited_over_topology(alloc, fabric, dump)
+}
+
+fn audited_over_topology<'a>(alloc: Global, topology: &[u8], dump: &[u8]) -> Result<Audit, Stop<'a>>
+    ensures exact { EndsIn audit_ending (ended (audited_over (topology_within Large topology.now) dump.now)) result }
     ensures fault { IfErr result IsOfRun }
 {
     match topo_file::read_within(alloc, topology, Limits::Large) {
         Ok(plan) => audited_over(alloc, &plan, dump),
         Err(fault) => Err(topology_stop(fault)),
+    }
+}
+
+fn audited_from<'a>(alloc: Global, netdiscover: &[u8], dump: &[u8]) -> Result<Audit, Stop<'a>>
+    ensures exact { EndsIn audit_ending (ended (audited_from (discovery_of netdiscover.now) dump.now)) result }
+    ensures fault { IfErr result IsOfRun }
+{
+    match netdiscover_file::read(alloc, netdiscover) {
+        Ok(found) => audited_of(alloc, &found, dump),
+        Err(fault) => Err(discovery_stop(fault)),
+    }
+}
+
+fn audited_of<'a>(alloc: Global, found: &Discovery, dump: &[u8]) -> Result<Audit, Stop<'a>>
+    ensures exact { EndsIn audit_ending (ended (audited_of found.now (dump_of dump.now))) result }
+    ensures fault { IfErr result IsOfRun }
+{
+    match dump_file::read(alloc, dump) {
+        Ok(dump) => Ok(audit_discovery(alloc, found, &dump)?),
+        Err(fault) => Err(dump_stop(fault)),
     }
 }
 

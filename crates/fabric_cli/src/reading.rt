@@ -40,7 +40,7 @@ pub fn open_file<'a, F: Files>(
     }
 }
 
-/// The bytes of two named files, each opened once; the second may be big.
+/// The bytes of two named files, each opened once; both may be big.
 pub fn read_two<'a, F: Files>(
     alloc: Global,
     files: &mut F,
@@ -55,7 +55,7 @@ pub fn read_two<'a, F: Files>(
     ensures unread { IfErr result (NamesUnread (F.reported files.old) (F.reads files.old)
         (F.opened files.old) (F.opened files.new) (first.entry.now ∷ second.entry.now ∷ [])) }
 {
-    let one = read_file(alloc, files, first, TextSize::Plain)?;
+    let one = read_file(alloc, files, first, TextSize::Big)?;
     let other = read_file(alloc, files, second, TextSize::Big)?;
     Ok((one, other))
 }

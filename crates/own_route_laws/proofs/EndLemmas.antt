@@ -39,7 +39,7 @@ use Rattle.topo_file.specs.Sound.{IsSound, is_port}
 use Rattle.topo_file.specs.Topology.{TopologyState}
 use Rattle.updn_routes.specs.Routes.{home_of}
 use Rattle.updn_routes.specs.Subnet.{RoutesState, home_in}
-use Rattle.route_audit.specs.Lids.{port_of}
+use Rattle.route_audit.specs.Plan.{ends_of, port_of}
 use Rattle.own_route_laws.proofs.GuidLemmas.{port_of_end}
 use Rattle.own_route_laws.proofs.StandLemmas.{Stands, few, attachment}
 
@@ -232,12 +232,12 @@ module _ (plan : TopologyState) (sound : IsSound plan) (keys : List (List ℕ)) 
           let held = (graphs_have_the_end_ports was graph one.one (good plan sound) up.are.found.of.layout).0 (there_is (end_ports_in graph) one.place one.one one.there) in
           record { at = held.0; end = one.one; is = held.1; guid_is = eqb-true one.one.guid guid one.passes }
 
-  pub is_attached_at : (lid guid : ℕ) (end : PortRef) → guid_in routes.lids lid ≡ Some guid → port_of plan.nodes guid ≡ Some end → Attached lid end
+  pub is_attached_at : (lid guid : ℕ) (end : PortRef) → guid_in routes.lids lid ≡ Some guid → port_of (ends_of plan.nodes) guid ≡ Some end → Attached lid end
   is_attached_at lid guid end named is =
       let has = has_end lid guid named in
       let of = planned plan has.at has.end has.is in
       let same : has.at ≡ end =
-      same_Some has.at end (sym (port_of_end plan sound has.at of.ends) ∙ ap (port_of plan.nodes) (of.guid_is ∙ has.guid_is) ∙ is) in
+      same_Some has.at end (sym (port_of_end plan sound has.at of.ends) ∙ ap (port_of (ends_of plan.nodes)) (of.guid_is ∙ has.guid_is) ∙ is) in
       subst (Attached lid) same (by has of.ends (is_switch_at plan.nodes has.at.node) refl)
     where
       by : (has : HasEnd guid) → is_end_port plan has.at ≡ true → (b : Bool) → is_switch_at plan.nodes has.at.node ≡ b → Attached lid has.at

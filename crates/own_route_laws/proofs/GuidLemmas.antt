@@ -17,7 +17,8 @@ use Rattle.topo_file.specs.Node.{last_guid, port_guid_at, port_guids, shares_gui
 use Rattle.topo_file.specs.Sound.{IsSound}
 use Rattle.topo_file.specs.Topology.{TopologyState}
 use Rattle.topo_file.specs.declared.node.Node.{Node}
-use Rattle.route_audit.specs.Lids.{number_in, port_from, port_of}
+use Rattle.route_audit.specs.Plan.{ends_of, port_of}
+use Rattle.route_audit.proofs.TopologyEndLemmas.{found_by_node, number_in, port_from}
 
 -- ---- a GUID of a node is one of those from its first to its last
 abbrev number_of : NodeType → ℕ → ℕ → ℕ → Option ℕ
@@ -92,10 +93,10 @@ numbered node_type.ChannelAdapter first ports number cabled ends =
     rw within (ap (λ (n : ℕ). Some n) back)
 
 pub port_of_end : (plan : TopologyState) → IsSound plan → (at : PortRef) → is_end_port plan at ≡ true
-    → port_of plan.nodes (port_guid_at plan.nodes at) ≡ Some at
-port_of_end plan sound at ends = by (slice_get plan.nodes at.node) refl
+    → port_of (ends_of plan.nodes) (port_guid_at plan.nodes at) ≡ Some at
+port_of_end plan sound at ends = found_by_node plan.nodes (port_guid_at plan.nodes at) ∙ by (slice_get plan.nodes at.node) refl
   where
-    by : (o : Option Node) → slice_get plan.nodes at.node ≡ o → port_of plan.nodes (port_guid_at plan.nodes at) ≡ Some at
+    by : (o : Option Node) → slice_get plan.nodes at.node ≡ o → port_from (port_guid_at plan.nodes at) 0 plan.nodes ≡ Some at
     by None there =
         let none : (nat_le 1 at.port && nat_le at.port 0) && is_cabled plan.cables at ≡ true = rw there at ends in
         let numbers = and_parts (nat_le 1 at.port) (nat_le at.port 0) (and_parts _ (is_cabled plan.cables at) none).0 in
@@ -105,7 +106,7 @@ port_of_end plan sound at ends = by (slice_get plan.nodes at.node) refl
         rw there at ends in
         let guid : port_guid_at plan.nodes at ≡ node.guid + at.port = ap (λ (o : Option Node). option_map_or (λ one. one.guid + at.port) o 0) there in
         let none_more : 0 + at.node ≡ at.node = omega arith in
-        ap (port_of plan.nodes) guid
+        ap (λ (g : ℕ). port_from g 0 plan.nodes) guid
         ∙ port_is plan.nodes 0 at.node (node.guid + at.port) at.port node sound.lines.own_guids there
         (numbered node.node_type node.guid node.ports at.port (is_cabled plan.cables at) is_end)
         ∙ ap (λ (m : ℕ). Some (port m at.port)) none_more

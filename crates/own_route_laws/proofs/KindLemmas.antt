@@ -13,8 +13,9 @@ use Rattle.fabric_parts.specs.declared.cable.PortRef.{PortRef}
 use Rattle.lid_assign.specs.Lids.{guid_in}
 use Rattle.step_results.proofs.ListLemmas.{list_all_weaker}
 use Rattle.route_audit.specs.Laws.{end_port_of}
-use Rattle.route_audit.specs.Lids.{end_by, if_of_kind, is_of_kind, number_in, port_from, port_of, says_kind}
+use Rattle.route_audit.specs.Lids.{end_by, if_of_kind, is_of_kind, says_kind}
 use Rattle.route_audit.specs.Net.{NetState, row_at, row_of}
+use Rattle.route_audit.specs.Plan.{ends_of, port_of}
 use Rattle.smp_wire.specs.FabricState.{FabricState}
 use Rattle.smp_wire.specs.declared.node.Node.TheVariants.{Switch}
 use Rattle.subnet_fabric.specs.BringUp.{IsBroughtUpBy}
@@ -32,6 +33,7 @@ use Rattle.own_route_laws.specs.Shown.{held_entry}
 use Rattle.own_route_laws.proofs.DumpLemmas.{has_place, table_there}
 use Rattle.own_route_laws.proofs.GuidLemmas.{port_is}
 use Rattle.own_route_laws.proofs.HeldLemmas.{holds}
+use Rattle.route_audit.proofs.TopologyEndLemmas.{found_by_node, number_in, port_from}
 use Rattle.own_route_laws.proofs.RingLemmas.{kept}
 use Rattle.own_route_laws.proofs.ShownLemmas.{no_row, row_found}
 use Rattle.own_route_laws.proofs.StandLemmas.{place_for}
@@ -80,7 +82,7 @@ own_guid guid number node switch is = by (guid == node.guid) refl (rw switch at 
     by true same found = sym (eqb-true guid node.guid same)
     by false same found = absurd (none-some number found)
 
-is_switchs_true : (nodes : List Node) (guid : ℕ) (end : PortRef) → port_of nodes guid ≡ Some end → is_switch_at nodes end.node ≡ true → is_switchs nodes guid ≡ true
+is_switchs_true : (nodes : List Node) (guid : ℕ) (end : PortRef) → port_from guid 0 nodes ≡ Some end → is_switch_at nodes end.node ≡ true → is_switchs nodes guid ≡ true
 is_switchs_true nodes guid end found switch =
     let at = port_at nodes guid 0 end found in
     let from_first : 0 + at.k ≡ at.k = omega arith in
@@ -94,24 +96,24 @@ of_switch : (guid : ℕ) (node : Node) → is_switch node ≡ true → node.guid
 of_switch guid node switch same = rw (switch, eq-eqb guid node.guid (sym same)) refl
 
 module _ (plan : TopologyState) (sound : IsSound plan) where
-  pub is_switchs_by : (guid : ℕ) (end : PortRef) → port_of plan.nodes guid ≡ Some end → is_switchs plan.nodes guid ≡ is_switch_at plan.nodes end.node
+  pub is_switchs_by : (guid : ℕ) (end : PortRef) → port_of (ends_of plan.nodes) guid ≡ Some end → is_switchs plan.nodes guid ≡ is_switch_at plan.nodes end.node
   is_switchs_by guid end found = by (is_switch_at plan.nodes end.node) refl (is_switchs plan.nodes guid) refl
     where
       by : (kind : Bool) → is_switch_at plan.nodes end.node ≡ kind → (b : Bool) → is_switchs plan.nodes guid ≡ b → is_switchs plan.nodes guid ≡ is_switch_at plan.nodes end.node
-      by true switch b is = is_switchs_true plan.nodes guid end found switch ∙ sym switch
+      by true switch b is = is_switchs_true plan.nodes guid end (sym (found_by_node plan.nodes guid) ∙ found) switch ∙ sym switch
       by false adapter false is = is ∙ sym adapter
       by false adapter true is =
           let one = any_at (λ (node : Node). is_switch node && (node.guid == guid)) plan.nodes is in
           let parts = and_parts (is_switch one.one) _ one.passes in
           let here = port_is plan.nodes 0 one.place guid 0 one.one sound.lines.own_guids one.there (of_switch guid one.one parts.0 (eqb-true one.one.guid guid parts.1)) in
-          let same : port (0 + one.place) 0 ≡ end = same_Some (port (0 + one.place) 0) end (sym here ∙ found) in
+          let same : port (0 + one.place) 0 ≡ end = same_Some (port (0 + one.place) 0) end (sym here ∙ (sym (found_by_node plan.nodes guid) ∙ found)) in
           let from_first : one.place ≡ 0 + one.place = omega arith in
           let node_is : one.place ≡ end.node = from_first ∙ ap (λ (p : PortRef). p.node) same in
           absurd (false≢true (sym adapter ∙ ap (is_switch_at plan.nodes) (sym node_is)
           ∙ ap (λ (o : Option Node). option_map_or is_switch o false) one.there ∙ parts.0))
 
   -- ---- so a row says it
-  kind_said : (guid : ℕ) (end : PortRef) → port_of plan.nodes guid ≡ Some end → is_of_kind (is_switch_at plan.nodes end.node) (destination_of plan.nodes guid) ≡ true
+  kind_said : (guid : ℕ) (end : PortRef) → port_of (ends_of plan.nodes) guid ≡ Some end → is_of_kind (is_switch_at plan.nodes end.node) (destination_of plan.nodes guid) ≡ true
   kind_said guid end found = by (is_switchs plan.nodes guid) refl
     where
       by : (b : Bool) → is_switchs plan.nodes guid ≡ b → is_of_kind (is_switch_at plan.nodes end.node) (destination_of plan.nodes guid) ≡ true
@@ -135,7 +137,7 @@ module _ (plan : TopologyState) (sound : IsSound plan) where
         by false some =
             let at = has_place routes.lids lid guid named in rw some (row_found plan.nodes routes.lids held routes.lids 1 (lid - 1) lid guid at.0 at.1 some)
 
-    says_its_kind : (lid guid : ℕ) (end : PortRef) → guid_in routes.lids lid ≡ Some guid → port_of plan.nodes guid ≡ Some end → (place : ℕ)
+    says_its_kind : (lid guid : ℕ) (end : PortRef) → guid_in routes.lids lid ≡ Some guid → port_of (ends_of plan.nodes) guid ≡ Some end → (place : ℕ)
         → is_switch_at plan.nodes place ≡ true → says_kind net lid (is_switch_at plan.nodes end.node) place ≡ true
     says_its_kind lid guid end named found place switch =
         let at = place_for plan sound routes.graph up.are.found.of place switch in
@@ -150,7 +152,7 @@ module _ (plan : TopologyState) (sound : IsSound plan) where
         by entry true = refl
         by entry false = kind_said guid end found
 
-    pub all_say_kind : (lid guid : ℕ) (end : PortRef) → guid_in routes.lids lid ≡ Some guid → port_of plan.nodes guid ≡ Some end
+    pub all_say_kind : (lid guid : ℕ) (end : PortRef) → guid_in routes.lids lid ≡ Some guid → port_of (ends_of plan.nodes) guid ≡ Some end
         → list_all (says_kind net lid (is_switch_at plan.nodes end.node)) (switches plan.nodes) ≡ true
     all_say_kind lid guid end named found =
         list_all_weaker (is_switch_at plan.nodes) (says_kind net lid (is_switch_at plan.nodes end.node)) (says_its_kind lid guid end named found)
@@ -158,7 +160,7 @@ module _ (plan : TopologyState) (sound : IsSound plan) where
 
     -- the end port of a LID that some row reports
     pub with_end_set : (lid guid : ℕ) (end : PortRef) → end_of lid (rows_of net.dump.tables) ≡ Some guid → guid_in routes.lids lid ≡ Some guid
-        → port_of plan.nodes guid ≡ Some end → end_port_of net lid ≡ Some end
+        → port_of (ends_of plan.nodes) guid ≡ Some end → end_port_of net lid ≡ Some end
     with_end_set lid guid end said named found =
         ap (end_by net lid) said ∙ ap (option_and_then (if_of_kind net lid)) found
         ∙ ap (λ (b : Bool). if b then Some end else None) (all_say_kind lid guid end named found)

@@ -13,8 +13,10 @@ use Rattle.lid_assign.specs.Lids.{adapter_end as port_end, end_ports, guid_in, l
 use Rattle.pkey_rules.specs.declared.end_port.EndPort.{EndPort}
 use Rattle.step_results.proofs.RangeLemmas.{get_kept}
 use Rattle.step_results.proofs.ListLemmas.{all_have}
-use Rattle.route_audit.specs.Laws.{CarriesAnAdapter, end_port_of}
+use Rattle.route_audit.specs.Laws.{CarriesAHost, end_port_of}
 use Rattle.route_audit.specs.Net.{NetState}
+use Rattle.route_audit.specs.Plan.{plan_of}
+use Rattle.route_audit.proofs.PlanLemmas.{host_is_no_switch}
 use Rattle.smp_wire.specs.FabricState.{FabricState}
 use Rattle.subnet_fabric.specs.BringUp.{IsBroughtUpBy}
 use Rattle.subnet_model.specs.EndPorts.{lid_of}
@@ -106,12 +108,13 @@ module _ (plan : TopologyState) (sound : IsSound plan) (keys : List (List ℕ)) 
       (slice_get-map (port_end graph.manager) graph.ports index ∙ ap (option_map (port_end graph.manager)) there))
       refl (port_home graph index one up.home.graph there)
 
-  -- ---- the switch carries an adapter
-  carried : (dump : DumpState) (node place : ℕ) → Stands all node place → CarriesAnAdapter (over plan dump) node → carries homes place ≡ true
+  -- ---- the switch carries a host
+  carried : (dump : DumpState) (node place : ℕ) → Stands all node place → CarriesAHost (over plan dump) node → carries homes place ≡ true
   carried dump node place stands carrying =
       let near = port node carrying.number in
       let at = carrying.at in
-      let hung = adapter_hung plan sound keys routes fabric up at (planned_port plan at) (is_end near at carrying.cable carrying.adapter) carrying.adapter in
+      let adapter = host_is_no_switch (plan_of plan) at.node carrying.host in
+      let hung = adapter_hung plan sound keys routes fabric up at (planned_port plan at) (is_end near at carrying.cable adapter) adapter in
       let back : far_end plan.cables at ≡ Some near = good_once was near at (good plan sound) carrying.cable in
       let same : port hung.node hung.number ≡ near = same_Some (port hung.node hung.number) near (sym hung.back ∙ back) in
       let stands_too : Stands all node hung.place =
@@ -142,7 +145,7 @@ module _ (plan : TopologyState) (sound : IsSound plan) (keys : List (List ℕ)) 
             ∙ is_switch_there plan sound graph up.are.found.of h.node h.place h.stands)
         by (inr out) = omega (arith, none, out.0)
 
-    pub reached : (node : ℕ) → CarriesAnAdapter net node → is_switch_at plan.nodes end.node ≡ false → comes_to net node lid end ≡ true
+    pub reached : (node : ℕ) → CarriesAHost net node → is_switch_at plan.nodes end.node ≡ false → comes_to net node lid end ≡ true
     reached node carrying adapter =
         let at = place_for plan sound graph up.are.found.of node carrying.switch in by at.0 at.1 (next_hop routes.between at.0 lid) refl
       where

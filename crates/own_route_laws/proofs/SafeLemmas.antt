@@ -17,11 +17,13 @@ use Rattle.fabric_wire.specs.Recabling.{cabling_of}
 use Rattle.lid_assign.specs.Lids.{guid_in}
 use Rattle.step_results.proofs.ListLemmas.{all_there}
 use Rattle.route_audit.proofs.CycleLawLemmas.{no_cycle_is_missed}
+use Rattle.route_audit.proofs.GoingLemmas.{goes_leaves, next_known}
+use Rattle.route_audit.proofs.PlanLemmas.{host_is_no_switch}
 use Rattle.route_audit.proofs.SafeLemmas.{comes_there}
 use Rattle.route_audit.proofs.ReportedLemmas.{safe_routes_are_reported}
 use Rattle.route_audit.specs.Audit.{audit_of}
-use Rattle.route_audit.specs.Laws.{AreSafe, IsAdaptersEnd, IsOfKind, NameTheSame, end_port_of, other_lids}
-use Rattle.route_audit.specs.Lids.{port_of}
+use Rattle.route_audit.specs.Laws.{AreSafe, GoesTo, IsAdaptersEnd, IsOfKind, IsUnknownAt, NameTheSame, end_port_of, other_lids}
+use Rattle.route_audit.specs.Plan.{ends_of, plan_of, port_of}
 use Rattle.route_audit.specs.Lines.{has_switch}
 use Rattle.route_audit.specs.Net.{NetState, row_at, row_of, table_at}
 use Rattle.smp_wire.specs.FabricState.{FabricState}
@@ -41,7 +43,7 @@ use Rattle.topo_file.specs.Sound.{IsSound, ends_at_ports, is_port}
 use Rattle.topo_file.specs.Topology.{TopologyState}
 use Rattle.topo_file.specs.declared.node.Node.{Node as PlannedNode}
 use Rattle.updn_routes.specs.Subnet.{RoutesState}
-use Rattle.own_route_laws.specs.Laws.{OwnRoutesAreSafe, RoutesAreSafeWithCablesDown, SomeSwitchCarriesAnAdapter, over}
+use Rattle.own_route_laws.specs.Laws.{OwnRoutesAreSafe, RoutesAreSafeWithCablesDown, SomeSwitchCarriesAHost, over}
 use Rattle.own_route_laws.specs.OwnTables.{destination_of, dump_of, is_switchs, row_for, table_for, tables_for}
 use Rattle.own_route_laws.specs.Shown.{held_entry}
 use Rattle.own_route_laws.proofs.DumpLemmas.{a_dump_shows_what_is_held, named_lid, planned_there, table_there}
@@ -54,6 +56,8 @@ use Rattle.own_route_laws.proofs.NameLemmas.{it_names_each_port, said_there}
 use Rattle.own_route_laws.proofs.ReachLemmas.{reached}
 use Rattle.own_route_laws.proofs.ShownLemmas.{no_row}
 use Rattle.own_route_laws.proofs.StandLemmas.{place_for}
+use Rattle.own_route_laws.proofs.TurnLemmas.{leaves}
+use Rattle.own_route_laws.proofs.WayLemmas.{led}
 
 -- ---- the far end of a cable is a port
 far_port : (nodes : List PlannedNode) (cables : List Cable) (at there : PortRef) → list_all (ends_at_ports nodes) cables ≡ true → far_end cables at ≡ Some there
@@ -75,7 +79,7 @@ far_port nodes (cable ∷ cables) at there all is =
     by false other both later = later both.1 (rw other at is)
 
 -- the subnet manager's port has a cable, to a switch
-pub some_carries : SomeSwitchCarriesAnAdapter
+pub some_carries : SomeSwitchCarriesAHost
 some_carries plan dump sound =
     let far = far_of plan.cables plan.sm sound.manager_cabled in
     let manager = not-true (is_switch_at plan.nodes plan.sm.node) (and_parts (not (is_switch_at plan.nodes plan.sm.node)) _ sound.manager_port).0 in
@@ -91,7 +95,7 @@ some_carries plan dump sound =
         high = leb-true far.0.port (ports_at plan.nodes far.0.node) within.1;
         at = plan.sm;
         cable = good_once (fabric_of plan) plan.sm far.0 (good plan sound) far.1;
-        adapter = manager;
+        host = and_from (not (is_switch_at plan.nodes plan.sm.node)) true (ap not manager) refl;
       },
     )
 
@@ -125,7 +129,7 @@ module _ (plan : TopologyState) (sound : IsSound plan) (keys : List (List ℕ)) 
       and_from (has_switch held.node_guid plan.nodes) _ (each 0 held refl) (all_known nodes (λ k one there. each (suc k) one there))
 
   -- ---- each LID that has a row is that of an end port, of the kind that the row says
-  kind_is : (lid guid : ℕ) (end : PortRef) (b : Bool) → is_switchs plan.nodes guid ≡ b → end_port_of net lid ≡ Some end → port_of plan.nodes guid ≡ Some end
+  kind_is : (lid guid : ℕ) (end : PortRef) (b : Bool) → is_switchs plan.nodes guid ≡ b → end_port_of net lid ≡ Some end → port_of (ends_of plan.nodes) guid ≡ Some end
       → IsOfKind net lid (if b then destinations.Switch guid else destinations.ChannelAdapter guid)
   kind_is lid guid end true is ends found = (end, ends, sym (is_switchs_by plan sound guid end found) ∙ is)
   kind_is lid guid end false is ends found = (end, ends, sym (is_switchs_by plan sound guid end found) ∙ is)
@@ -138,7 +142,7 @@ module _ (plan : TopologyState) (sound : IsSound plan) (keys : List (List ℕ)) 
       reported held there some guid named =
           let has = has_end plan sound keys routes fabric up lid guid named in
           let of = planned plan has.at has.end has.is in
-          let found : port_of plan.nodes guid ≡ Some has.at = ap (port_of plan.nodes) (sym (of.guid_is ∙ has.guid_is)) ∙ port_of_end plan sound has.at of.ends in
+          let found : port_of (ends_of plan.nodes) guid ≡ Some has.at = ap (port_of (ends_of plan.nodes)) (sym (of.guid_is ∙ has.guid_is)) ∙ port_of_end plan sound has.at of.ends in
           let said = said_there plan sound keys routes fabric up place lid guid held there named some in
           kind_is lid guid has.at (is_switchs plan.nodes guid) refl (with_end_set plan sound keys routes fabric up lid guid has.at said named found) found
 
@@ -165,6 +169,41 @@ module _ (plan : TopologyState) (sound : IsSound plan) (keys : List (List ℕ)) 
               (sym (ap (option_and_then (λ (table : Table). row_of lid table.rows)) (table_there plan sound keys routes fabric up place at.0 at.1)
               ∙ no_row plan.nodes routes.lids at.0 routes.lids 1 lid (eqb-true (held_entry at.0 lid) 255 none)) ∙ is))
 
+  -- ---- where a switch sends a LID to another, the entry there is known
+  held_some : (place lid : ℕ) (row : Row) (held : SwitchState) → slice_get fabric.nodes place ≡ Some (Switch held) → row_at net lid place ≡ Some row
+      → held_entry held lid ≢ 255
+  held_some place lid row held there is = by (held_entry held lid == 255) refl
+    where
+      by : (b : Bool) → (held_entry held lid == 255) ≡ b → held_entry held lid ≢ 255
+      by false some = eqb-false (held_entry held lid) 255 some
+      by true none =
+          absurd (none-some row
+          (sym (ap (option_and_then (λ (table : Table). row_of lid table.rows)) (table_there plan sound keys routes fabric up place held there)
+          ∙ no_row plan.nodes routes.lids held routes.lids 1 lid (eqb-true (held_entry held lid) 255 none)) ∙ is))
+
+  end_of_entry : (place lid : ℕ) (held : SwitchState) → slice_get fabric.nodes place ≡ Some (Switch held) → held_entry held lid ≢ 255
+      → (end : PortRef) × (end_port_of net lid ≡ Some end)
+  end_of_entry place lid held there some =
+      let named = named_lid plan sound keys routes fabric up place lid held there some in
+      let has = has_end plan sound keys routes fabric up lid named.0 named.1 in
+      let of = planned plan has.at has.end has.is in
+      let found : port_of (ends_of plan.nodes) named.0 ≡ Some has.at =
+      ap (port_of (ends_of plan.nodes)) (sym (of.guid_is ∙ has.guid_is)) ∙ port_of_end plan sound has.at of.ends in
+      let said = said_there plan sound keys routes fabric up place lid named.0 held there named.1 some in
+      (has.at, with_end_set plan sound keys routes fabric up lid named.0 has.at said named.1 found)
+
+  known : (place lid next : ℕ) → is_switch_at plan.nodes place ≡ true → GoesTo net lid place next → IsUnknownAt net lid next → ⊥
+  known place lid next switch goes unknown =
+      let out = goes_leaves net lid place next goes in
+      let has = (leaves net place lid out.0 out.1).has in
+      let row_there : row_at net lid place ≡ Some has.row = ap (option_and_then (λ (table : Table). row_of lid table.rows)) has.there ∙ has.found in
+      let held = held_at place switch in
+      let end = end_of_entry place lid held.0 held.1 (held_some place lid has.row held.0 held.1 row_there) in
+      next_known net lid place next end.0
+      (comes_there net place lid end.0
+      (led plan sound keys routes fabric up (dump_of plan routes.lids fabric) (a_dump_shows_what_is_held plan keys routes fabric sound up) lid end.0 end.1
+      place out.0 switch out.1)) goes unknown
+
   same : NameTheSame net
   same = record {
     tables = has_its_table;
@@ -177,13 +216,14 @@ module _ (plan : TopologyState) (sound : IsSound plan) (keys : List (List ℕ)) 
   pub are_safe : AreSafe net
   are_safe = record {
     named = λ end is. it_names_each_port plan keys routes fabric end sound up is.0 is.1;
-    reached = λ place lid end carries below is adapter.
+    reached = λ place lid end carries below is host.
         comes_there net place lid end
         (reached plan sound keys routes fabric up (dump_of plan routes.lids fabric) (a_dump_shows_what_is_held plan keys routes fabric sound up) lid end is
-        place carries adapter);
+        place carries (host_is_no_switch (plan_of plan) end.node host));
     free = no_cycle_is_missed net (other_lids net)
         (is_free plan sound keys routes fabric up (dump_of plan routes.lids fabric) (a_dump_shows_what_is_held plan keys routes fabric sound up) (other_lids net));
     same = same;
+    known = λ place lid next switch there goes unknown. known place lid next switch goes unknown;
   }
 
   pub manager_ends : IsAdaptersEnd net plan.sm

@@ -6,11 +6,11 @@ use Rattle.dump_file.specs.declared.row.Row.{Row}
 use Rattle.dump_file.specs.declared.table.Table.{Table}
 use Rattle.fabric_parts.specs.Cable.{far_end, port}
 use Rattle.fabric_parts.specs.declared.cable.PortRef.{PortRef}
-use Rattle.topo_file.specs.Node.{is_switch_at}
+use Rattle.topo_file.specs.Node.{is_switch_at, ports_at}
 use Rattle.route_audit.specs.Channels.{leaves_by}
 use Rattle.route_audit.specs.Following.{end_from, turn, turn_to}
 use Rattle.route_audit.specs.Laws.{IsWay}
-use Rattle.route_audit.specs.Net.{NetState, is_left_out, row_of, table_at}
+use Rattle.route_audit.specs.Net.{NetState, may_lack, row_of, table_at}
 use Rattle.own_route_laws.specs.Laws.{comes_to}
 use Rattle.own_route_laws.specs.Shown.{HasRow}
 
@@ -37,14 +37,14 @@ leaves net place lid number out = by (table_at net place) refl
         let same : row.port ≡ number = eqb-true row.port number is in
         record { has = record { table = table; row = row; there = there; found = found; is = same }; some = λ none. eqb-false row.port 255 top (same ∙ none) }
 
-    by_left : (table : Table) → table_at net place ≡ Some table → row_of lid table.rows ≡ None → (b : Bool) → is_left_out table lid ≡ b
+    by_left : (table : Table) → table_at net place ≡ Some table → row_of lid table.rows ≡ None → (b : Bool) → may_lack (ports_at net.plan.nodes place) table lid ≡ b
         → Leaves net place lid number
     by_left table there found true left = let gone = rw (there, found, left) at out in absurd (false≢true gone)
     by_left table there found false left = let gone = rw (there, found, left) at out in absurd (false≢true gone)
 
     by_row : (table : Table) → table_at net place ≡ Some table → (o : Option Row) → row_of lid table.rows ≡ o → Leaves net place lid number
     by_row table there (Some row) found = by_port table row there found (row.port == 255) refl
-    by_row table there None found = by_left table there found (is_left_out table lid) refl
+    by_row table there None found = by_left table there found (may_lack (ports_at net.plan.nodes place) table lid) refl
 
     by : (o : Option Table) → table_at net place ≡ o → Leaves net place lid number
     by (Some table) there = by_row table there (row_of lid table.rows) refl

@@ -12,7 +12,7 @@ use Rattle.route_audit.proofs.EndlessLemmas.{ways_are_followed}
 use Rattle.route_audit.specs.Channels.{leaves_by}
 use Rattle.route_audit.specs.Following.{end_from, turn}
 use Rattle.route_audit.specs.Laws.{IsWay, end_port_of}
-use Rattle.route_audit.specs.Lids.{port_of}
+use Rattle.route_audit.specs.Plan.{port_of}
 use Rattle.route_audit.specs.Net.{NetState}
 use Rattle.smp_wire.specs.FabricState.{FabricState}
 use Rattle.subnet_fabric.specs.BringUp.{IsBroughtUpBy}
@@ -38,12 +38,12 @@ use Rattle.own_route_laws.proofs.StandLemmas.{Stands, few, goes, is_switch_there
 pub record IsEndOf (net : NetState) (lid : ℕ) (end : PortRef) : Type 0 where
   pub guid : ℕ
   pub said : end_of lid (rows_of net.dump.tables) ≡ Some guid
-  pub is : port_of net.plan.nodes guid ≡ Some end
+  pub is : port_of net.plan.ends guid ≡ Some end
 
 pub end_is : (net : NetState) (lid : ℕ) (end : PortRef) → end_port_of net lid ≡ Some end → IsEndOf net lid end
 end_is net lid end is = by (end_of lid (rows_of net.dump.tables)) refl (end_kind net lid (end_of lid (rows_of net.dump.tables)) end is).0
   where
-    by : (o : Option ℕ) → end_of lid (rows_of net.dump.tables) ≡ o → option_and_then (port_of net.plan.nodes) o ≡ Some end → IsEndOf net lid end
+    by : (o : Option ℕ) → end_of lid (rows_of net.dump.tables) ≡ o → option_and_then (port_of net.plan.ends) o ≡ Some end → IsEndOf net lid end
     by None said is = absurd (none-some end is)
     by (Some guid) said is = record { guid = guid; said = said; is = is }
 

@@ -7,11 +7,11 @@ use Rattle.own_route_laws.specs.WrongTables.{ACycleIsNotFree, ADeadEndDoesNotPas
 
 pub a_hole_does_not_pass : AHoleDoesNotPass
 a_hole_does_not_pass passes =
-    false≢true (passes.reached 0 1 (port 2 1) (record { switch = refl; number = 1; low = omega arith; high = omega arith; at = port 2 1; cable = refl; adapter = refl }) refl refl)
+    false≢true (passes.reached 0 1 (port 2 1) (record { switch = refl; number = 1; low = omega arith; high = omega arith; at = port 2 1; cable = refl; host = refl }) refl refl)
 
 pub no_entries_do_not_pass : NoEntriesDoNotPass
 no_entries_do_not_pass passes =
-    false≢true (passes.reached 0 1 (port 2 1) (record { switch = refl; number = 1; low = omega arith; high = omega arith; at = port 2 1; cable = refl; adapter = refl }) refl refl)
+    false≢true (passes.reached 0 1 (port 2 1) (record { switch = refl; number = 1; low = omega arith; high = omega arith; at = port 2 1; cable = refl; host = refl }) refl refl)
 
 pub a_loop_does_not_pass : ALoopDoesNotPass
 a_loop_does_not_pass passes = false≢true (passes.led 0 1 2 (port 2 1) refl refl refl)

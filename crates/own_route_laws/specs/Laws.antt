@@ -6,9 +6,10 @@ use Rattle.fabric_parts.specs.Cable.{is_cabled, port}
 use Rattle.fabric_parts.specs.declared.cable.PortRef.{PortRef}
 use Rattle.route_audit.specs.Audit.{audit_of}
 use Rattle.route_audit.specs.Channels.{deadlock, leaves_by}
-use Rattle.route_audit.specs.Laws.{CarriesAnAdapter, end_port_of}
+use Rattle.route_audit.specs.Laws.{CarriesAHost, end_port_of}
 use Rattle.route_audit.specs.Net.{NetState}
 use Rattle.route_audit.specs.Pairs.{all_reached, pair_to}
+use Rattle.route_audit.specs.Plan.{plan_of}
 use Rattle.smp_wire.specs.FabricState.{FabricState}
 use Rattle.subnet_fabric.specs.BringUp.{IsBroughtUpBy}
 use Rattle.subnet_fabric.specs.Recabled.{with_cables}
@@ -21,7 +22,7 @@ use Rattle.own_route_laws.specs.OwnTables.{dump_of}
 use Rattle.own_route_laws.specs.Shown.{Shows}
 
 abbrev pub over : TopologyState → DumpState → NetState
-over plan dump = record { plan = plan; dump = dump }
+over plan dump = record { plan = plan_of plan; dump = dump }
 
 -- ---- there is a dump of what each fabric holds that is brought up
 abbrev pub ADumpShowsWhatIsHeld : Type 0
@@ -45,8 +46,8 @@ ItNamesEachPort =
 
 -- ---- what the audit finds
 -- an adapter is attached to some switch, as the subnet manager's
-abbrev pub SomeSwitchCarriesAnAdapter : Type 0
-SomeSwitchCarriesAnAdapter = (plan : TopologyState) (dump : DumpState) → IsSound plan → (place : ℕ) × CarriesAnAdapter (over plan dump) place
+abbrev pub SomeSwitchCarriesAHost : Type 0
+SomeSwitchCarriesAHost = (plan : TopologyState) (dump : DumpState) → IsSound plan → (place : ℕ) × CarriesAHost (over plan dump) place
 
 -- what goes from the switch there to the LID comes to this port
 abbrev pub comes_to : NetState → ℕ → ℕ → PortRef → Bool
@@ -54,7 +55,7 @@ comes_to net place lid end = all_reached (pair_to net place lid (Some end))
 
 pub record PassesTheAudit (net : NetState) : Type 0 where
   -- from each switch that carries an adapter packets come to each adapter port that has a LID
-  pub reached : (place lid : ℕ) (end : PortRef) → CarriesAnAdapter net place → end_port_of net lid ≡ Some end
+  pub reached : (place lid : ℕ) (end : PortRef) → CarriesAHost net place → end_port_of net lid ≡ Some end
       → is_switch_at net.plan.nodes end.node ≡ false → comes_to net place lid end ≡ true
   -- and from each switch that has an entry for a LID they come to its port: to no other, not round a loop, and not into nothing
   pub led : (place lid number : ℕ) (end : PortRef) → is_switch_at net.plan.nodes place ≡ true → end_port_of net lid ≡ Some end

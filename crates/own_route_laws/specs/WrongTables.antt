@@ -9,13 +9,15 @@ use Rattle.fabric_parts.specs.declared.cable.Cable.{Cable}
 use Rattle.fabric_parts.specs.declared.node_type.NodeType.TheVariants.{ChannelAdapter}
 use Rattle.route_audit.specs.Channels.{deadlock}
 use Rattle.route_audit.specs.Net.{NetState}
+use Rattle.route_audit.specs.Plan.{plan_of}
 use Rattle.route_audit.specs.WrongRules.{a_plan, a_switch, a_table}
+use Rattle.topo_file.specs.Topology.{TopologyState}
 use Rattle.topo_file.specs.declared.node.Node.{Node}
 use Rattle.own_route_laws.specs.Laws.{PassesTheAudit, comes_to}
 
 -- the adapter is attached at port 1 of the first switch, whose port 2 has a cable to port 1 of the second
 abbrev pub two_entries : ℕ → ℕ → NetState
-two_entries first second = record { plan = a_plan; dump = record { tables = a_table 16 first ∷ a_table 32 second ∷ [] } }
+two_entries first second = record { plan = plan_of a_plan; dump = record { tables = a_table 16 first ∷ a_table 32 second ∷ [] } }
 
 -- the first has no entry
 abbrev pub AHoleDoesNotPass : Type 0
@@ -59,15 +61,18 @@ ring_table guid first second third =
 abbrev pub ring_cable : ℕ → ℕ → ℕ → ℕ → Cable
 ring_cable a first b second = record { first = port a first; second = port b second }
 
+abbrev pub ring_plan : TopologyState
+ring_plan = record {
+  nodes = ring_node (codes "A") 16 ∷ ring_node (codes "B") 32 ∷ ring_node (codes "C") 48
+      ∷ ring_adapter 256 ∷ ring_adapter 512 ∷ ring_adapter 768 ∷ [];
+  cables = ring_cable 0 1 3 1 ∷ ring_cable 1 1 4 1 ∷ ring_cable 2 1 5 1 ∷ ring_cable 0 2 1 3 ∷ ring_cable 1 2 2 3 ∷ ring_cable 2 2 0 3 ∷ [];
+  roots = [];
+  sm = port 3 1;
+}
+
 abbrev pub ring : NetState
 ring = record {
-  plan = record {
-    nodes = ring_node (codes "A") 16 ∷ ring_node (codes "B") 32 ∷ ring_node (codes "C") 48
-        ∷ ring_adapter 256 ∷ ring_adapter 512 ∷ ring_adapter 768 ∷ [];
-    cables = ring_cable 0 1 3 1 ∷ ring_cable 1 1 4 1 ∷ ring_cable 2 1 5 1 ∷ ring_cable 0 2 1 3 ∷ ring_cable 1 2 2 3 ∷ ring_cable 2 2 0 3 ∷ [];
-    roots = [];
-    sm = port 3 1;
-  };
+  plan = plan_of ring_plan;
   dump = record { tables = ring_table 16 1 2 2 ∷ ring_table 32 2 1 2 ∷ ring_table 48 2 2 1 ∷ [] };
 }
 

@@ -1,7 +1,7 @@
 //! What the audit says of tables that our own bring-up writes. The functions do nothing; their clauses are the theorems.
 
 ghost use Rattle.own_route_laws.specs.Laws.{ADumpShowsWhatIsHeld, ItIsSound, ItNamesEachPort, OwnRoutesAreSafe, OwnRoutesPass};
-ghost use Rattle.own_route_laws.specs.Laws.{RoutesAreSafeWithCablesDown, SomeSwitchCarriesAnAdapter};
+ghost use Rattle.own_route_laws.specs.Laws.{RoutesAreSafeWithCablesDown, SomeSwitchCarriesAHost};
 
 /// Each fabric that is brought up has a dump that shows what its switches hold.
 pub fn a_dump_shows_what_is_held()
@@ -24,8 +24,8 @@ pub fn own_routes_pass()
 {}
 
 /// Some switch of each sound topology carries an adapter.
-pub fn some_switch_carries_an_adapter()
-    ensures { SomeSwitchCarriesAnAdapter }
+pub fn some_switch_carries_a_host()
+    ensures { SomeSwitchCarriesAHost }
 {}
 
 /// The audit of the tables of each fabric that is brought up calls its routes safe.

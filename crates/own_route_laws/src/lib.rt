@@ -10,7 +10,7 @@ mod wrong_tables;
 
 pub use crate::laws::{
     a_dump_shows_what_is_held, it_is_sound, it_names_each_port, own_routes_are_safe,
-    own_routes_pass, routes_are_safe_with_cables_down, some_switch_carries_an_adapter,
+    own_routes_pass, routes_are_safe_with_cables_down, some_switch_carries_a_host,
 };
 pub use crate::wrong_tables::{
     a_cycle_is_not_free, a_dead_end_does_not_pass, a_hole_does_not_pass, a_loop_does_not_pass,

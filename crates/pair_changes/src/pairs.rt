@@ -5,6 +5,7 @@ ghost use Rattle.std.specs.List.{flat_map};
 ghost use Rattle.pair_changes.specs.Counts.{is_now};
 ghost use Rattle.pair_changes.specs.Pairs.{gains, new_pairs, pair_if};
 
+use crate::counting::new_pair_count;
 use crate::membership::Membership;
 use fabric_parts::PortRef;
 use std::alloc::{AllocError, Global};
@@ -79,10 +80,13 @@ fn current(alloc: Global, members: &[Member]) -> Result<Vec<Member>, AllocError>
 }
 
 /// The pairs that may talk now and might not before: each port with each behind it. It can only run out of memory. Time is
-/// quadratic in the ports that are members now.
+/// quadratic in the ports that are members now, and linear if there is no such pair.
 pub fn new_pairs(alloc: Global, members: &[Member]) -> Result<Vec<Pair>, AllocError>
     ensures { IfOk result (λ pairs. pairs.items ≡ new_pairs members.now) }
 {
+    if new_pair_count(members) == 0 {
+        return Ok(Vec::new(alloc));
+    }
     let found = current(alloc, members)?;
     let pairs = all_pairs(alloc, &found)?;
     Ok(pairs)

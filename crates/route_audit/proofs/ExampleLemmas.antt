@@ -1,15 +1,17 @@
 -- Entries, ports and lines, computed.
 use Rattle.std.proofs.Common.{refl}
 use Rattle.std.specs.Fmt.{digits}
-use Rattle.route_audit.specs.Audit.{count_line, counts_by, lost_part, other_part, reached_part}
+use Rattle.route_audit.specs.Audit.{aggregation_line, count_line, counts_by, lost_part, other_part, reached_part}
 use Rattle.route_audit.specs.Verdict.{reasons, safe_words, verdict_line}
-use Rattle.route_audit.specs.Examples.{AttachedAreReported, CountsAreReported, EntriesAreReported, KindsAreReported, LacksAreReported, PortsAreFound, TroublesAreReported, VerdictsAreReported}
+use Rattle.route_audit.specs.Examples.{AttachedAreReported, CountsAreReported, DeadlocksAreReported, EntriesAreReported, KindsAreReported, LacksAreReported, PortsAreFound, TroublesAreReported, VerdictsAreReported}
 
 pub entries_are_reported : EntriesAreReported
 entries_are_reported = record {
   there = refl;
   closed = refl;
   without_row = refl;
+  of_many_ports = refl;
+  closed_of_many = refl;
   left_out = refl;
   above_a_multiple = refl;
   below_the_top = refl;
@@ -25,13 +27,16 @@ ports_are_found = record {
   first = refl;
   last = refl;
   past = refl;
-  among_nodes = refl;
-  of_none = refl;
+  of_another = refl;
 }
 
 pub troubles_are_reported : TroublesAreReported
 unfolding digits
 troubles_are_reported = record { hole = refl; loop = refl; wrong = refl; nowhere = refl; none = refl; stray = refl; closed_stray = refl; hole_to_a_router = refl; loop_to_a_router = refl; last_hop_to_a_router = refl }
+
+pub deadlocks_are_reported : DeadlocksAreReported
+unfolding digits
+deadlocks_are_reported = record { to_the_adapter = refl; none = refl }
 
 pub lacks_are_reported : LacksAreReported
 unfolding digits
@@ -45,8 +50,8 @@ attached_are_reported = record { first = refl; second = refl }
 
 pub verdicts_are_reported : VerdictsAreReported
 unfolding reasons safe_words verdict_line
-verdicts_are_reported = record { safe = refl; lids = refl; reached = refl; free = refl; same = refl; none = refl }
+verdicts_are_reported = record { safe = refl; lids = refl; reached = refl; free = refl; same = refl; known = refl; none = refl }
 
 pub counts_are_reported : CountsAreReported
-unfolding count_line counts_by digits lost_part other_part reached_part
+unfolding aggregation_line count_line counts_by digits lost_part other_part reached_part
 counts_are_reported = record { of_a_hole = refl; of_a_loop = refl }

@@ -1,5 +1,6 @@
 pub mod CycleLemmas
 pub mod NetLemmas
+pub mod PlanLemmas
 pub mod LookupLemmas
 pub mod FollowingLemmas
 pub mod LidLemmas
@@ -12,9 +13,14 @@ pub mod RoundLemmas
 pub mod EndlessLemmas
 pub mod TroubleLemmas
 pub mod CycleLawLemmas
+pub mod ClosingLemmas
 pub mod WrongLemmas
 pub mod SafeLemmas
 pub mod ReportedLemmas
 pub mod ExampleLemmas
 pub mod ChannelLawLemmas
 pub mod CountLemmas
+pub mod FoundLemmas
+pub mod WrongPlanLemmas
+pub mod TopologyEndLemmas
+pub mod GoingLemmas

@@ -32,17 +32,18 @@ none_there [] i x none is = absurd (cc)
 none_there (y ∷ ys) i x none is = absurd (cc)
 
 -- ---- entries
-by_table : (lid : ℕ) (found : Option Table) (known : Entry) → slice_get (option_map_or column found []) lid ≡ Some known → known ≡ option_map_or (entry_in lid) found Unreported
-by_table lid None known is = absurd (none_there [] lid known refl is)
-by_table lid (Some table) known is =
+by_table : (ports lid : ℕ) (found : Option Table) (known : Entry) → slice_get (option_map_or (column ports) found []) lid ≡ Some known
+    → known ≡ option_map_or (entry_in ports lid) found Unreported
+by_table ports lid None known is = absurd (none_there [] lid known refl is)
+by_table ports lid (Some table) known is =
     let here : 0 + lid ≡ lid = omega arith in
-    sym (at_some (λ l. entry_in l table) 0 table.top lid known is) ∙ ap (λ (l : ℕ). entry_in l table) here
+    sym (at_some (λ l. entry_in ports l table) 0 table.top lid known is) ∙ ap (λ (l : ℕ). entry_in ports l table) here
 
 known_is : (net : NetState) (lid place : ℕ) (known : Entry) → slice_get (entries_of (all_entries net) place) lid ≡ Some known → known ≡ entry net lid place
 known_is net lid place known is = elim (cases_lt place (length net.plan.nodes)) [
   | inl within ↦
       let at : entries_of (all_entries net) place ≡ column_at net place = at_range (column_at net) 0 (length net.plan.nodes) place place [] (omega arith) within in
-      by_table lid (table_at net place) known (sym (ap (λ (es : List Entry). slice_get es lid) at) ∙ is)
+      by_table (ports_at net.plan.nodes place) lid (table_at net place) known (sym (ap (λ (es : List Entry). slice_get es lid) at) ∙ is)
   | inr past ↦ absurd (none_there (entries_of (all_entries net) place) lid known (past_range (column_at net) 0 (length net.plan.nodes) place [] past) is)
 ]
 

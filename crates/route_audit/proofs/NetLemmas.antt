@@ -110,7 +110,7 @@ far_first : (cable : Cable) (rest : List Cable) (port : PortRef) → far_end (ca
     ≡ cond (is_same_port cable.first port) (Some cable.second) (cond (is_same_port cable.second port) (Some cable.first) (far_end rest port))
 far_first cable rest port = far_by (is_same_port cable.first port) (is_same_port cable.second port) cable port (find (λ c. ends_at port c) rest) refl refl
 
-cut_before : (cables : List Cable) (index : ℕ) (none : Cable) → 0 < index → index ≤ length cables → drop (index - 1) cables ≡ get_or cables (index - 1) none ∷ drop index cables
+pub cut_before : {X : Type 0} (cables : List X) (index : ℕ) (none : X) → 0 < index → index ≤ length cables → drop (index - 1) cables ≡ get_or cables (index - 1) none ∷ drop index cables
 cut_before cables zero none some within = absurd (omega (arith, some))
 cut_before [] (suc index) none some within = absurd (omega (arith, within))
 cut_before (first ∷ rest) (suc zero) none some within = refl

@@ -3,7 +3,7 @@ use Rattle.std.proofs.Common.{◌≡◌, ◌∙◌, inl, inr, ap, refl, sym, ℕ
 use Rattle.std.proofs.Common.{Option, Some, None, is_none}
 use Rattle.std.specs.List.{list_all, list_any, range_with_len}
 use Rattle.std.specs.Option.{option_map_or}
-use Rattle.std.proofs.lemmas.Bool.{and_from, cases_Bool, eq-eqb, false≢true, not-true, or_right}
+use Rattle.std.proofs.lemmas.Bool.{and_from, cases_Bool, eq-eqb, false≢true, or_left, or_right}
 use Rattle.std.proofs.lemmas.Bool.Decides.{nat_tests}
 use Rattle.std.proofs.lemmas.Option.{none-some}
 use Rattle.dump_file.specs.Table.{rows_of}
@@ -17,18 +17,20 @@ use Rattle.fabric_parts.specs.declared.cable.PortRef.{PortRef}
 use Rattle.topo_file.specs.Connectivity.{switches}
 use Rattle.topo_file.specs.Node.{is_switch_at, ports_at}
 use Rattle.route_audit.specs.declared.following.Fate.TheVariants as fates
+use Rattle.route_audit.specs.declared.following.Turn.{Turn}
 use Rattle.route_audit.specs.declared.following.Turn.TheVariants as turns
 use Rattle.route_audit.specs.declared.lids.Aim.{Aim}
 use Rattle.route_audit.specs.declared.pairs.Pair.{Pair}
-use Rattle.route_audit.specs.Attached.{carries_adapter, leads_to_adapter}
+use Rattle.route_audit.specs.Attached.{carries_host, leads_to_host}
 use Rattle.route_audit.specs.Audit.{audit_of, credit_loop}
 use Rattle.route_audit.specs.Channels.{deadlock}
-use Rattle.route_audit.specs.Following.{end_from, fate_by}
-use Rattle.route_audit.specs.Laws.{AreSafe, CarriesAnAdapter, IsAdaptersEnd, IsOfKind, NameTheSame, SafeRoutesAreReported, end_port_of, other_lids, says_safe}
+use Rattle.route_audit.specs.Following.{end_from, fate_by, turn}
+use Rattle.route_audit.specs.Laws.{AreSafe, CarriesAHost, IsAdaptersEnd, IsOfKind, NameTheSame, SafeRoutesAreReported, end_port_of, other_lids, says_safe}
 use Rattle.route_audit.specs.Lids.{aim_of, aims, all_lids, has_lid, have_lids, is_lacking, is_named, is_of, is_of_fabric, named_lids, says_of_fabric}
 use Rattle.route_audit.specs.Net.{NetState, row_at}
-use Rattle.route_audit.specs.Pairs.{all_reached, between_adapters, is_between_adapters, is_fate, pair_at, pair_to, pairs_at, pairs_by}
-use Rattle.route_audit.specs.Verdict.{has_table, have_tables, is_known, name_the_same}
+use Rattle.route_audit.specs.Plan.{is_host}
+use Rattle.route_audit.specs.Pairs.{all_reached, between_hosts, is_between_hosts, is_fate, pair_at, pair_to, pairs_at, pairs_by}
+use Rattle.route_audit.specs.Verdict.{goes_on_known, has_table, have_tables, is_known, is_unknown, knows_all, knows_entries, knows_next, name_the_same}
 use Rattle.route_audit.proofs.CycleLawLemmas.{reported_loops_wait}
 use Rattle.route_audit.proofs.EndlessLemmas.{in_kept, ways_are_followed}
 use Rattle.route_audit.proofs.SafeLemmas.{flat_mapped, has_end, in_lids, reported_is_safe}
@@ -154,10 +156,10 @@ cables_have net safe =
     (port_has net cable.second safe (ends cable.second (or_right (is_same_port cable.first cable.second) _ (itself cable.second)))))
 
 -- ---- all pairs between adapters are reached
-both_reached : (one other : List Pair) → all_reached (between_adapters one) ≡ true → all_reached (between_adapters other) ≡ true
-    → all_reached (between_adapters (one ++ other)) ≡ true
+both_reached : (one other : List Pair) → all_reached (between_hosts one) ≡ true → all_reached (between_hosts other) ≡ true
+    → all_reached (between_hosts (one ++ other)) ≡ true
 both_reached [] other is also = also
-both_reached (pair ∷ one) other is also = elim (cases_Bool (is_between_adapters pair)) [
+both_reached (pair ∷ one) other is also = elim (cases_Bool (is_between_hosts pair)) [
   | inr left ↦ rw left (both_reached one other (rw left at is) also)
   | inl kept ↦ elim (cases_Bool (is_fate fates.Reached pair.fate)) [
     | inl reached ↦ rw (kept, reached) (both_reached one other (rw (kept, reached) at is) also)
@@ -166,8 +168,8 @@ both_reached (pair ∷ one) other is also = elim (cases_Bool (is_between_adapter
 ]
 
 each_in_range : (f : ℕ → List Pair) (test : ℕ → Bool) (first count : ℕ)
-    → ((x : ℕ) → x < first + count → test x ≡ true → all_reached (between_adapters (f x)) ≡ true)
-    → all_reached (between_adapters (flat_map f (filter test (range_with_len first count)))) ≡ true
+    → ((x : ℕ) → x < first + count → test x ≡ true → all_reached (between_hosts (f x)) ≡ true)
+    → all_reached (between_hosts (flat_map f (filter test (range_with_len first count)))) ≡ true
 each_in_range f test first zero each = refl
 each_in_range f test first (suc count) each =
     let rest = each_in_range f test (first + 1) count (λ x below is. each x (omega (arith, below)) is) in
@@ -177,21 +179,21 @@ each_in_range f test first (suc count) each =
     ]
 
 pair_fine : (net : NetState) (place lid : ℕ) (o : Option PortRef)
-    → ((end : PortRef) → o ≡ Some end → is_switch_at net.plan.nodes end.node ≡ false → carries_adapter net place ≡ true
+    → ((end : PortRef) → o ≡ Some end → is_host net.plan end.node ≡ true → carries_host net place ≡ true
     → end_from net lid place ≡ Some (turns.Arrives end))
-    → all_reached (between_adapters (pair_to net place lid o)) ≡ true
+    → all_reached (between_hosts (pair_to net place lid o)) ≡ true
 pair_fine net place lid None ends = refl
-pair_fine net place lid (Some end) ends = elim (cases_Bool (is_switch_at net.plan.nodes end.node)) [
-  | inl switch ↦ rw switch refl
-  | inr adapter ↦ elim (cases_Bool (carries_adapter net place)) [
-    | inr none ↦ rw (adapter, none) refl
+pair_fine net place lid (Some end) ends = elim (cases_Bool (is_host net.plan end.node)) [
+  | inr other ↦ rw other refl
+  | inl host ↦ elim (cases_Bool (carries_host net place)) [
+    | inr none ↦ rw (host, none) refl
     | inl carrying ↦
-        let reached : is_fate fates.Reached (fate_by end (end_from net lid place)) ≡ true = rw (ends end refl adapter carrying, itself end) refl in
-        rw (adapter, carrying, reached) refl
+        let reached : is_fate fates.Reached (fate_by end (end_from net lid place)) ≡ true = rw (ends end refl host carrying, itself end) refl in
+        rw (host, carrying, reached) refl
   ]
 ]
 
--- a switch that carries an adapter has a port with a cable to one
+-- a switch that carries a host has a port with a cable to one
 some_port : (test : PortRef → Bool) (place first count : ℕ) → list_any test (map (port place) (range_with_len first count)) ≡ true
     → (number : ℕ) × (first ≤ number) × (number < first + count) × (test (port place number) ≡ true)
 some_port test place first zero some = absurd (false≢true some)
@@ -202,14 +204,14 @@ some_port test place first (suc count) some = elim (cases_Bool (test (port place
       (rest.0, (let low = rest.1 in omega (arith, low)), (let high = rest.2 in omega (arith, high)), rest.3)
 ]
 
-pub carried : (net : NetState) (place : ℕ) → is_switch_at net.plan.nodes place ≡ true → carries_adapter net place ≡ true → CarriesAnAdapter net place
+pub carried : (net : NetState) (place : ℕ) → is_switch_at net.plan.nodes place ≡ true → carries_host net place ≡ true → CarriesAHost net place
 carried net place switch some = by found.0 found.1 found.2 (far_end net.plan.cables (port place found.0)) refl found.3
   where
-    found : (number : ℕ) × (1 ≤ number) × (number < 1 + ports_at net.plan.nodes place) × (leads_to_adapter net (port place number) ≡ true)
-    found = some_port (leads_to_adapter net) place 1 (ports_at net.plan.nodes place) some
+    found : (number : ℕ) × (1 ≤ number) × (number < 1 + ports_at net.plan.nodes place) × (leads_to_host net (port place number) ≡ true)
+    found = some_port (leads_to_host net) place 1 (ports_at net.plan.nodes place) some
 
     by : (number : ℕ) → 1 ≤ number → number < 1 + ports_at net.plan.nodes place → (o : Option PortRef) → far_end net.plan.cables (port place number) ≡ o
-        → option_map_or (λ there. not (is_switch_at net.plan.nodes there.node)) o false ≡ true → CarriesAnAdapter net place
+        → option_map_or (λ there. is_host net.plan there.node) o false ≡ true → CarriesAHost net place
     by number low high None far leads = absurd (false≢true leads)
     by number low high (Some at) far leads = record {
       switch = switch;
@@ -218,19 +220,19 @@ carried net place switch some = by found.0 found.1 found.2 (far_end net.plan.cab
       high = omega (arith, high);
       at = at;
       cable = far;
-      adapter = not-true (is_switch_at net.plan.nodes at.node) leads;
+      host = leads;
     }
 
-all_pairs : (net : NetState) → AreSafe net → all_reached (between_adapters (pairs_by net (aims net))) ≡ true
+all_pairs : (net : NetState) → AreSafe net → all_reached (between_hosts (pairs_by net (aims net))) ≡ true
 unfolding all_lids
 all_pairs net safe =
     each_in_range (pairs_at net (aims net)) (is_switch_at net.plan.nodes) 0 (length net.plan.nodes)
     (λ place within switch.
-    ap (λ (pairs : List Pair). all_reached (between_adapters pairs)) (flat_mapped (pair_at net place) (aim_of net) (named_lids net.dump))
+    ap (λ (pairs : List Pair). all_reached (between_hosts pairs)) (flat_mapped (pair_at net place) (aim_of net) (named_lids net.dump))
     ∙ each_in_range (λ n. pair_at net place (aim_of net n)) (is_named (rows_of net.dump.tables)) 0 65536
     (λ lid below named. pair_fine net place lid (aim_of net lid).end
-    (λ end is adapter carrying. ways_are_followed.reported net lid place (turns.Arrives end) switch
-    (safe.reached place lid end (carried net place switch carrying) below is adapter))))
+    (λ end is host carrying. ways_are_followed.reported net lid place (turns.Arrives end) switch
+    (safe.reached place lid end (carried net place switch carrying) below is host))))
 
 -- ---- and no cycle is reported
 no_ring : (net : NetState) → AreSafe net → is_none (credit_loop net (aims net)) ≡ true
@@ -242,13 +244,48 @@ no_ring net safe = by (deadlock net (other_lids net)) refl
         let cycle = reported_loops_wait net (other_lids net) ring is in
         absurd (false≢true (sym (safe.free ring cycle.0) ∙ cycle.1))
 
+-- ---- and where a switch sends a LID to another, the entry there is known
+unknown_is : (turned : Turn) → is_unknown turned ≡ true → turned ≡ turns.Unknown
+unknown_is turns.Unknown is = refl
+unknown_is (turns.Goes next) is = absurd (false≢true is)
+unknown_is (turns.Arrives there) is = absurd (false≢true is)
+unknown_is turns.Hole is = absurd (false≢true is)
+unknown_is (turns.Nowhere number) is = absurd (false≢true is)
+
+knows_one : (net : NetState) → AreSafe net → (place lid : ℕ) → is_switch_at net.plan.nodes place ≡ true → list_any (λ n. n == lid) (other_lids net) ≡ true
+    → knows_next net place lid ≡ true
+knows_one net safe place lid switch there = by (turn net lid place) refl
+  where
+    by : (turned : Turn) → turn net lid place ≡ turned → goes_on_known net lid turned ≡ true
+    by (turns.Goes next) goes = elim (cases_Bool (is_unknown (turn net lid next))) [
+      | inl unknown ↦ absurd (safe.known place lid next switch there goes (unknown_is (turn net lid next) unknown))
+      | inr known ↦ ap not known
+    ]
+    by (turns.Arrives end) is = refl
+    by turns.Hole is = refl
+    by (turns.Nowhere number) is = refl
+    by turns.Unknown is = refl
+
+all_listed : (p : ℕ → Bool) (whole xs : List ℕ) → ((x : ℕ) → list_any (λ n. n == x) xs ≡ true → list_any (λ n. n == x) whole ≡ true)
+    → ((x : ℕ) → list_any (λ n. n == x) whole ≡ true → p x ≡ true) → list_all p xs ≡ true
+all_listed p whole [] among each = refl
+all_listed p whole (x ∷ xs) among each =
+    and_from (p x) _ (each x (among x (or_left (x == x) _ (eq-eqb x x refl)))) (all_listed p whole xs (λ y is. among y (or_right (x == y) _ is)) each)
+
+knows_each : (net : NetState) → AreSafe net → knows_entries net (other_lids net) ≡ true
+knows_each net safe =
+    all_kept (knows_all net (other_lids net)) (is_switch_at net.plan.nodes) (range_with_len 0 (length net.plan.nodes))
+    (λ place switch.
+    all_listed (knows_next net place) (other_lids net) (other_lids net) (λ lid there. there) (λ lid there. knows_one net safe place lid switch there))
+
 safe_is_reported : (net : NetState) (end : PortRef) → IsAdaptersEnd net end → AreSafe net → says_safe net ≡ true
 unfolding audit_of
 safe_is_reported net end is safe =
     let named = safe.named end is in
     and_from (list_all (have_lids net (aims net)) net.plan.cables) _ (cables_have net safe)
-    (and_from (all_reached (between_adapters (pairs_by net (aims net)))) _ (all_pairs net safe)
-    (and_from (is_none (credit_loop net (aims net))) _ (no_ring net safe) (all_same net named.0 end named.2 safe.same)))
+    (and_from (all_reached (between_hosts (pairs_by net (aims net)))) _ (all_pairs net safe)
+    (and_from (is_none (credit_loop net (aims net))) _ (no_ring net safe)
+    (and_from (name_the_same net (aims net)) _ (all_same net named.0 end named.2 safe.same) (knows_each net safe))))
 
 pub safe_routes_are_reported : SafeRoutesAreReported
 safe_routes_are_reported = record { safe = reported_is_safe; reported = safe_is_reported }

@@ -25,14 +25,15 @@ use Rattle.route_audit.specs.declared.following.Turn.{Turn}
 use Rattle.route_audit.specs.declared.following.Turn.TheVariants as turns
 use Rattle.route_audit.specs.declared.lids.Aim.{Aim}
 use Rattle.route_audit.specs.declared.pairs.Pair.{Pair}
-use Rattle.route_audit.specs.Attached.{carries_adapter, leads_to_adapter}
+use Rattle.route_audit.specs.Attached.{carries_host, leads_to_host}
 use Rattle.route_audit.specs.Audit.{audit_of, credit_loop}
-use Rattle.route_audit.specs.Following.{end_from, fate_by, switch_total}
-use Rattle.route_audit.specs.Laws.{AreSafe, CarriesAnAdapter, EndsBy, IsAdaptersEnd, IsOfKind, NameTheSame, end_port_of, other_lids, says_safe}
-use Rattle.route_audit.specs.Lids.{aim_of, aims, all_lids, end_by, has_lid, have_lids, if_of_kind, is_lacking, is_named, is_of, is_of_fabric, is_of_kind, named_lids, port_of, says_kind, says_of_fabric}
+use Rattle.route_audit.specs.Following.{end_from, fate_by, switch_total, turn}
+use Rattle.route_audit.specs.Laws.{AreSafe, CarriesAHost, EndsBy, IsAdaptersEnd, IsOfKind, NameTheSame, end_port_of, other_lids, says_safe}
+use Rattle.route_audit.specs.Lids.{aim_of, aims, all_lids, end_by, has_lid, have_lids, if_of_kind, is_lacking, is_named, is_of, is_of_fabric, is_of_kind, named_lids, says_kind, says_of_fabric}
+use Rattle.route_audit.specs.Plan.{is_host, port_of}
 use Rattle.route_audit.specs.Net.{NetState, row_at, row_of, table_of}
-use Rattle.route_audit.specs.Pairs.{all_reached, between_adapters, is_between_adapters, is_fate, pair_at, pair_to, pairs_at, pairs_by}
-use Rattle.route_audit.specs.Verdict.{has_table, have_tables, is_known, name_the_same}
+use Rattle.route_audit.specs.Pairs.{all_reached, between_hosts, is_between_hosts, is_fate, pair_at, pair_to, pairs_at, pairs_by}
+use Rattle.route_audit.specs.Verdict.{goes_on_known, has_table, have_tables, is_known, is_unknown, knows_all, knows_entries, knows_next, name_the_same}
 use Rattle.route_audit.proofs.CycleLawLemmas.{no_cycle_is_missed}
 use Rattle.route_audit.proofs.EndlessLemmas.{in_kept, in_range, is_listed, way_there}
 
@@ -40,24 +41,24 @@ abbrev is_reached : Pair → Bool
 is_reached pair = is_fate fates.Reached pair.fate
 
 -- ---- parts of a list all of which are reached
-left_reached : (one other : List Pair) → all_reached (between_adapters (one ++ other)) ≡ true → all_reached (between_adapters one) ≡ true
+left_reached : (one other : List Pair) → all_reached (between_hosts (one ++ other)) ≡ true → all_reached (between_hosts one) ≡ true
 left_reached [] other all = refl
-left_reached (pair ∷ one) other all = elim (cases_Bool (is_between_adapters pair)) [
+left_reached (pair ∷ one) other all = elim (cases_Bool (is_between_hosts pair)) [
   | inl kept ↦ let parts = and_parts (is_reached pair) _ (rw kept at all) in rw (kept, parts.0) (left_reached one other parts.1)
   | inr left ↦ rw left (left_reached one other (rw left at all))
 ]
 
-right_reached : (one other : List Pair) → all_reached (between_adapters (one ++ other)) ≡ true → all_reached (between_adapters other) ≡ true
+right_reached : (one other : List Pair) → all_reached (between_hosts (one ++ other)) ≡ true → all_reached (between_hosts other) ≡ true
 right_reached [] other all = all
-right_reached (pair ∷ one) other all = elim (cases_Bool (is_between_adapters pair)) [
+right_reached (pair ∷ one) other all = elim (cases_Bool (is_between_hosts pair)) [
   | inl kept ↦ let parts = and_parts (is_reached pair) _ (rw kept at all) in right_reached one other parts.1
   | inr left ↦ right_reached one other (rw left at all)
 ]
 
-each_reached : (f : ℕ → List Pair) (xs : List ℕ) (x : ℕ) → list_any (λ y. y == x) xs ≡ true → all_reached (between_adapters (flat_map f xs)) ≡ true → all_reached (between_adapters (f x)) ≡ true
+each_reached : (f : ℕ → List Pair) (xs : List ℕ) (x : ℕ) → list_any (λ y. y == x) xs ≡ true → all_reached (between_hosts (flat_map f xs)) ≡ true → all_reached (between_hosts (f x)) ≡ true
 each_reached f [] x there all = absurd (false≢true there)
 each_reached f (y ∷ ys) x there all = elim (cases_Bool (y == x)) [
-  | inl here ↦ let same : y ≡ x = grind (arith, nat_tests, here) in subst (λ (n : ℕ). all_reached (between_adapters (f n)) ≡ true) same (left_reached (f y) (flat_map f ys) all)
+  | inl here ↦ let same : y ≡ x = grind (arith, nat_tests, here) in subst (λ (n : ℕ). all_reached (between_hosts (f n)) ≡ true) same (left_reached (f y) (flat_map f ys) all)
   | inr other ↦ each_reached f ys x (rw other at there) (right_reached (f y) (flat_map f ys) all)
 ]
 
@@ -109,13 +110,13 @@ comes_there net place lid end all =
     way_there net lid (switch_total net) place (turns.Arrives end)
     (reached_by end (end_from net lid place) (and_parts (is_fate fates.Reached (fate_by end (end_from net lid place))) true all).0)
 
-pair_reached : (net : NetState) (place lid : ℕ) (o : Option PortRef) (end : PortRef) → o ≡ Some end → is_switch_at net.plan.nodes end.node ≡ false
-    → carries_adapter net place ≡ true → all_reached (between_adapters (pair_to net place lid o)) ≡ true → end_from net lid place ≡ Some (turns.Arrives end)
-pair_reached net place lid None end is adapter carries all = cc
-pair_reached net place lid (Some there) end is adapter carries all =
+pair_reached : (net : NetState) (place lid : ℕ) (o : Option PortRef) (end : PortRef) → o ≡ Some end → is_host net.plan end.node ≡ true
+    → carries_host net place ≡ true → all_reached (between_hosts (pair_to net place lid o)) ≡ true → end_from net lid place ≡ Some (turns.Arrives end)
+pair_reached net place lid None end is host carries all = cc
+pair_reached net place lid (Some there) end is host carries all =
     let same : there ≡ end = same_Some there end is in
-    let at_adapter : is_switch_at net.plan.nodes there.node ≡ false = ap (λ (at : PortRef). is_switch_at net.plan.nodes at.node) same ∙ adapter in
-    let parts = and_parts (is_fate fates.Reached (fate_by there (end_from net lid place))) _ (rw (at_adapter, carries) at all) in
+    let at_host : is_host net.plan there.node ≡ true = ap (λ (at : PortRef). is_host net.plan at.node) same ∙ host in
+    let parts = and_parts (is_fate fates.Reached (fate_by there (end_from net lid place))) _ (rw (at_host, carries) at all) in
     reached_by there (end_from net lid place) parts.0 ∙ ap (λ (at : PortRef). Some (turns.Arrives at)) same
 
 -- ---- what has a LID is named by a row
@@ -168,16 +169,16 @@ names net end have is =
     let has = of_cables net (aims net) end net.plan.cables is.1 have in
     lid_of_port net end (named_lids net.dump) (names_below net) (rw is.0 at has)
 
--- ---- what carries an adapter
-pub carries : (net : NetState) (place : ℕ) → CarriesAnAdapter net place → carries_adapter net place ≡ true
+-- ---- what carries a host
+pub carries : (net : NetState) (place : ℕ) → CarriesAHost net place → carries_host net place ≡ true
 carries net place is =
     let low = is.low in
     let high = is.high in
-    let leads : leads_to_adapter net (port place is.number) ≡ true =
-    ap (λ (o : Option PortRef). option_map_or (λ there. not (is_switch_at net.plan.nodes there.node)) o false) is.cable ∙ ap not is.adapter in
-    any_map (leads_to_adapter net) (port place) (range_with_len 1 (ports_at net.plan.nodes place))
-    ∙ list_any_weaker (λ n. n == is.number) (λ n. leads_to_adapter net (port place n))
-    (λ n same. ap (λ (m : ℕ). leads_to_adapter net (port place m)) (eqb-true n is.number same) ∙ leads) (range_with_len 1 (ports_at net.plan.nodes place))
+    let leads : leads_to_host net (port place is.number) ≡ true =
+    ap (λ (o : Option PortRef). option_map_or (λ there. is_host net.plan there.node) o false) is.cable ∙ is.host in
+    any_map (leads_to_host net) (port place) (range_with_len 1 (ports_at net.plan.nodes place))
+    ∙ list_any_weaker (λ n. n == is.number) (λ n. leads_to_host net (port place n))
+    (λ n same. ap (λ (m : ℕ). leads_to_host net (port place m)) (eqb-true n is.number same) ∙ leads) (range_with_len 1 (ports_at net.plan.nodes place))
     (in_range is.number 1 (ports_at net.plan.nodes place) low (omega (arith, high)))
 
 -- ---- the dump and the topology name the same
@@ -235,8 +236,8 @@ kept_end true end other is = (refl, same_Some end other is)
 kept_end false end other is = cc
 
 pub end_kind : (net : NetState) (lid : ℕ) (guid : Option ℕ) (end : PortRef) → end_by net lid guid ≡ Some end
-    → (option_and_then (port_of net.plan.nodes) guid ≡ Some end) × (list_all (says_kind net lid (is_switch_at net.plan.nodes end.node)) (switches net.plan.nodes) ≡ true)
-end_kind net lid guid end is = by (option_and_then (port_of net.plan.nodes) guid) is
+    → (option_and_then (port_of net.plan.ends) guid ≡ Some end) × (list_all (says_kind net lid (is_switch_at net.plan.nodes end.node)) (switches net.plan.nodes) ≡ true)
+end_kind net lid guid end is = by (option_and_then (port_of net.plan.ends) guid) is
   where
     by : (o : Option PortRef) → option_and_then (if_of_kind net lid) o ≡ Some end
         → (o ≡ Some end) × (list_all (says_kind net lid (is_switch_at net.plan.nodes end.node)) (switches net.plan.nodes) ≡ true)
@@ -309,29 +310,40 @@ names_same net same =
     }
 
 -- ---- what is reported to be safe is
-reaches : (net : NetState) → all_reached (between_adapters (pairs_by net (aims net))) ≡ true → (place lid : ℕ) (end : PortRef) → CarriesAnAdapter net place → lid < 65536
-    → end_port_of net lid ≡ Some end → is_switch_at net.plan.nodes end.node ≡ false → EndsBy net lid place (turns.Arrives end)
-reaches net all place lid end carrying below has_port adapter =
+reaches : (net : NetState) → all_reached (between_hosts (pairs_by net (aims net))) ≡ true → (place lid : ℕ) (end : PortRef) → CarriesAHost net place → lid < 65536
+    → end_port_of net lid ≡ Some end → is_host net.plan end.node ≡ true → EndsBy net lid place (turns.Arrives end)
+reaches net all place lid end carrying below has_port host =
     let here = each_reached (pairs_at net (aims net)) (switches net.plan.nodes) place (is_listed net.plan.nodes place carrying.switch) all in
     let named = is_named_lid net lid below (has_end net lid end has_port) in
     let pair = each_reached (λ n. pair_at net place (aim_of net n)) (named_lids net.dump) lid named
-    (ap (λ (pairs : List Pair). all_reached (between_adapters pairs)) (sym (flat_mapped (pair_at net place) (aim_of net) (named_lids net.dump))) ∙ here) in
+    (ap (λ (pairs : List Pair). all_reached (between_hosts pairs)) (sym (flat_mapped (pair_at net place) (aim_of net) (named_lids net.dump))) ∙ here) in
     way_there net lid (switch_total net) place (turns.Arrives end)
-    (pair_reached net place lid (aim_of net lid).end end has_port adapter (carries net place carrying) pair)
+    (pair_reached net place lid (aim_of net lid).end end has_port host (carries net place carrying) pair)
 
 no_ring : (o : Option (List PortRef)) → is_none o ≡ true → o ≡ None
 no_ring None is = refl
 no_ring (Some ring) is = absurd (false≢true is)
 
+-- ---- where a switch sends a LID to another, the entry there is known
+entries_known : (net : NetState) → knows_entries net (other_lids net) ≡ true → (place lid next : ℕ) → is_switch_at net.plan.nodes place ≡ true
+    → list_any (λ n. n == lid) (other_lids net) ≡ true → turn net lid place ≡ turns.Goes next → turn net lid next ≡ turns.Unknown → ⊥
+entries_known net all place lid next switch there goes unknown =
+    let here = each_listed (knows_all net (other_lids net)) (switches net.plan.nodes) place (is_listed net.plan.nodes place switch) all in
+    let one : knows_next net place lid ≡ true = each_listed (knows_next net place) (other_lids net) lid there here in
+    let none : knows_next net place lid ≡ false = ap (goes_on_known net lid) goes ∙ ap (λ (turned : Turn). not (is_unknown turned)) unknown in
+    false≢true (sym none ∙ one)
+
 pub reported_is_safe : (net : NetState) → says_safe net ≡ true → AreSafe net
 unfolding audit_of
 reported_is_safe net safe =
     let lids = and_parts (list_all (have_lids net (aims net)) net.plan.cables) _ safe in
-    let all = and_parts (all_reached (between_adapters (pairs_by net (aims net)))) _ lids.1 in
+    let all = and_parts (all_reached (between_hosts (pairs_by net (aims net)))) _ lids.1 in
     let free = and_parts (is_none (credit_loop net (aims net))) _ all.1 in
+    let same = and_parts (name_the_same net (aims net)) _ free.1 in
     record {
       named = λ end is. names net end lids.0 is;
       reached = reaches net all.0;
       free = no_cycle_is_missed net (other_lids net) (no_ring (credit_loop net (aims net)) free.0);
-      same = names_same net free.1;
+      same = names_same net same.0;
+      known = entries_known net same.1;
     }

@@ -17,7 +17,7 @@ use Rattle.route_audit.specs.declared.following.Fate.TheVariants as fates
 use Rattle.route_audit.specs.Following.{back, end_from, end_within, fate_by, if_goes, loop_from, switch_total, then_end, turn}
 use Rattle.route_audit.specs.Laws.{ComesBy, EndsBy, HasItsLine, IsWay, NeverEnds, EachTroubleHasALine}
 use Rattle.route_audit.specs.Lids.{aim_of}
-use Rattle.route_audit.specs.Lines.{is_least, line_by, loop_line, name_word, nobodys_line, stray_line, trouble_line, trouble_to, unplaced_line}
+use Rattle.route_audit.specs.Lines.{is_least, lid_text, line_by, loop_line, name_word, nobodys_line, stray_line, trouble_line, trouble_to, unplaced_line}
 use Rattle.route_audit.specs.Net.{NetState}
 use Rattle.route_audit.proofs.EndlessLemmas.{is_listed, loops_never_end, turn_goes, way_there}
 
@@ -259,11 +259,11 @@ module _ (net : NetState) (lid : ℕ) where
         least = and_from (nat_le home home) _ (not_less home home (omega arith)) reported.least;
       }
 
-  some_line : (there : ℕ) (found : Option (List ℕ)) → IsReported there found → loop_line net there lid found ≡ [] → ⊥
-  some_line there found reported none =
-      let line : List ℕ = codes "loop " ++ decimal lid ++ flat_map (name_word net) reported.ring ++ 10 ∷ [] in
-      let shown : loop_line net there lid (Some reported.ring) ≡ line = rw reported.least refl in
-      let empty : line ≡ [] = sym shown ∙ (sym (ap (loop_line net there lid) reported.is) ∙ none) in
+  some_line : (there : ℕ) (end : Option PortRef) (found : Option (List ℕ)) → IsReported there found → loop_line net there lid end found ≡ [] → ⊥
+  some_line there end found reported none =
+      let line : List ℕ = codes "loop " ++ lid_text net lid end ++ flat_map (name_word net) reported.ring ++ 10 ∷ [] in
+      let shown : loop_line net there lid end (Some reported.ring) ≡ line = rw reported.least refl in
+      let empty : line ≡ [] = sym shown ∙ (sym (ap (loop_line net there lid end) reported.is) ∙ none) in
       cc
 
   -- ---- the line of what does not go on for ever stands where it ends
@@ -291,7 +291,7 @@ module _ (net : NetState) (lid : ℕ) where
   second_empty (x ∷ xs) ys none = cc
 
   goes_line : (there next : ℕ) (guid : Option ℕ) (end : Option PortRef) → turn net lid there ≡ turns.Goes next → trouble_to net there lid guid end ≡ []
-      → loop_line net there lid (loop_from net lid there) ≡ []
+      → loop_line net there lid end (loop_from net lid there) ≡ []
   goes_line there next guid (Some end) goes none = sym (ap (line_by net there lid end) goes) ∙ none
   goes_line there next (Some guid) None goes none = sym (ap (unplaced_line net there lid) goes) ∙ none
   goes_line there next None None goes none =
@@ -311,7 +311,7 @@ module _ (net : NetState) (lid : ℕ) where
         of_switch = home.1.on.of_switch;
         way = way.0;
         comes = subst (ComesBy net lid place way.0) there way.1;
-        reported = λ none. some_line at (loop_from net lid at) (loop_reported at home.1) (goes_line at (step at) (aim_of net lid).guid (aim_of net lid).end one.goes none);
+        reported = λ none. some_line at (aim_of net lid).end (loop_from net lid at) (loop_reported at home.1) (goes_line at (step at) (aim_of net lid).guid (aim_of net lid).end one.goes none);
       }
 
   -- ---- packets to a port that the topology lacks end at a switch without an entry

@@ -1,7 +1,7 @@
 -- What wrong rules report of two switches.
-use Rattle.std.proofs.Common.{◌≡◌, ◌∙◌, ◌==◌, ◌≤◌, ◌+◌, inl, inr, ℕ, zero, suc, nat_lt, true, false, List, Some, None, ap, filter, lit<, lit≤, map, refl, sym, [], ◌∷◌}
+use Rattle.std.proofs.Common.{◌≡◌, ◌∙◌, ◌==◌, ◌≤◌, ◌+◌, inl, inr, ℕ, zero, suc, nat_lt, true, false, List, Option, Some, None, ap, filter, lit<, lit≤, map, refl, sym, [], ◌∷◌}
 use Rattle.std.proofs.Common.{arith}
-use Rattle.std.specs.List.{list_all, range_with_len}
+use Rattle.std.specs.List.{list_all, list_any, range_with_len}
 use Rattle.std.proofs.lemmas.Bool.{cases_Bool, false≢true}
 use Rattle.std.proofs.lemmas.Bool.Decides.{nat_tests}
 use Rattle.dump_file.specs.Table.{rows_of}
@@ -10,13 +10,16 @@ use Rattle.fabric_parts.specs.Cable.{port}
 use Rattle.step_results.proofs.ListLemmas.{none_passes}
 use Rattle.route_audit.specs.declared.following.Fate.TheVariants as fates
 use Rattle.route_audit.specs.declared.following.Turn.TheVariants as turns
+use Rattle.route_audit.specs.declared.lids.Aim.{Aim}
 use Rattle.topo_file.specs.Node.{is_switch_at}
 use Rattle.route_audit.specs.Audit.{audit_of}
 use Rattle.route_audit.specs.Channels.{depends}
 use Rattle.route_audit.specs.Following.{end_within}
-use Rattle.route_audit.specs.Laws.{CarriesAnAdapter, ComesBy, IsWay, is_cycle, other_lids, says_safe}
+use Rattle.route_audit.specs.Laws.{CarriesAHost, ComesBy, IsWay, is_cycle, other_lids, says_safe}
 use Rattle.route_audit.specs.Lids.{aim_of, aims, all_lids, is_named}
 use Rattle.route_audit.specs.Net.{NetState}
+use Rattle.route_audit.specs.WrongRules.{AggregationDecidesNothing, UnknownEntriesDecide, an_aggregations_hole, an_unknown_entry, to_each_adapter, with_unknown}
+use Rattle.route_audit.specs.WrongRules.{EachStepHasItsLid, LidsGoOnRound, all_three, both_ways, one_way, three_ways}
 use Rattle.route_audit.specs.WrongRules.{FirstPortsAreChannels, HolesAreCounted, HolesHaveALine, LidsAreAsked, LoopsBeginWhereReported, LoopsHaveALine, NobodysLoopsHaveALine, OtherLidsDecide}
 use Rattle.route_audit.specs.WrongRules.{OtherLidsDoNotCount, OtherPortsDecide, OtherTablesDecide, OthersHolesHaveALine, TheLastWaitsForTheFirst, TransitDecidesNothing, TwoMakeACycle, WaysAreAsked}
 use Rattle.route_audit.specs.WrongRules.{WaysAreLonger, a_hole, a_hole_at_home, a_loop, a_nobodys_loop, a_routers_hole, a_routers_loop, a_third_table, adapters_row, another_adapter, another_row, by_adapters_lids}
@@ -27,7 +30,7 @@ pub ways_are_longer : WaysAreLonger
 ways_are_longer law = let none = law (two_switches 1 0) 1 0 refl refl 2 in cc
 
 pub holes_are_counted : HolesAreCounted
-holes_are_counted law = let none : ◌≡◌ {A = ℕ} 0 1 = law (record { from_adapters = true; to_switch = false; fate = fates.Hole } ∷ []) in cc
+holes_are_counted law = let none : ◌≡◌ {A = ℕ} 0 1 = law (record { from_hosts = true; to_host = true; to_switch = false; fate = fates.Hole } ∷ []) in cc
 
 pub first_ports_are_channels : FirstPortsAreChannels
 first_ports_are_channels law =
@@ -41,6 +44,22 @@ two_make_a_cycle law = false≢true (sym (law (two_switches 1 1) (1 ∷ []) refl
 
 pub the_last_waits_for_the_first : TheLastWaitsForTheFirst
 the_last_waits_for_the_first law = false≢true (law (two_switches 1 1) (1 ∷ []) (port 0 1 ∷ []) refl).1
+
+abbrev lid_of : Option Aim → ℕ
+lid_of (Some aim) = aim.lid
+lid_of None = 0
+
+pub lids_go_on_round : LidsGoOnRound
+lids_go_on_round law =
+    let closed = law one_way both_ways (port 0 2 ∷ port 1 1 ∷ []) 0 refl (omega arith) in
+    let named : ◌≡◌ {A = ℕ} 1 closed.aim.lid = ap lid_of closed.is in
+    false≢true (ap (λ (lid : ℕ). depends one_way (lid ∷ []) (port 0 2) (port 1 1)) named ∙ closed.waits)
+
+pub each_step_has_its_lid : EachStepHasItsLid
+each_step_has_its_lid law =
+    let closed = law three_ways all_three (port 0 1 ∷ port 1 1 ∷ port 2 1 ∷ []) 1 refl (omega arith) in
+    let named : ◌≡◌ {A = ℕ} 1 closed.aim.lid = ap lid_of closed.is in
+    false≢true (ap (λ (lid : ℕ). depends three_ways (lid ∷ []) (port 1 1) (port 2 1)) named ∙ closed.waits)
 
 pub loops_begin_where_reported : LoopsBeginWhereReported
 loops_begin_where_reported law =
@@ -69,6 +88,11 @@ few_named rows bound first (suc few) (suc many) less past below =
       | inr other ↦ rw other rest
     ]
 
+aims_to_64 : (net : NetState) → list_all (λ (row : Row). nat_lt row.lid 65) (rows_of net.dump.tables) ≡ true
+    → aims net ≡ map (aim_of net) (filter (is_named (rows_of net.dump.tables)) (range_with_len 0 65))
+unfolding all_lids
+aims_to_64 net below = ap (map (aim_of net)) (few_named (rows_of net.dump.tables) 65 0 65 65536 (lit≤ tt) (lit≤ tt) below)
+
 few_aims : (net : NetState) → list_all (λ (row : Row). nat_lt row.lid 3) (rows_of net.dump.tables) ≡ true
     → aims net ≡ map (aim_of net) (filter (is_named (rows_of net.dump.tables)) (range_with_len 0 3))
 unfolding all_lids
@@ -82,8 +106,8 @@ lids_are_asked law =
     let is : (aim_of no_lids named.0).end ≡ Some (port 2 1) = named.2 in
     cc
 
-first_carries : (first second : List Row) → CarriesAnAdapter (two_with first second) 0
-first_carries first second = record { switch = refl; number = 1; low = omega arith; high = omega arith; at = port 2 1; cable = refl; adapter = refl }
+first_carries : (first second : List Row) → CarriesAHost (two_with first second) 0
+first_carries first second = record { switch = refl; number = 1; low = omega arith; high = omega arith; at = port 2 1; cable = refl; host = refl }
 
 hole_ends : (way : List ℕ) → IsWay a_hole_at_home 1 0 way (turns.Arrives (port 2 1)) → ⊥
 hole_ends [] is = let e : turns.Hole ≡ turns.Arrives (port 2 1) = is.0 in cc
@@ -105,6 +129,17 @@ hole_is_asked = rw (few_aims a_hole refl) refl
 pub transit_decides_nothing : TransitDecidesNothing
 transit_decides_nothing law = false≢true (sym hole_is_asked ∙ law.reported a_hole (port 2 1) (refl, refl) (reported_is_safe a_hole hole_is_safe))
 
+aggregation_is_safe : says_safe an_aggregations_hole ≡ true
+unfolding audit_of
+aggregation_is_safe = rw (few_aims an_aggregations_hole refl) refl
+
+aggregation_is_asked : to_each_adapter an_aggregations_hole ≡ false
+aggregation_is_asked = rw (few_aims an_aggregations_hole refl) refl
+
+pub aggregation_decides_nothing : AggregationDecidesNothing
+aggregation_decides_nothing law =
+    false≢true (sym aggregation_is_asked ∙ law.reported an_aggregations_hole (port 2 1) (refl, refl) (reported_is_safe an_aggregations_hole aggregation_is_safe))
+
 pub other_lids_decide : OtherLidsDecide
 other_lids_decide law =
     let reported : by_adapters_lids a_routers_loop ≡ true = rw (few_aims a_routers_loop refl) refl in
@@ -124,6 +159,12 @@ other_ports_decide law =
     let end = (law.safe another_adapter reported).same.ends 0 2 another_row refl (lit< tt) refl in
     let is : (aim_of another_adapter 2).end ≡ Some end.0 = end.1 in
     cc
+
+pub unknown_entries_decide : UnknownEntriesDecide
+unknown_entries_decide law =
+    let reported : with_unknown an_unknown_entry ≡ true = rw (aims_to_64 an_unknown_entry refl) refl in
+    let among : list_any (λ n. n == 64) (other_lids an_unknown_entry) ≡ true = rw (aims_to_64 an_unknown_entry refl) refl in
+    (law.safe an_unknown_entry reported).known 0 64 1 refl among refl refl
 
 -- ---- lines that are lacking
 loop_is_silent : (there : ℕ) → is_switch_at a_loop.plan.nodes there ≡ true → silent_where is_going a_loop there (aim_of a_loop 1) ≡ []

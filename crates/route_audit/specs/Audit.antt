@@ -1,16 +1,20 @@
--- The audit of a dump over a topology: what is printed, and whether the routes are safe.
-use Rattle.std.specs.Prelude.{ℕ, ◌||◌, Bool, true, false, List, [], ◌∷◌, ◌++◌, codes, decimal, filter, flat_map, length, map, is_some, Option, Some, None}
+-- The audit of a dump over a topology or a discovery: what is printed, and whether the routes are safe.
+use Rattle.std.specs.Prelude.{ℕ, ◌+◌, ◌==◌, ◌&&◌, ◌||◌, nat_lt, Bool, true, false, List, [], ◌∷◌, ◌++◌, codes, decimal, filter, find, flat_map, get_or, length, map, is_some, if◌then◌else◌, Option, Some, None}
+use Rattle.std.specs.List.{range_with_len}
 use Rattle.dump_file.specs.Dump.{DumpState}
+use Rattle.fabric_parts.specs.Cable.{port}
 use Rattle.fabric_parts.specs.declared.cable.PortRef.{PortRef}
+use Rattle.netdiscover_file.specs.Discovery.{DiscoveryState}
 use Rattle.topo_file.specs.Topology.{TopologyState}
 use Rattle.route_audit.specs.declared.following.Fate.TheVariants as fates
 use Rattle.route_audit.specs.declared.lids.Aim.{Aim}
 use Rattle.route_audit.specs.declared.pairs.Pair.{Pair}
-use Rattle.route_audit.specs.Channels.{deadlock}
+use Rattle.route_audit.specs.Channels.{deadlock, leaves_by}
 use Rattle.route_audit.specs.Lids.{aims, is_others}
-use Rattle.route_audit.specs.Lines.{files_by, port_text, troubles_by}
+use Rattle.route_audit.specs.Lines.{files_by, lid_text, port_text, troubles_by}
 use Rattle.route_audit.specs.Net.{NetState}
-use Rattle.route_audit.specs.Pairs.{between_adapters, count_of, in_transit, pairs_by, to_switches}
+use Rattle.route_audit.specs.Plan.{plan_found, plan_of}
+use Rattle.route_audit.specs.Pairs.{between_hosts, count_of, in_transit, pairs_by, to_aggregation, to_switches}
 use Rattle.route_audit.specs.Verdict.{verdict_by, verdict_is_safe, verdict_line}
 
 -- what is found: the lines, and whether the routes are safe
@@ -33,13 +37,34 @@ if_none (Some x) other = None
 abbrev pub switches_credit_loop : NetState → List Aim → Option (List PortRef)
 switches_credit_loop net all = if_none (credit_loop net all) (deadlock net (lids_of all))
 
--- `deadlock s6/3 s8/2`, `deadlock switch-lids s2/3 s3/3`
+-- ---- the LID by which a channel of a cycle waits for the one behind it, the last for the first: the first of these that leaves
+-- by the one, and by the other
+abbrev pub behind : List PortRef → ℕ → PortRef
+behind ring index = get_or ring (if nat_lt (index + 1) (length ring) then index + 1 else 0) (port 0 0)
+
+abbrev pub leaves_by_both : NetState → PortRef → PortRef → Aim → Bool
+leaves_by_both net a b aim = leaves_by net a aim.lid && leaves_by net b aim.lid
+
+abbrev pub closing : NetState → List Aim → List PortRef → ℕ → Option Aim
+closing net all ring index = find (leaves_by_both net (get_or ring index (port 0 0)) (behind ring index)) all
+
+-- `deadlock s6/3 s8/2 by LIDs 5 (h2/1) 3 (h1/1)`, `deadlock switch-lids s2/3 s3/3 by LIDs 8 (s4/0) 9 (s1/0)`
 abbrev pub port_word : NetState → PortRef → List ℕ
 port_word net port = codes " " ++ port_text net port
 
-abbrev pub ring_line : NetState → List ℕ → Option (List PortRef) → List ℕ
-ring_line net words (Some ring) = words ++ flat_map (port_word net) ring ++ 10 ∷ []
-ring_line net words None = []
+abbrev pub lid_word : NetState → Option Aim → List ℕ
+lid_word net (Some aim) = codes " " ++ lid_text net aim.lid aim.end
+lid_word net None = []
+
+abbrev pub closing_word : NetState → List Aim → List PortRef → ℕ → List ℕ
+closing_word net all ring index = lid_word net (closing net all ring index)
+
+abbrev pub closing_words : NetState → List Aim → List PortRef → List ℕ
+closing_words net all ring = flat_map (closing_word net all ring) (range_with_len 0 (length ring))
+
+abbrev pub ring_line : NetState → List ℕ → List Aim → Option (List PortRef) → List ℕ
+ring_line net words all (Some ring) = words ++ flat_map (port_word net) ring ++ codes " by LIDs" ++ closing_words net all ring ++ 10 ∷ []
+ring_line net words all None = []
 
 -- ---- counts
 -- `adapters: 196 pairs, 196 reached, 0 holes, 0 nowhere, 0 wrong, 0 loops, 0 unknown, no deadlock`
@@ -61,25 +86,38 @@ other_part pairs = decimal (count_of fates.Loop pairs) ++ codes " loops, " ++ de
 unfoldable pub count_line : List ℕ → List Pair → List ℕ → List ℕ
 count_line title pairs words = title ++ reached_part pairs ++ lost_part pairs ++ other_part pairs ++ words ++ 10 ∷ []
 
+-- of aggregation nodes there is a line where some LID is theirs
+unfoldable pub aggregation_line : List Pair → List ℕ
+aggregation_line pairs = if length pairs == 0 then [] else count_line (codes "aggregation: ") pairs []
+
 unfoldable pub counts_by : List Pair → Bool → Bool → List ℕ
 counts_by pairs others switches =
-    count_line (codes "adapters: ") (between_adapters pairs) (deadlock_words others) ++ count_line (codes "transit: ") (in_transit pairs) []
+    count_line (codes "adapters: ") (between_hosts pairs) (deadlock_words others) ++ count_line (codes "transit: ") (in_transit pairs) []
+    ++ aggregation_line (to_aggregation pairs)
     ++ count_line (codes "switches: ") (to_switches pairs) [] ++ count_line (codes "audit: ") pairs (deadlock_words (others || switches))
 
 -- ---- the whole
-abbrev pub lines_by : NetState → List Aim → Option (List PortRef) → Option (List PortRef) → List ℕ
+unfoldable pub lines_by : NetState → List Aim → Option (List PortRef) → Option (List PortRef) → List ℕ
 lines_by net all others switches =
-    files_by net all ++ troubles_by net all ++ ring_line net (codes "deadlock") others ++ ring_line net (codes "deadlock switch-lids") switches
+    files_by net all ++ troubles_by net all ++ ring_line net (codes "deadlock") (filter (is_others net) all) others
+    ++ ring_line net (codes "deadlock switch-lids") all switches
 
 unfoldable pub text_by : NetState → List Aim → Option (List PortRef) → Option (List PortRef) → List ℕ
 text_by net all others switches =
     lines_by net all others switches ++ counts_by (pairs_by net all) (is_some others) (is_some switches) ++ verdict_line (verdict_by net all others)
 
-unfoldable pub audit_of : NetState → AuditState
-audit_of net = record {
-  text = text_by net (aims net) (credit_loop net (aims net)) (switches_credit_loop net (aims net));
-  is_safe = verdict_is_safe (verdict_by net (aims net) (credit_loop net (aims net)));
+-- by the cycles that were found
+abbrev pub audit_by : NetState → List Aim → Option (List PortRef) → Option (List PortRef) → AuditState
+audit_by net all others switches = record {
+  text = text_by net all others switches;
+  is_safe = verdict_is_safe (verdict_by net all others);
 }
 
+unfoldable pub audit_of : NetState → AuditState
+audit_of net = audit_by net (aims net) (credit_loop net (aims net)) (switches_credit_loop net (aims net))
+
 abbrev pub audit : TopologyState → DumpState → AuditState
-audit plan dump = audit_of (record { plan = plan; dump = dump })
+audit topology dump = audit_of (record { plan = plan_of topology; dump = dump })
+
+abbrev pub audit_discovery : DiscoveryState → DumpState → AuditState
+audit_discovery found dump = audit_of (record { plan = plan_found found; dump = dump })

@@ -9,13 +9,14 @@ use Rattle.topo_file.specs.declared.node.Node.{Node}
 use Rattle.route_audit.specs.declared.entry.Entry.TheVariants.{Out, Missing, Unreported}
 use Rattle.route_audit.specs.declared.lids.Aim.{Aim}
 use Rattle.route_audit.specs.declared.verdict.Verdict.{Verdict}
-use Rattle.route_audit.specs.Attached.{carries_adapter}
-use Rattle.route_audit.specs.Audit.{count_line, counts_by, deadlock_words}
-use Rattle.route_audit.specs.Lids.{aim_of, is_lacking, number_in, port_of}
+use Rattle.route_audit.specs.Attached.{carries_host}
+use Rattle.route_audit.specs.Audit.{count_line, counts_by, deadlock_words, ring_line}
+use Rattle.route_audit.specs.Lids.{aim_of, is_lacking}
 use Rattle.text_parts.specs.Parts.{guid_text}
 use Rattle.route_audit.specs.Lines.{leaves_out, no_lid_lines, no_port_line, no_switch_line, no_table_line, stray_line, trouble_line, troubles_by}
 use Rattle.route_audit.specs.Net.{NetState, entry, entry_in}
 use Rattle.route_audit.specs.Pairs.{pairs_by}
+use Rattle.route_audit.specs.Plan.{ends_of, port_of}
 use Rattle.route_audit.specs.Verdict.{verdict_line}
 use Rattle.route_audit.specs.WrongRules.{a_hole, a_routers_hole, a_routers_loop, a_row, a_switch, a_table, two_with}
 
@@ -24,12 +25,14 @@ abbrev topped : ℕ → Table
 topped top = record (a_table 16 1) { top = top }
 
 pub record EntriesAreReported : Type 0 where
-  pub there : entry_in 1 (a_table 16 254) ≡ Out 254
-  pub closed : entry_in 1 (a_table 16 255) ≡ Missing
-  pub without_row : entry_in 2 (topped 64) ≡ Missing
-  pub left_out : entry_in 192 (topped 192) ≡ Unreported
-  pub above_a_multiple : entry_in 193 (topped 193) ≡ Missing
-  pub below_the_top : entry_in 64 (topped 192) ≡ Missing
+  pub there : entry_in 2 1 (a_table 16 254) ≡ Out 254
+  pub closed : entry_in 2 1 (a_table 16 255) ≡ Missing
+  pub without_row : entry_in 127 2 (topped 64) ≡ Missing
+  pub of_many_ports : entry_in 128 2 (topped 64) ≡ Unreported
+  pub closed_of_many : entry_in 128 1 (a_table 16 255) ≡ Missing
+  pub left_out : entry_in 2 192 (topped 192) ≡ Unreported
+  pub above_a_multiple : entry_in 2 193 (topped 193) ≡ Missing
+  pub below_the_top : entry_in 2 64 (topped 192) ≡ Missing
   pub without_table : entry a_hole 1 2 ≡ Unreported
   pub has_the_row : leaves_out 1 (topped 1) ≡ false
 
@@ -37,15 +40,17 @@ pub record EntriesAreReported : Type 0 where
 abbrev an_adapter : ℕ → ℕ → Node
 an_adapter guid ports = record { name = codes "k"; node_type = ChannelAdapter; guid = guid; ports = ports }
 
+abbrev a_few : List Node
+a_few = a_switch (codes "A") 16 ∷ an_adapter 256 2 ∷ an_adapter 512 1 ∷ []
+
 pub record PortsAreFound : Type 0 where
-  pub switch : number_in 16 (a_switch (codes "A") 16) ≡ Some 0
-  pub port_of_a_switch : number_in 17 (a_switch (codes "A") 16) ≡ None
-  pub node : number_in 256 (an_adapter 256 2) ≡ None
-  pub first : number_in 257 (an_adapter 256 2) ≡ Some 1
-  pub last : number_in 258 (an_adapter 256 2) ≡ Some 2
-  pub past : number_in 259 (an_adapter 256 2) ≡ None
-  pub among_nodes : port_of (a_switch (codes "A") 16 ∷ an_adapter 256 2 ∷ an_adapter 512 1 ∷ []) 513 ≡ Some (port 2 1)
-  pub of_none : port_of (a_switch (codes "A") 16 ∷ an_adapter 256 2 ∷ []) 513 ≡ None
+  pub switch : port_of (ends_of a_few) 16 ≡ Some (port 0 0)
+  pub port_of_a_switch : port_of (ends_of a_few) 17 ≡ None
+  pub node : port_of (ends_of a_few) 256 ≡ None
+  pub first : port_of (ends_of a_few) 257 ≡ Some (port 1 1)
+  pub last : port_of (ends_of a_few) 258 ≡ Some (port 1 2)
+  pub past : port_of (ends_of a_few) 259 ≡ None
+  pub of_another : port_of (ends_of a_few) 513 ≡ Some (port 2 1)
 
 -- ---- lines: two switches, the first with an adapter, and their entries for its LID
 abbrev with_entries : ℕ → ℕ → NetState
@@ -63,10 +68,10 @@ abbrev astray : ℕ → NetState
 astray number = record { plan = a_hole.plan; dump = record { tables = strays number ∷ [] } }
 
 pub record TroublesAreReported : Type 0 where
-  pub hole : troubles_by (with_entries 1 255) (an_aim ∷ []) ≡ codes "hole B 1\n"
-  pub loop : troubles_by (with_entries 2 1) (an_aim ∷ []) ≡ codes "loop 1 A B\n"
-  pub wrong : troubles_by (with_entries 0 1) (an_aim ∷ []) ≡ codes "wrong A 1 A/0\n"
-  pub nowhere : troubles_by (with_entries 1 254) (an_aim ∷ []) ≡ codes "nowhere B 1 port 254\n"
+  pub hole : troubles_by (with_entries 1 255) (an_aim ∷ []) ≡ codes "hole B 1 (h/1)\n"
+  pub loop : troubles_by (with_entries 2 1) (an_aim ∷ []) ≡ codes "loop 1 (h/1) A B\n"
+  pub wrong : troubles_by (with_entries 0 1) (an_aim ∷ []) ≡ codes "wrong A 1 (h/1) A/0\n"
+  pub nowhere : troubles_by (with_entries 1 254) (an_aim ∷ []) ≡ codes "nowhere B 1 (h/1) port 254\n"
   pub none : troubles_by (with_entries 1 1) (an_aim ∷ []) ≡ []
   pub stray : stray_line (astray 2) 0 21 ≡ codes "stray A 21\n"
   pub closed_stray : stray_line (astray 255) 0 21 ≡ []
@@ -74,6 +79,12 @@ pub record TroublesAreReported : Type 0 where
   pub hole_to_a_router : troubles_by a_routers_hole (aim_of a_routers_hole 2 ∷ []) ≡ codes "hole A 2\n"
   pub loop_to_a_router : troubles_by a_routers_loop (aim_of a_routers_loop 2 ∷ []) ≡ codes "loop 2 A B\n"
   pub last_hop_to_a_router : trouble_line a_routers_hole 1 (aim_of a_routers_hole 2) ≡ []
+
+-- ---- the line of a credit loop, with the LIDs that close it
+pub record DeadlocksAreReported : Type 0 where
+  pub to_the_adapter : ring_line (with_entries 2 1) (codes "deadlock") (an_aim ∷ []) (Some (port 0 2 ∷ port 1 1 ∷ []))
+      ≡ codes "deadlock A/2 B/1 by LIDs 1 (h/1) 1 (h/1)\n"
+  pub none : ring_line (with_entries 1 1) (codes "deadlock") (an_aim ∷ []) None ≡ []
 
 -- what the files lack of one another
 pub record LacksAreReported : Type 0 where
@@ -100,8 +111,8 @@ pub record KindsAreReported : Type 0 where
 
 -- ---- an adapter is attached to the first switch, and none to the second
 pub record AttachedAreReported : Type 0 where
-  pub first : carries_adapter a_hole 0 ≡ true
-  pub second : carries_adapter a_hole 1 ≡ false
+  pub first : carries_host a_hole 0 ≡ true
+  pub second : carries_host a_hole 1 ≡ false
 
 -- ---- counts
 pub record CountsAreReported : Type 0 where
@@ -114,16 +125,17 @@ pub record CountsAreReported : Type 0 where
       ++ codes "audit: 2 pairs, 0 reached, 0 holes, 0 nowhere, 0 wrong, 2 loops, 0 unknown, deadlock\n"
 
 -- ---- the last line
-abbrev a_verdict : Bool → Bool → Bool → Bool → Verdict
-a_verdict lids reached free same = record { has_lids = lids; is_reached = reached; is_free = free; is_same = same }
+abbrev a_verdict : Bool → Bool → Bool → Bool → Bool → Verdict
+a_verdict lids reached free same known = record { has_lids = lids; is_reached = reached; is_free = free; is_same = same; is_known = known }
 
 abbrev the_rest : List ℕ
 the_rest = codes ", as if all packets used one virtual lane; multicast is not judged\n"
 
 pub record VerdictsAreReported : Type 0 where
-  pub safe : verdict_line (a_verdict true true true true) ≡ codes "verdict: safe" ++ the_rest
-  pub lids : verdict_line (a_verdict false true true true) ≡ codes "verdict: not safe (no-lid)" ++ the_rest
-  pub reached : verdict_line (a_verdict true false true true) ≡ codes "verdict: not safe (unreached)" ++ the_rest
-  pub free : verdict_line (a_verdict true true false true) ≡ codes "verdict: not safe (deadlock)" ++ the_rest
-  pub same : verdict_line (a_verdict true true true false) ≡ codes "verdict: not safe (mismatch)" ++ the_rest
-  pub none : verdict_line (a_verdict false false false false) ≡ codes "verdict: not safe (no-lid, unreached, deadlock, mismatch)" ++ the_rest
+  pub safe : verdict_line (a_verdict true true true true true) ≡ codes "verdict: safe" ++ the_rest
+  pub lids : verdict_line (a_verdict false true true true true) ≡ codes "verdict: not safe (no-lid)" ++ the_rest
+  pub reached : verdict_line (a_verdict true false true true true) ≡ codes "verdict: not safe (unreached)" ++ the_rest
+  pub free : verdict_line (a_verdict true true false true true) ≡ codes "verdict: not safe (deadlock)" ++ the_rest
+  pub same : verdict_line (a_verdict true true true false true) ≡ codes "verdict: not safe (mismatch)" ++ the_rest
+  pub known : verdict_line (a_verdict true true true true false) ≡ codes "verdict: not safe (unknown)" ++ the_rest
+  pub none : verdict_line (a_verdict false false false false false) ≡ codes "verdict: not safe (no-lid, unreached, deadlock, mismatch, unknown)" ++ the_rest

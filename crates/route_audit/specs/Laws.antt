@@ -1,12 +1,17 @@
 -- What is so of all fabrics and dumps: the statements of the laws of `src/laws.rt`.
-use Rattle.std.specs.Prelude.{ℕ, ◌≡◌, ◌<◌, ◌≤◌, ◌+◌, ◌↔◌, Bool, true, false, ◌&&◌, List, [], ◌∷◌, filter, length, slice_get, Option, Some, None, is_some}
+use Rattle.std.specs.Prelude.{ℕ, ◌≡◌, ◌<◌, ◌≤◌, ◌+◌, ◌==◌, ◌↔◌, Bool, true, false, ◌&&◌, ◌||◌, List, [], ◌∷◌, ◌++◌, filter, get_or, length, slice_get, Option, Some, None, is_some}
 use Rattle.std.specs.List.{list_all, list_any}
 use Rattle.dump_file.specs.declared.destination.Destination.{Destination}
 use Rattle.dump_file.specs.declared.destination.Destination.TheVariants.{ChannelAdapter, Switch, Router, FurtherLid, Nobody, NotReported}
 use Rattle.dump_file.specs.declared.row.Row.{Row}
 use Rattle.dump_file.specs.declared.table.Table.{Table}
 use Rattle.fabric_parts.specs.Cable.{far_end, is_cabled, is_same_port, port}
+use Rattle.fabric_parts.specs.declared.cable.Cable.{Cable}
 use Rattle.fabric_parts.specs.declared.cable.PortRef.{PortRef}
+use Rattle.netdiscover_file.specs.declared.port.PortLine.{PortLine}
+use Rattle.netdiscover_file.specs.Agreement.{is_one_cable}
+use Rattle.netdiscover_file.specs.Discovery.{DiscoveryState}
+use Rattle.netdiscover_file.specs.Sound.{IsSound}
 use Rattle.topo_file.specs.Node.{is_switch_at, ports_at}
 use Rattle.route_audit.specs.declared.following.Fate.{Fate}
 use Rattle.route_audit.specs.declared.following.Fate.TheVariants as fates
@@ -14,15 +19,45 @@ use Rattle.route_audit.specs.declared.following.Turn.{Turn}
 use Rattle.route_audit.specs.declared.following.Turn.TheVariants as turns
 use Rattle.route_audit.specs.declared.lids.Aim.{Aim}
 use Rattle.route_audit.specs.declared.pairs.Pair.{Pair}
-use Rattle.route_audit.specs.Audit.{audit_of, lids_of}
+use Rattle.route_audit.specs.Audit.{audit_of, behind, closing, lids_of}
 use Rattle.route_audit.specs.Channels.{channels, deadlock, depends}
 use Rattle.route_audit.specs.Following.{end_from, end_within, fate, loop_from, turn}
 use Rattle.route_audit.specs.Lids.{aim_of, aims, is_others}
 use Rattle.route_audit.specs.Lines.{has_switch, trouble_line}
 use Rattle.route_audit.specs.Net.{NetState, row_at, table_at}
 use Rattle.route_audit.specs.Pairs.{count_of}
+use Rattle.route_audit.specs.Plan.{PlanState, is_host, joins_switch, plan_found}
+
+-- ---- the cables of a discovery
+-- the cable joins these two ports
+abbrev pub joins : PortRef → PortRef → Cable → Bool
+joins a b cable = (is_same_port cable.first a && is_same_port cable.second b) || (is_same_port cable.first b && is_same_port cable.second a)
+
+-- a line of the one port and a line of the other name one another
+abbrev pub has_far_line : DiscoveryState → PortLine → PortRef → Bool
+has_far_line found line b = list_any (λ other. is_same_port other.port b && is_one_cable found.nodes line other) found.ports
+
+abbrev pub are_joined : DiscoveryState → PortRef → PortRef → Bool
+are_joined found a b = list_any (λ line. is_same_port line.port a && has_far_line found line b) found.ports
+
+-- two ports have a cable exactly where lines say so, and the cables that stand apart are those that join no switch
+pub record TakesTheCables (plan : DiscoveryState → PlanState) : Type 0 where
+  pub joined : (found : DiscoveryState) (a b : PortRef) → IsSound found → list_any (joins a b) ((plan found).cables ++ (plan found).apart) ≡ are_joined found a b
+  pub at_switches : (found : DiscoveryState) → list_all (joins_switch found.nodes) (plan found).cables ≡ true
+  pub apart : (found : DiscoveryState) → list_any (joins_switch found.nodes) (plan found).apart ≡ false
+
+abbrev pub CablesAreTaken : Type 0
+CablesAreTaken = TakesTheCables plan_found
 
 -- ---- following entries
+-- the switch here sends the LID to the switch there
+abbrev pub GoesTo : NetState → (lid place next : ℕ) → Type 0
+GoesTo net lid place next = turn net lid place ≡ turns.Goes next
+
+-- the entry is unknown
+abbrev pub IsUnknownAt : NetState → (lid place : ℕ) → Type 0
+IsUnknownAt net lid place = turn net lid place ≡ turns.Unknown
+
 -- what goes from this switch never ends, whatever number of switches it is followed through
 abbrev pub NeverEnds : NetState → ℕ → ℕ → Type 0
 NeverEnds net lid place = (count : ℕ) → end_within net lid count place ≡ None
@@ -90,7 +125,7 @@ abbrev pub ChannelsAreReported : Type 0
 ChannelsAreReported = ReportsChannels channels
 
 -- ---- what is wrong has its line
--- the end port that the dump and the topology give a LID
+-- the end port that the dump and the fabric give a LID
 abbrev pub end_port_of : NetState → ℕ → Option PortRef
 end_port_of net lid = (aim_of net lid).end
 
@@ -112,7 +147,7 @@ pub record ReportsTroubles (line : NetState → ℕ → Aim → List ℕ) : Type
   -- nothing is known
   pub lost : (net : NetState) (lid place : ℕ) (end : PortRef) → is_switch_at net.plan.nodes place ≡ true → end_port_of net lid ≡ Some end
       → (fate net lid end place ≡ fates.Reached → ⊥) → (fate net lid end place ≡ fates.Unknown → ⊥) → HasItsLine line net lid place
-  -- with each LID of a port that the topology lacks, if packets come to a switch that has no entry
+  -- with each LID of a port that the fabric lacks, if packets come to a switch that has no entry
   pub ended : (net : NetState) (lid place guid : ℕ) → is_switch_at net.plan.nodes place ≡ true → (aim_of net lid).guid ≡ Some guid
       → EndsBy net lid place turns.Hole → HasItsLine line net lid place
   -- and with whichever LID, if packets never end
@@ -144,6 +179,21 @@ ReportsCycles reports =
 abbrev pub ReportedLoopsWait : Type 0
 ReportedLoopsWait = ReportsCycles deadlock
 
+-- the LID that is printed for a channel of the cycle is one of these, and the channel waits by it for the one behind it
+pub record ClosesTheStep (net : NetState) (all : List Aim) (a b : PortRef) (found : Option Aim) : Type 0 where
+  pub aim : Aim
+  pub is : found ≡ Some aim
+  pub among : list_any (λ lid. lid == aim.lid) (lids_of all) ≡ true
+  pub waits : depends net (aim.lid ∷ []) a b ≡ true
+
+abbrev pub ReportsClosing : (NetState → List Aim → List PortRef → ℕ → Option Aim) → Type 0
+ReportsClosing reports =
+    (net : NetState) (all : List Aim) (ring : List PortRef) (index : ℕ) → deadlock net (lids_of all) ≡ Some ring → index < length ring
+    → ClosesTheStep net all (get_or ring index (port 0 0)) (behind ring index) (reports net all ring index)
+
+abbrev pub LoopsAreClosedByTheirLids : Type 0
+LoopsAreClosedByTheirLids = ReportsClosing closing
+
 -- where none is reported no channels wait for one another in a cycle, however long
 abbrev pub MissesNone : (NetState → List ℕ → Option (List PortRef)) → Type 0
 MissesNone reports =
@@ -158,21 +208,21 @@ NoCycleIsMissed = MissesNone deadlock
 abbrev pub IsAdaptersEnd : NetState → PortRef → Type 0
 IsAdaptersEnd net end = (is_switch_at net.plan.nodes end.node ≡ false) × (is_cabled net.plan.cables end ≡ true)
 
--- a cable joins a port of the switch there and a port of an adapter
-pub record CarriesAnAdapter (net : NetState) (place : ℕ) : Type 0 where
+-- a cable joins a port of the switch there and a port of a host
+pub record CarriesAHost (net : NetState) (place : ℕ) : Type 0 where
   pub switch : is_switch_at net.plan.nodes place ≡ true
   pub number : ℕ
   pub low : 1 ≤ number
   pub high : number ≤ ports_at net.plan.nodes place
   pub at : PortRef
   pub cable : far_end net.plan.cables (port place number) ≡ Some at
-  pub adapter : is_switch_at net.plan.nodes at.node ≡ false
+  pub host : is_host net.plan at.node ≡ true
 
--- all LIDs that rows name but the switches' own: those of adapters, of ports that the topology lacks, and of nobody
+-- all LIDs that rows name but the switches' own: those of adapters, of ports that the fabric lacks, and of nobody
 abbrev pub other_lids : NetState → List ℕ
 other_lids net = lids_of (filter (is_others net) (aims net))
 
--- the LID is that of a port of the topology, of the kind that the row says: an adapter's or a switch's
+-- the LID is that of a port of the fabric, of the kind that the row says: an adapter's or a switch's
 abbrev pub IsOfKind : NetState → ℕ → Destination → Type 0
 IsOfKind net lid (ChannelAdapter guid) = (end : PortRef) × (end_port_of net lid ≡ Some end) × (is_switch_at net.plan.nodes end.node ≡ false)
 IsOfKind net lid (Switch guid) = (end : PortRef) × (end_port_of net lid ≡ Some end) × (is_switch_at net.plan.nodes end.node ≡ true)
@@ -181,7 +231,7 @@ IsOfKind net lid (FurtherLid guid) = Unit {0}
 IsOfKind net lid Nobody = Unit {0}
 IsOfKind net lid NotReported = Unit {0}
 
--- the dump and the topology name the same switches and ports of adapters
+-- the dump and the fabric name the same switches and ports of adapters
 pub record NameTheSame (net : NetState) : Type 0 where
   -- each switch has a table
   pub tables : (place : ℕ) → is_switch_at net.plan.nodes place ≡ true → is_some (table_at net place) ≡ true
@@ -194,13 +244,16 @@ pub record NameTheSame (net : NetState) : Type 0 where
 pub record AreSafe (net : NetState) : Type 0 where
   -- each port of an adapter that has a cable has a LID
   pub named : (end : PortRef) → IsAdaptersEnd net end → (lid : ℕ) × (lid < 65536) × (end_port_of net lid ≡ Some end)
-  -- from each switch to which an adapter is attached a way leads to the adapter port of each LID
-  pub reached : (place lid : ℕ) (end : PortRef) → CarriesAnAdapter net place → lid < 65536 → end_port_of net lid ≡ Some end
-      → is_switch_at net.plan.nodes end.node ≡ false → EndsBy net lid place (turns.Arrives end)
+  -- from each switch to which a host is attached a way leads to the host's port of each LID
+  pub reached : (place lid : ℕ) (end : PortRef) → CarriesAHost net place → lid < 65536 → end_port_of net lid ≡ Some end
+      → is_host net.plan end.node ≡ true → EndsBy net lid place (turns.Arrives end)
   -- along all LIDs but the switches' own no channels wait for one another in a cycle, however long
   pub free : (ring : List PortRef) → are_channels net ring ≡ true → is_cycle (depends net (other_lids net)) ring ≡ false
-  -- and the dump is of the topology's fabric
+  -- the dump is of this fabric
   pub same : NameTheSame net
+  -- and where a switch sends one of these LIDs to another, the entry there is known
+  pub known : (place lid next : ℕ) → is_switch_at net.plan.nodes place ≡ true → list_any (λ n. n == lid) (other_lids net) ≡ true
+      → GoesTo net lid place next → IsUnknownAt net lid next → ⊥
 
 -- this says so exactly where routes are safe, if some adapter's port has a cable, as the subnet manager's
 pub record ReportsSafe (says : NetState → Bool) : Type 0 where

@@ -1,6 +1,8 @@
 pub mod Cycle
 pub mod Marks
 pub mod FarEnds
+pub mod Plan
+pub mod Ends
 pub mod Net
 pub mod Lookup
 pub mod Following

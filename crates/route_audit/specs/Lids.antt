@@ -1,21 +1,21 @@
--- The LIDs that a dump names, and the end ports of the topology that have them.
-use Rattle.std.specs.Prelude.{ℕ, ◌+◌, ◌-◌, ◌==◌, ◌&&◌, ◌||◌, nat_le, nat_lt, Bool, true, false, not, List, [], ◌∷◌, map, flat_map, filter, if◌then◌else◌, Option, Some, None, option_map, is_none}
+-- The LIDs that a dump names, and the end ports of the fabric that have them.
+use Rattle.std.specs.Prelude.{ℕ, ◌==◌, ◌&&◌, ◌||◌, Bool, true, false, not, List, [], ◌∷◌, map, flat_map, filter, if◌then◌else◌, Option, Some, None, is_none}
 use Rattle.std.specs.List.{list_all, list_any, range_with_len}
-use Rattle.std.specs.Option.{option_and_then, option_map_or, option_or}
+use Rattle.std.specs.Option.{option_and_then, option_map_or}
 use Rattle.dump_file.specs.declared.destination.Destination.{Destination}
 use Rattle.dump_file.specs.declared.destination.Destination.TheVariants.{ChannelAdapter, Switch, Router, FurtherLid, Nobody, NotReported}
 use Rattle.dump_file.specs.declared.row.Row.{Row}
 use Rattle.dump_file.specs.Dump.{DumpState}
 use Rattle.dump_file.specs.Row.{end_of}
 use Rattle.dump_file.specs.Table.{rows_of}
-use Rattle.fabric_parts.specs.Cable.{is_same_port, port}
+use Rattle.fabric_parts.specs.Cable.{is_same_port}
 use Rattle.fabric_parts.specs.declared.cable.Cable.{Cable}
 use Rattle.fabric_parts.specs.declared.cable.PortRef.{PortRef}
 use Rattle.topo_file.specs.Connectivity.{switches}
-use Rattle.topo_file.specs.declared.node.Node.{Node}
-use Rattle.topo_file.specs.Node.{is_switch, is_switch_at}
+use Rattle.topo_file.specs.Node.{is_switch_at}
 use Rattle.route_audit.specs.declared.lids.Aim.{Aim}
 use Rattle.route_audit.specs.Net.{NetState, row_at}
+use Rattle.route_audit.specs.Plan.{port_of}
 
 -- ---- a row of some table is of this LID
 abbrev pub is_named : List Row → ℕ → Bool
@@ -26,20 +26,6 @@ all_lids = range_with_len 0 65536
 
 abbrev pub named_lids : DumpState → List ℕ
 named_lids dump = filter (is_named (rows_of dump.tables)) all_lids
-
--- ---- the port of this GUID: a switch's port 0 has that of the switch, port p of an adapter that which is p above its node's
-abbrev pub number_in : ℕ → Node → Option ℕ
-number_in guid node =
-    if is_switch node then (if guid == node.guid then Some 0 else None)
-    else (if nat_lt node.guid guid && nat_le guid (node.guid + node.ports) then Some (guid - node.guid) else None)
-
--- the first that has it, of nodes that are counted from this place
-abbrev pub port_from : ℕ → ℕ → List Node → Option PortRef
-port_from guid place [] = None
-port_from guid place (node ∷ rest) = option_or (option_map (port place) (number_in guid node)) (port_from guid (place + 1) rest)
-
-abbrev pub port_of : List Node → ℕ → Option PortRef
-port_of nodes guid = port_from guid 0 nodes
 
 -- ---- whose a row says that its LID is
 -- an end port, a switch's or not, is of the kind that is said, where one is
@@ -74,7 +60,7 @@ if_of_kind net lid end =
     if list_all (says_kind net lid (is_switch_at net.plan.nodes end.node)) (switches net.plan.nodes) then Some end else None
 
 abbrev pub end_by : NetState → ℕ → Option ℕ → Option PortRef
-end_by net lid guid = option_and_then (if_of_kind net lid) (option_and_then (port_of net.plan.nodes) guid)
+end_by net lid guid = option_and_then (if_of_kind net lid) (option_and_then (port_of net.plan.ends) guid)
 
 abbrev pub aim_of : NetState → ℕ → Aim
 aim_of net lid = record {
@@ -97,11 +83,11 @@ aims_below net test count = flat_map (aim_if net test) (range_with_len 0 count)
 abbrev pub is_switchs : NetState → Aim → Bool
 is_switchs net aim = option_map_or (λ end. is_switch_at net.plan.nodes end.node) aim.end false
 
--- it is another LID: of an adapter's port, of a port that the topology lacks, or of nobody
+-- it is another LID: of an adapter's port, of a port that the fabric lacks, or of nobody
 abbrev pub is_others : NetState → Aim → Bool
 is_others net aim = not (is_switchs net aim)
 
--- a row says that it is a channel adapter's or a switch's, and the topology has no such port
+-- a row says that it is a channel adapter's or a switch's, and the fabric has no such port
 abbrev pub is_lacking : NetState → Aim → Bool
 is_lacking net aim = is_none aim.end && list_any (says_of_fabric net aim.lid) (switches net.plan.nodes)
 

@@ -1,5 +1,5 @@
 -- The lines of an audit, but for its last ones.
-use Rattle.std.specs.Prelude.{ℕ, ◌*◌, ◌==◌, ◌&&◌, nat_le, Bool, true, false, not, List, [], ◌∷◌, ◌++◌, codes, decimal, map, flat_map, if◌then◌else◌, is_none, Option, Some, None}
+use Rattle.std.specs.Prelude.{ℕ, ◌*◌, ◌==◌, ◌&&◌, nat_le, Bool, true, false, not, List, [], ◌∷◌, ◌++◌, codes, decimal, map, flat_map, if◌then◌else◌, is_none, is_some, Option, Some, None}
 use Rattle.std.specs.List.{list_all, list_any, range_with_len}
 use Rattle.std.specs.Option.{option_map_or}
 use Rattle.dump_file.specs.declared.destination.Destination.{Destination}
@@ -10,14 +10,14 @@ use Rattle.fabric_parts.specs.declared.cable.Cable.{Cable}
 use Rattle.fabric_parts.specs.declared.cable.PortRef.{PortRef}
 use Rattle.text_parts.specs.Parts.{guid_text, port_name}
 use Rattle.topo_file.specs.Connectivity.{switches}
-use Rattle.topo_file.specs.Node.{is_switch, name_at}
+use Rattle.topo_file.specs.Node.{is_switch, name_at, ports_at}
 use Rattle.topo_file.specs.declared.node.Node.{Node}
 use Rattle.route_audit.specs.declared.following.Turn.{Turn}
 use Rattle.route_audit.specs.declared.following.Turn.TheVariants as turns
 use Rattle.route_audit.specs.declared.lids.Aim.{Aim}
 use Rattle.route_audit.specs.Following.{loop_from, turn}
 use Rattle.route_audit.specs.Lids.{has_lid, is_named}
-use Rattle.route_audit.specs.Net.{NetState, is_left_out, row_of, table_at}
+use Rattle.route_audit.specs.Net.{NetState, is_left_out, is_wide, row_of, table_at}
 
 -- ---- words of lines
 abbrev pub name_text : NetState → ℕ → List ℕ
@@ -26,19 +26,34 @@ name_text net place = name_at net.plan.nodes place
 abbrev pub port_text : NetState → PortRef → List ℕ
 port_text net port = port_name (name_text net port.node) port.port
 
+-- a LID, and the port that has it, if one is known: `5 (h3/1)`
+abbrev pub owner_text : NetState → Option PortRef → List ℕ
+owner_text net (Some end) = codes " (" ++ port_text net end ++ codes ")"
+owner_text net None = []
+
+abbrev pub lid_text : NetState → ℕ → Option PortRef → List ℕ
+lid_text net lid end = decimal lid ++ owner_text net end
+
 -- ---- what the files lack
+-- `# passed over: h1/1 h2/1`: a cable that joins no switch
+unfoldable pub passed_words : List ℕ
+passed_words = codes "# passed over: "
+
+unfoldable pub apart_line : NetState → Cable → List ℕ
+apart_line net cable = passed_words ++ port_text net cable.first ++ codes " " ++ port_text net cable.second ++ 10 ∷ []
+
 -- `no-table A`: a switch of which the dump has no table
 abbrev pub no_table_line : NetState → ℕ → List ℕ
 no_table_line net place = if is_none (table_at net place) then codes "no-table " ++ name_text net place ++ 10 ∷ [] else []
 
--- `no-switch 0x0000000000000020`: a table of a switch that the topology lacks
+-- `no-switch 0x0000000000000020`: a table of a switch that the fabric lacks
 abbrev pub has_switch : ℕ → List Node → Bool
 has_switch guid nodes = list_any (λ node. is_switch node && (node.guid == guid)) nodes
 
 abbrev pub no_switch_line : NetState → Table → List ℕ
 no_switch_line net table = if has_switch table.guid net.plan.nodes then [] else codes "no-switch " ++ guid_text table.guid ++ 10 ∷ []
 
--- `no-port 3 0x7cfe9003009f0a11`: a LID of an end port that the topology lacks
+-- `no-port 3 0x7cfe9003009f0a11`: a LID of an end port that the fabric lacks
 abbrev pub lacking_line : ℕ → Option ℕ → List ℕ
 lacking_line lid (Some guid) = codes "no-port " ++ decimal lid ++ codes " " ++ guid_text guid ++ 10 ∷ []
 lacking_line lid None = []
@@ -68,38 +83,48 @@ unreported_lines tables = flat_map (unreported_line tables) multiples
 
 unfoldable pub files_by : NetState → List Aim → List ℕ
 files_by net all =
-    flat_map (no_table_line net) (switches net.plan.nodes) ++ flat_map (no_switch_line net) net.dump.tables
+    flat_map (apart_line net) net.plan.apart ++ flat_map (no_table_line net) (switches net.plan.nodes) ++ flat_map (no_switch_line net) net.dump.tables
     ++ flat_map no_port_line all ++ flat_map (no_lid_lines net all) net.plan.cables ++ unreported_lines net.dump.tables
 
 -- ---- what a switch does with a LID
--- `hole A 24`, `nowhere D 3 port 4`, `wrong C 1 h2/1`
-abbrev pub hole_line : NetState → ℕ → ℕ → List ℕ
-hole_line net place lid = codes "hole " ++ name_text net place ++ codes " " ++ decimal lid ++ 10 ∷ []
+-- `hole A 24 (h3/1)`, `nowhere D 3 (h2/1) port 4`, `wrong C 1 (h1/1) h2/1`
+abbrev pub hole_line : NetState → ℕ → ℕ → Option PortRef → List ℕ
+hole_line net place lid end = codes "hole " ++ name_text net place ++ codes " " ++ lid_text net lid end ++ 10 ∷ []
 
-abbrev pub nowhere_line : NetState → ℕ → ℕ → ℕ → List ℕ
-nowhere_line net place lid number = codes "nowhere " ++ name_text net place ++ codes " " ++ decimal lid ++ codes " port " ++ decimal number ++ 10 ∷ []
+abbrev pub nowhere_line : NetState → ℕ → ℕ → PortRef → ℕ → List ℕ
+nowhere_line net place lid end number =
+    codes "nowhere " ++ name_text net place ++ codes " " ++ lid_text net lid (Some end) ++ codes " port " ++ decimal number ++ 10 ∷ []
 
-abbrev pub wrong_line : NetState → ℕ → ℕ → PortRef → List ℕ
-wrong_line net place lid there = codes "wrong " ++ name_text net place ++ codes " " ++ decimal lid ++ codes " " ++ port_text net there ++ 10 ∷ []
+abbrev pub wrong_line : NetState → ℕ → ℕ → PortRef → PortRef → List ℕ
+wrong_line net place lid end there =
+    codes "wrong " ++ name_text net place ++ codes " " ++ lid_text net lid (Some end) ++ codes " " ++ port_text net there ++ 10 ∷ []
 
--- `loop 18 A B`: reported at the first switch of the loop
+-- `left-out E 5 (h3/1)`: the switch has so many ports that its table may lack this row, and it does
+abbrev pub is_wide_at : NetState → ℕ → Bool
+is_wide_at net place = is_wide (ports_at net.plan.nodes place) && is_some (table_at net place)
+
+abbrev pub left_out_line : NetState → ℕ → ℕ → Option PortRef → List ℕ
+left_out_line net place lid end =
+    if is_wide_at net place then codes "left-out " ++ name_text net place ++ codes " " ++ lid_text net lid end ++ 10 ∷ [] else []
+
+-- `loop 18 (h3/1) A B`: reported at the first switch of the loop
 abbrev pub name_word : NetState → ℕ → List ℕ
 name_word net place = codes " " ++ name_text net place
 
 abbrev pub is_least : ℕ → List ℕ → Bool
 is_least place ring = list_all (λ other. nat_le place other) ring
 
-abbrev pub loop_line : NetState → ℕ → ℕ → Option (List ℕ) → List ℕ
-loop_line net place lid (Some ring) =
-    if is_least place ring then codes "loop " ++ decimal lid ++ flat_map (name_word net) ring ++ 10 ∷ [] else []
-loop_line net place lid None = []
+abbrev pub loop_line : NetState → ℕ → ℕ → Option PortRef → Option (List ℕ) → List ℕ
+loop_line net place lid end (Some ring) =
+    if is_least place ring then codes "loop " ++ lid_text net lid end ++ flat_map (name_word net) ring ++ 10 ∷ [] else []
+loop_line net place lid end None = []
 
 abbrev pub line_by : NetState → ℕ → ℕ → PortRef → Turn → List ℕ
-line_by net place lid end (turns.Goes next) = loop_line net place lid (loop_from net lid place)
-line_by net place lid end (turns.Arrives there) = if is_same_port there end then [] else wrong_line net place lid there
-line_by net place lid end turns.Hole = hole_line net place lid
-line_by net place lid end (turns.Nowhere number) = nowhere_line net place lid number
-line_by net place lid end turns.Unknown = []
+line_by net place lid end (turns.Goes next) = loop_line net place lid (Some end) (loop_from net lid place)
+line_by net place lid end (turns.Arrives there) = if is_same_port there end then [] else wrong_line net place lid end there
+line_by net place lid end turns.Hole = hole_line net place lid (Some end)
+line_by net place lid end (turns.Nowhere number) = nowhere_line net place lid end number
+line_by net place lid end turns.Unknown = left_out_line net place lid (Some end)
 
 -- `stray A 21`: an entry other than 255 for a LID of which the row says that it is nobody's, and no row says another thing
 abbrev pub is_nobodys : Destination → Bool
@@ -117,17 +142,17 @@ abbrev pub stray_line : NetState → ℕ → ℕ → List ℕ
 stray_line net place lid =
     if option_map_or (is_stray lid) (table_at net place) false then codes "stray " ++ name_text net place ++ codes " " ++ decimal lid ++ 10 ∷ [] else []
 
--- of a LID whose port the topology lacks the last hop is not judged
+-- of a LID whose port the fabric lacks the last hop is not judged
 abbrev pub unplaced_line : NetState → ℕ → ℕ → Turn → List ℕ
-unplaced_line net place lid (turns.Goes next) = loop_line net place lid (loop_from net lid place)
+unplaced_line net place lid (turns.Goes next) = loop_line net place lid None (loop_from net lid place)
 unplaced_line net place lid (turns.Arrives there) = []
-unplaced_line net place lid turns.Hole = hole_line net place lid
+unplaced_line net place lid turns.Hole = hole_line net place lid None
 unplaced_line net place lid (turns.Nowhere number) = []
-unplaced_line net place lid turns.Unknown = []
+unplaced_line net place lid turns.Unknown = left_out_line net place lid None
 
 -- to a LID of nobody nothing has to lead, but nothing may go round
 abbrev pub nobodys_line : NetState → ℕ → ℕ → Turn → List ℕ
-nobodys_line net place lid (turns.Goes next) = loop_line net place lid (loop_from net lid place)
+nobodys_line net place lid (turns.Goes next) = loop_line net place lid None (loop_from net lid place)
 nobodys_line net place lid (turns.Arrives there) = []
 nobodys_line net place lid turns.Hole = []
 nobodys_line net place lid (turns.Nowhere number) = []

@@ -20,11 +20,11 @@ abbrev pub table_places : List Table → List Node → List (Option ℕ)
 table_places tables nodes = map (λ node. place_of node.guid tables) nodes
 
 -- ---- entries by LID, below the top of the table
-abbrev pub column : Table → List Entry
-column table = map (λ lid. entry_in lid table) (range_with_len 0 table.top)
+abbrev pub column : (ports : ℕ) → Table → List Entry
+column ports table = map (λ lid. entry_in ports lid table) (range_with_len 0 table.top)
 
 abbrev pub column_at : NetState → ℕ → List Entry
-column_at net place = option_map_or column (table_at net place) []
+column_at net place = option_map_or (column (ports_at net.plan.nodes place)) (table_at net place) []
 
 abbrev pub all_entries : NetState → List (List Entry)
 all_entries net = map (column_at net) (range_with_len 0 (length net.plan.nodes))

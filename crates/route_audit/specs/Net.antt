@@ -1,16 +1,17 @@
--- A topology with the tables that stand in it, and the entry of a LID in the table of a switch.
-use Rattle.std.specs.Prelude.{ℕ, ◌%◌, ◌==◌, ◌&&◌, Bool, List, find, slice_get, if◌then◌else◌, Option, Some, None}
+-- A fabric with the tables that stand in it, and the entry of a LID in the table of a switch.
+use Rattle.std.specs.Prelude.{ℕ, ◌%◌, ◌==◌, ◌&&◌, ◌||◌, nat_le, Bool, List, find, slice_get, if◌then◌else◌, Option, Some, None}
 use Rattle.std.specs.Option.{option_and_then, option_map_or}
 use Rattle.dump_file.specs.declared.row.Row.{Row}
 use Rattle.dump_file.specs.declared.table.Table.{Table}
 use Rattle.dump_file.specs.Dump.{DumpState}
 use Rattle.dump_file.specs.Table.{place_of}
-use Rattle.topo_file.specs.Topology.{TopologyState}
+use Rattle.topo_file.specs.Node.{ports_at}
 use Rattle.route_audit.specs.declared.entry.Entry.{Entry}
 use Rattle.route_audit.specs.declared.entry.Entry.TheVariants.{Out, Missing, Unreported}
+use Rattle.route_audit.specs.Plan.{PlanState}
 
 pub record NetState : Type 0 where
-  pub plan : TopologyState
+  pub plan : PlanState
   pub dump : DumpState
 
 -- ---- the table of a switch
@@ -29,13 +30,20 @@ row_of lid rows = find (λ row. row.lid == lid) rows
 abbrev pub is_left_out : Table → ℕ → Bool
 is_left_out table lid = (lid == table.top) && (lid % 64 == 0)
 
--- 255 leads nowhere, as no row does
-abbrev pub entry_by : Table → ℕ → Option Row → Entry
-entry_by table lid (Some row) = if row.port == 255 then Missing else Out row.port
-entry_by table lid None = if is_left_out table lid then Unreported else Missing
+-- and rows of ports from 128 on are left out too
+abbrev pub is_wide : (ports : ℕ) → Bool
+is_wide ports = nat_le 128 ports
 
-abbrev pub entry_in : ℕ → Table → Entry
-entry_in lid table = entry_by table lid (row_of lid table.rows)
+abbrev pub may_lack : (ports : ℕ) → Table → ℕ → Bool
+may_lack ports table lid = is_wide ports || is_left_out table lid
+
+-- in the table of a switch of so many ports; 255 leads nowhere, as no row does
+abbrev pub entry_by : (ports : ℕ) → Table → ℕ → Option Row → Entry
+entry_by ports table lid (Some row) = if row.port == 255 then Missing else Out row.port
+entry_by ports table lid None = if may_lack ports table lid then Unreported else Missing
+
+abbrev pub entry_in : (ports lid : ℕ) → Table → Entry
+entry_in ports lid table = entry_by ports table lid (row_of lid table.rows)
 
 -- the row of the LID in the table of the switch there
 abbrev pub row_at : NetState → ℕ → ℕ → Option Row
@@ -43,4 +51,4 @@ row_at net lid place = option_and_then (λ table. row_of lid table.rows) (table_
 
 -- of a switch of which there is no table nothing is known
 abbrev pub entry : NetState → ℕ → ℕ → Entry
-entry net lid place = option_map_or (entry_in lid) (table_at net place) Unreported
+entry net lid place = option_map_or (entry_in (ports_at net.plan.nodes place) lid) (table_at net place) Unreported

@@ -8,10 +8,11 @@ use Rattle.route_audit.specs.declared.following.Fate.{Fate}
 use Rattle.route_audit.specs.declared.following.Fate.TheVariants as fates
 use Rattle.route_audit.specs.declared.lids.Aim.{Aim}
 use Rattle.route_audit.specs.declared.pairs.Pair.{Pair}
-use Rattle.route_audit.specs.Attached.{carries_adapter}
+use Rattle.route_audit.specs.Attached.{carries_host}
 use Rattle.route_audit.specs.Following.{fate}
 use Rattle.route_audit.specs.Lids.{aims}
 use Rattle.route_audit.specs.Net.{NetState}
+use Rattle.route_audit.specs.Plan.{is_host}
 
 -- ---- whether both are the same
 abbrev pub is_fate : Fate → Fate → Bool
@@ -23,10 +24,11 @@ is_fate fates.Loop fates.Loop = true
 is_fate fates.Unknown fates.Unknown = true
 is_fate _ _ = false
 
--- ---- a switch and a LID; of LIDs whose end port the topology lacks there is none
+-- ---- a switch and a LID; of LIDs whose end port the fabric lacks there is none
 abbrev pub pair_to : NetState → ℕ → ℕ → Option PortRef → List Pair
 pair_to net place lid (Some end) = record {
-  from_adapters = carries_adapter net place;
+  from_hosts = carries_host net place;
+  to_host = is_host net.plan end.node;
   to_switch = is_switch_at net.plan.nodes end.node;
   fate = fate net lid end place;
 } ∷ []
@@ -44,16 +46,20 @@ pairs_by net all = flat_map (pairs_at net all) (switches net.plan.nodes)
 abbrev pub pairs : NetState → List Pair
 pairs net = pairs_by net (aims net)
 
--- those from switches to which an adapter is attached to LIDs of adapter ports: packets between adapters go so
-abbrev pub is_between_adapters : Pair → Bool
-is_between_adapters pair = not pair.to_switch && pair.from_adapters
+-- those from switches to which a host is attached to LIDs of hosts' ports: packets between hosts go so
+abbrev pub is_between_hosts : Pair → Bool
+is_between_hosts pair = pair.to_host && pair.from_hosts
 
-abbrev pub between_adapters : List Pair → List Pair
-between_adapters all = filter is_between_adapters all
+abbrev pub between_hosts : List Pair → List Pair
+between_hosts all = filter is_between_hosts all
 
--- those from the other switches to LIDs of adapter ports
+-- those from the other switches to LIDs of hosts' ports
 abbrev pub in_transit : List Pair → List Pair
-in_transit all = filter (λ pair. not pair.to_switch && not pair.from_adapters) all
+in_transit all = filter (λ pair. pair.to_host && not pair.from_hosts) all
+
+-- those to LIDs of aggregation nodes
+abbrev pub to_aggregation : List Pair → List Pair
+to_aggregation all = filter (λ pair. not pair.to_host && not pair.to_switch) all
 
 -- and those to LIDs of switches
 abbrev pub to_switches : List Pair → List Pair

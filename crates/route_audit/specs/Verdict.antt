@@ -1,17 +1,20 @@
 -- The verdict of an audit: what safe routes are, and the last line.
-use Rattle.std.specs.Prelude.{ℕ, ◌==◌, ◌&&◌, Bool, true, false, not, List, [], ◌∷◌, ◌++◌, codes, length, if◌then◌else◌, is_none, is_some, Option}
+use Rattle.std.specs.Prelude.{ℕ, ◌==◌, ◌&&◌, Bool, true, false, not, List, [], ◌∷◌, ◌++◌, codes, filter, length, map, if◌then◌else◌, is_none, is_some, Option}
 use Rattle.std.specs.List.{list_all, list_any}
 use Rattle.dump_file.specs.declared.table.Table.{Table}
 use Rattle.fabric_parts.specs.declared.cable.PortRef.{PortRef}
 use Rattle.topo_file.specs.Connectivity.{switches}
 use Rattle.route_audit.specs.declared.lids.Aim.{Aim}
 use Rattle.route_audit.specs.declared.verdict.Verdict.{Verdict}
-use Rattle.route_audit.specs.Lids.{have_lids, is_lacking}
+use Rattle.route_audit.specs.Lids.{have_lids, is_lacking, is_others}
+use Rattle.route_audit.specs.declared.following.Turn.{Turn}
+use Rattle.route_audit.specs.declared.following.Turn.TheVariants as turns
+use Rattle.route_audit.specs.Following.{turn}
 use Rattle.route_audit.specs.Lines.{has_switch}
 use Rattle.route_audit.specs.Net.{NetState, table_at}
-use Rattle.route_audit.specs.Pairs.{all_reached, between_adapters, pairs_by}
+use Rattle.route_audit.specs.Pairs.{all_reached, between_hosts, pairs_by}
 
--- ---- the dump and the topology name the same switches and ports of adapters
+-- ---- the dump and the fabric name the same switches and ports of adapters
 -- each switch has a table, and there is one
 abbrev pub has_table : NetState → ℕ → Bool
 has_table net place = is_some (table_at net place)
@@ -19,25 +22,44 @@ has_table net place = is_some (table_at net place)
 abbrev pub have_tables : NetState → Bool
 have_tables net = list_all (has_table net) (switches net.plan.nodes) && not (length net.dump.tables == 0)
 
--- each table is of a switch of the topology
+-- each table is of a switch of the fabric
 abbrev pub is_known : NetState → Table → Bool
 is_known net table = has_switch table.guid net.plan.nodes
 
--- and each LID that a row gives to an adapter or a switch is that of such a port of the topology
+-- and each LID that a row gives to an adapter or a switch is that of such a port of the fabric
 abbrev pub name_the_same : NetState → List Aim → Bool
 name_the_same net all = have_tables net && (list_all (is_known net) net.dump.tables && not (list_any (is_lacking net) all))
+
+-- ---- wherever a switch sends these LIDs to another, the entry there is known
+abbrev pub is_unknown : Turn → Bool
+is_unknown turns.Unknown = true
+is_unknown _ = false
+
+abbrev pub goes_on_known : NetState → ℕ → Turn → Bool
+goes_on_known net lid (turns.Goes next) = not (is_unknown (turn net lid next))
+goes_on_known net lid _ = true
+
+abbrev pub knows_next : NetState → (place lid : ℕ) → Bool
+knows_next net place lid = goes_on_known net lid (turn net lid place)
+
+abbrev pub knows_all : NetState → List ℕ → (place : ℕ) → Bool
+knows_all net lids place = list_all (knows_next net place) lids
+
+abbrev pub knows_entries : NetState → List ℕ → Bool
+knows_entries net lids = list_all (knows_all net lids) (switches net.plan.nodes)
 
 -- ---- the verdict, by the credit loop that was found
 abbrev pub verdict_by : NetState → List Aim → Option (List PortRef) → Verdict
 verdict_by net all ring = record {
   has_lids = list_all (have_lids net all) net.plan.cables;
-  is_reached = all_reached (between_adapters (pairs_by net all));
+  is_reached = all_reached (between_hosts (pairs_by net all));
   is_free = is_none ring;
   is_same = name_the_same net all;
+  is_known = knows_entries net (map (λ aim. aim.lid) (filter (is_others net) all));
 }
 
 abbrev pub verdict_is_safe : Verdict → Bool
-verdict_is_safe verdict = verdict.has_lids && (verdict.is_reached && (verdict.is_free && verdict.is_same))
+verdict_is_safe verdict = verdict.has_lids && (verdict.is_reached && (verdict.is_free && (verdict.is_same && verdict.is_known)))
 
 -- ---- the last line
 -- `verdict: safe, as if ..`, or `verdict: not safe (no-lid, deadlock), as if ..`, with each reason
@@ -48,10 +70,11 @@ with_reason false word (byte ∷ reasons) = (byte ∷ reasons) ++ codes ", " ++ 
 
 unfoldable pub reasons : Verdict → List ℕ
 reasons verdict =
-    with_reason verdict.is_same (codes "mismatch")
+    with_reason verdict.is_known (codes "unknown")
+    (with_reason verdict.is_same (codes "mismatch")
     (with_reason verdict.is_free (codes "deadlock")
     (with_reason verdict.is_reached (codes "unreached")
-    (with_reason verdict.has_lids (codes "no-lid") [])))
+    (with_reason verdict.has_lids (codes "no-lid") []))))
 
 unfoldable pub safe_words : Verdict → List ℕ
 safe_words verdict = if verdict_is_safe verdict then codes "safe" else codes "not safe (" ++ reasons verdict ++ codes ")"

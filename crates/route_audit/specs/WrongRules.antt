@@ -1,5 +1,5 @@
 -- Wrong rules for what is reported, and the law that each breaks.
-use Rattle.std.specs.Prelude.{ℕ, nat_lt, ◌&&◌, Bool, true, false, not, List, [], ◌∷◌, codes, count_by, filter, is_some, length, if◌then◌else◌, Option, Some, None, option_map}
+use Rattle.std.specs.Prelude.{ℕ, nat_lt, ◌&&◌, Bool, true, false, not, List, [], ◌∷◌, ◌++◌, codes, count_by, filter, flat_map, is_some, length, find, get_or, if◌then◌else◌, Option, Some, None, option_map}
 use Rattle.std.specs.List.{list_all, list_any}
 use Rattle.std.specs.Option.{option_map_or}
 use Rattle.dump_file.specs.declared.destination.Destination.{Destination}
@@ -7,8 +7,16 @@ use Rattle.dump_file.specs.declared.destination.Destination.TheVariants as desti
 use Rattle.dump_file.specs.declared.row.Row.{Row}
 use Rattle.dump_file.specs.declared.table.Table.{Table}
 use Rattle.fabric_parts.specs.Cable.{port}
+use Rattle.fabric_parts.specs.declared.cable.Cable.{Cable}
 use Rattle.fabric_parts.specs.declared.cable.PortRef.{PortRef}
 use Rattle.fabric_parts.specs.declared.node_type.NodeType.TheVariants.{ChannelAdapter, Switch}
+use Rattle.netdiscover_file.specs.declared.ends.FarEnd.{FarEnd}
+use Rattle.netdiscover_file.specs.declared.kind.NodeKind.{NodeKind}
+use Rattle.netdiscover_file.specs.declared.kind.NodeKind.TheVariants as kinds
+use Rattle.netdiscover_file.specs.declared.node.Node.{Node as FoundNode}
+use Rattle.netdiscover_file.specs.declared.port.PortLine.{PortLine}
+use Rattle.netdiscover_file.specs.Agreement.{far_line}
+use Rattle.netdiscover_file.specs.Discovery.{DiscoveryState}
 use Rattle.topo_file.specs.Node.{is_switch_at}
 use Rattle.topo_file.specs.Topology.{TopologyState}
 use Rattle.topo_file.specs.declared.node.Node.{Node}
@@ -19,15 +27,60 @@ use Rattle.route_audit.specs.declared.following.Turn.TheVariants as turns
 use Rattle.route_audit.specs.declared.lids.Aim.{Aim}
 use Rattle.route_audit.specs.declared.pairs.Pair.{Pair}
 use Rattle.route_audit.specs.declared.verdict.Verdict.{Verdict}
-use Rattle.route_audit.specs.Audit.{credit_loop, lids_of}
-use Rattle.route_audit.specs.Channels.{channels, deadlock}
+use Rattle.route_audit.specs.Audit.{closing, credit_loop, lids_of}
+use Rattle.route_audit.specs.Channels.{channels, deadlock, leaves_by}
 use Rattle.route_audit.specs.Following.{end_within, loop_from, turn}
-use Rattle.route_audit.specs.Laws.{AddUp, MissesNone, ReportsChannels, ReportsCycles, ReportsEndless, ReportsLoops, ReportsSafe, ReportsTroubles}
+use Rattle.route_audit.specs.Laws.{AddUp, MissesNone, ReportsChannels, ReportsClosing, ReportsCycles, ReportsEndless, ReportsLoops, ReportsSafe, ReportsTroubles, TakesTheCables}
 use Rattle.route_audit.specs.Lids.{aims, is_lacking}
 use Rattle.route_audit.specs.Lines.{stray_line, trouble_line}
 use Rattle.route_audit.specs.Net.{NetState}
 use Rattle.route_audit.specs.Pairs.{all_reached, is_fate, pairs_by}
+use Rattle.route_audit.specs.Plan.{PlanState, joins_switch, plan_found, plan_of}
 use Rattle.route_audit.specs.Verdict.{have_tables, is_known, verdict_by, verdict_is_safe}
+
+-- ---- two ports of one node have no cable
+abbrev pub between_nodes : PortLine → PortLine → List Cable
+between_nodes line other = if nat_lt line.port.node other.port.node then record { first = line.port; second = other.port } ∷ [] else []
+
+abbrev pub cables_between_nodes : DiscoveryState → List Cable
+cables_between_nodes found = flat_map (λ line. option_map_or (between_nodes line) (far_line found.nodes found.ports line.far) []) found.ports
+
+abbrev pub without_plugs : DiscoveryState → PlanState
+without_plugs found = record (plan_found found) { cables = filter (joins_switch found.nodes) (cables_between_nodes found) }
+
+abbrev pub ANodeMayBeJoinedToItself : Type 0
+ANodeMayBeJoinedToItself = TakesTheCables without_plugs → ⊥
+
+-- ---- no cable stands apart
+abbrev pub with_all_cables : DiscoveryState → PlanState
+with_all_cables found = record (plan_found found) { cables = (plan_found found).cables ++ (plan_found found).apart; apart = [] }
+
+abbrev pub AdaptersAreJoinedApart : Type 0
+AdaptersAreJoinedApart = TakesTheCables with_all_cables → ⊥
+
+-- a switch with a cable between its two ports, and two adapters with a cable between them
+abbrev pub found_at : NodeKind → ℕ → FoundNode
+found_at kind guid = record { id = record { kind = kind; guid = guid }; ports = 2; name = []; lid = None; port_guid = None; line = 1 }
+
+abbrev pub leads : ℕ → ℕ → Option ℕ → FarEnd → PortLine
+leads place number guid far = record { port = port place number; guid = guid; lid = guid; far = far; line = 1 }
+
+abbrev pub far_at : NodeKind → ℕ → ℕ → Option ℕ → FarEnd
+far_at kind guid number own = record { node = record { kind = kind; guid = guid }; port = number; guid = own }
+
+abbrev pub a_plug : DiscoveryState
+a_plug = record {
+  nodes = found_at kinds.Switch 16 ∷ [];
+  ports = leads 0 1 None (far_at kinds.Switch 16 2 None) ∷ leads 0 2 None (far_at kinds.Switch 16 1 None) ∷ [];
+  initiator = None;
+}
+
+abbrev pub two_adapters : DiscoveryState
+two_adapters = record {
+  nodes = found_at kinds.ChannelAdapter 16 ∷ found_at kinds.ChannelAdapter 32 ∷ [];
+  ports = leads 0 1 (Some 17) (far_at kinds.ChannelAdapter 32 1 (Some 33)) ∷ leads 1 1 (Some 33) (far_at kinds.ChannelAdapter 16 1 (Some 17)) ∷ [];
+  initiator = None;
+}
 
 -- ---- two switches with a cable, and their entries for LID 1
 abbrev pub a_switch : List ℕ → ℕ → Node
@@ -37,14 +90,17 @@ abbrev pub a_table : ℕ → ℕ → Table
 a_table guid number =
     record { line = 1; guid = guid; top = 1; rows = record { lid = 1; port = number; destination = destinations.ChannelAdapter 257 } ∷ [] }
 
+abbrev pub two_cabled : TopologyState
+two_cabled = record {
+  nodes = a_switch (codes "A") 16 ∷ a_switch (codes "B") 32 ∷ [];
+  cables = record { first = port 0 1; second = port 1 1 } ∷ [];
+  roots = [];
+  sm = port 0 2;
+}
+
 abbrev pub two_switches : ℕ → ℕ → NetState
 two_switches first second = record {
-  plan = record {
-    nodes = a_switch (codes "A") 16 ∷ a_switch (codes "B") 32 ∷ [];
-    cables = record { first = port 0 1; second = port 1 1 } ∷ [];
-    roots = [];
-    sm = port 0 2;
-  };
+  plan = plan_of two_cabled;
   dump = record { tables = a_table 16 first ∷ a_table 32 second ∷ [] };
 }
 
@@ -130,15 +186,60 @@ a_row lid number destination = record { lid = lid; port = number; destination = 
 abbrev pub adapters_row : ℕ → Row
 adapters_row number = a_row 1 number (destinations.ChannelAdapter 257)
 
+-- LID 2 is a router's
+abbrev pub a_routers_row : ℕ → Row
+a_routers_row number = a_row 2 number (destinations.Router 999)
+
 abbrev pub with_rows : ℕ → List Row → Table
 with_rows guid rows = record { line = 1; guid = guid; top = 2; rows = rows }
 
 abbrev pub two_with : List Row → List Row → NetState
-two_with first second = record { plan = a_plan; dump = record { tables = with_rows 16 first ∷ with_rows 32 second ∷ [] } }
+two_with first second = record { plan = plan_of a_plan; dump = record { tables = with_rows 16 first ∷ with_rows 32 second ∷ [] } }
 
 -- the second switch has no entry for the adapter's LID, and no packet to it comes there
 abbrev pub a_hole : NetState
 a_hole = two_with (adapters_row 1 ∷ []) (adapters_row 255 ∷ [])
+
+-- ---- a LID that leaves by a channel closes the loop, wherever it goes on from there
+abbrev pub leaving : NetState → List Aim → List PortRef → ℕ → Option Aim
+leaving net all ring index = find (λ aim. leaves_by net (get_or ring index (port 0 0)) aim.lid) all
+
+abbrev pub LidsGoOnRound : Type 0
+LidsGoOnRound = ReportsClosing leaving → ⊥
+
+-- both LIDs go from the first switch to the second, the second LID alone back from there
+abbrev pub one_way : NetState
+one_way = two_with (adapters_row 2 ∷ a_routers_row 2 ∷ []) (a_routers_row 1 ∷ [])
+
+abbrev pub both_ways : List Aim
+both_ways = record { lid = 1; guid = None; end = None } ∷ record { lid = 2; guid = None; end = None } ∷ []
+
+-- ---- the LID that closes the first step is printed for each
+-- three switches in a ring, each with a cable from its port 1 to port 2 of the next
+abbrev pub three_cabled : TopologyState
+three_cabled = record {
+  nodes = a_switch (codes "A") 16 ∷ a_switch (codes "B") 32 ∷ a_switch (codes "C") 48 ∷ [];
+  cables = record { first = port 0 1; second = port 1 2 } ∷ record { first = port 1 1; second = port 2 2 } ∷ record { first = port 2 1; second = port 0 2 } ∷ [];
+  roots = [];
+  sm = port 0 2;
+}
+
+-- a table that sends these two LIDs out of port 1
+abbrev pub by_port_1 : ℕ → ℕ → ℕ → Table
+by_port_1 guid one other = record { line = 1; guid = guid; top = 3; rows = a_row one 1 destinations.Nobody ∷ a_row other 1 destinations.Nobody ∷ [] }
+
+-- each LID goes over two of the three
+abbrev pub three_ways : NetState
+three_ways = record { plan = plan_of three_cabled; dump = record { tables = by_port_1 16 1 3 ∷ by_port_1 32 1 2 ∷ by_port_1 48 2 3 ∷ [] } }
+
+abbrev pub all_three : List Aim
+all_three = record { lid = 1; guid = None; end = None } ∷ record { lid = 2; guid = None; end = None } ∷ record { lid = 3; guid = None; end = None } ∷ []
+
+abbrev pub of_the_first_step : NetState → List Aim → List PortRef → ℕ → Option Aim
+of_the_first_step net all ring index = closing net all ring 0
+
+abbrev pub EachStepHasItsLid : Type 0
+EachStepHasItsLid = ReportsClosing of_the_first_step → ⊥
 
 -- ---- what the verdict asks, and what it does not
 abbrev pub verdict_of : NetState → Verdict
@@ -146,7 +247,7 @@ verdict_of net = verdict_by net (aims net) (credit_loop net (aims net))
 
 -- an adapter's port need not have a LID
 abbrev pub without_lids : NetState → Bool
-without_lids net = (verdict_of net).is_reached && ((verdict_of net).is_free && (verdict_of net).is_same)
+without_lids net = (verdict_of net).is_reached && ((verdict_of net).is_free && ((verdict_of net).is_same && (verdict_of net).is_known))
 
 abbrev pub LidsAreAsked : Type 0
 LidsAreAsked = ReportsSafe without_lids → ⊥
@@ -156,7 +257,7 @@ no_lids = two_with [] []
 
 -- LIDs need not be reached
 abbrev pub without_ways : NetState → Bool
-without_ways net = (verdict_of net).has_lids && ((verdict_of net).is_free && (verdict_of net).is_same)
+without_ways net = (verdict_of net).has_lids && ((verdict_of net).is_free && ((verdict_of net).is_same && (verdict_of net).is_known))
 
 abbrev pub WaysAreAsked : Type 0
 WaysAreAsked = ReportsSafe without_ways → ⊥
@@ -165,12 +266,37 @@ WaysAreAsked = ReportsSafe without_ways → ⊥
 abbrev pub a_hole_at_home : NetState
 a_hole_at_home = two_with (adapters_row 255 ∷ []) (adapters_row 1 ∷ [])
 
--- LIDs have to be reached from each switch, also from those to which no adapter is attached
+-- LIDs have to be reached from each switch, also from those to which no host is attached
 abbrev pub from_each_switch : NetState → Bool
 from_each_switch net = all_reached (filter (λ pair. not pair.to_switch) (pairs_by net (aims net))) && verdict_is_safe (verdict_of net)
 
 abbrev pub TransitDecidesNothing : Type 0
 TransitDecidesNothing = ReportsSafe from_each_switch → ⊥
+
+-- LIDs of aggregation nodes have to be reached
+abbrev pub to_each_adapter : NetState → Bool
+to_each_adapter net = all_reached (filter (λ pair. not pair.to_switch && pair.from_hosts) (pairs_by net (aims net))) && verdict_is_safe (verdict_of net)
+
+abbrev pub AggregationDecidesNothing : Type 0
+AggregationDecidesNothing = ReportsSafe to_each_adapter → ⊥
+
+-- an aggregation node is attached to port 2 of the second switch, and the first has no entry for its LID 2
+abbrev pub with_aggregation : TopologyState
+with_aggregation = record {
+  nodes = a_plan.nodes ++ record { name = codes "Aggregation Node"; node_type = ChannelAdapter; guid = 512; ports = 1 } ∷ [];
+  cables = a_plan.cables ++ record { first = port 1 2; second = port 3 1 } ∷ [];
+  roots = [];
+  sm = port 2 1;
+}
+
+abbrev pub aggregations_row : ℕ → Row
+aggregations_row number = a_row 2 number (destinations.ChannelAdapter 513)
+
+abbrev pub an_aggregations_hole : NetState
+an_aggregations_hole = record {
+  plan = record (plan_of with_aggregation) { aggregation = false ∷ false ∷ false ∷ true ∷ [] };
+  dump = record { tables = with_rows 16 (adapters_row 1 ∷ aggregations_row 255 ∷ []) ∷ with_rows 32 (adapters_row 1 ∷ aggregations_row 2 ∷ []) ∷ [] };
+}
 
 -- credit loops are looked for along the LIDs of adapters alone
 abbrev pub is_adapters : NetState → Aim → Bool
@@ -183,24 +309,21 @@ abbrev pub OtherLidsDecide : Type 0
 OtherLidsDecide = ReportsSafe by_adapters_lids → ⊥
 
 -- each switch sends the LID of a router to the other
-abbrev pub a_routers_row : ℕ → Row
-a_routers_row number = a_row 2 number (destinations.Router 999)
-
 abbrev pub a_routers_loop : NetState
 a_routers_loop = two_with (adapters_row 1 ∷ a_routers_row 2 ∷ []) (adapters_row 1 ∷ a_routers_row 1 ∷ [])
 
--- the dump may have a table of a switch that the topology lacks
+-- the dump may have a table of a switch that the fabric lacks
 abbrev pub with_other_tables : NetState → Bool
 with_other_tables net =
     (verdict_of net).has_lids && ((verdict_of net).is_reached && ((verdict_of net).is_free
-    && (have_tables net && not (list_any (is_lacking net) (aims net)))))
+    && (have_tables net && (not (list_any (is_lacking net) (aims net)) && (verdict_of net).is_known))))
 
 abbrev pub OtherTablesDecide : Type 0
 OtherTablesDecide = ReportsSafe with_other_tables → ⊥
 
 abbrev pub a_third_table : NetState
 a_third_table = record {
-  plan = a_plan;
+  plan = plan_of a_plan;
   dump = record { tables = with_rows 16 (adapters_row 1 ∷ []) ∷ with_rows 32 (adapters_row 1 ∷ []) ∷ with_rows 48 (adapters_row 1 ∷ []) ∷ [] };
 }
 
@@ -208,7 +331,7 @@ a_third_table = record {
 abbrev pub with_other_ports : NetState → Bool
 with_other_ports net =
     (verdict_of net).has_lids && ((verdict_of net).is_reached && ((verdict_of net).is_free
-    && (have_tables net && list_all (is_known net) net.dump.tables)))
+    && (have_tables net && (list_all (is_known net) net.dump.tables && (verdict_of net).is_known))))
 
 abbrev pub OtherPortsDecide : Type 0
 OtherPortsDecide = ReportsSafe with_other_ports → ⊥
@@ -218,6 +341,23 @@ another_row = a_row 2 1 (destinations.ChannelAdapter 777)
 
 abbrev pub another_adapter : NetState
 another_adapter = two_with (adapters_row 1 ∷ another_row ∷ []) (adapters_row 1 ∷ another_row ∷ [])
+
+-- entries may be unknown, where no packet of a host comes to them
+abbrev pub with_unknown : NetState → Bool
+with_unknown net = (verdict_of net).has_lids && ((verdict_of net).is_reached && ((verdict_of net).is_free && (verdict_of net).is_same))
+
+abbrev pub UnknownEntriesDecide : Type 0
+UnknownEntriesDecide = ReportsSafe with_unknown → ⊥
+
+-- the first switch sends LID 64 of the aggregation node to the second, whose table ends with that LID and lacks its row
+abbrev pub an_unknown_entry : NetState
+an_unknown_entry = record {
+  plan = record (plan_of with_aggregation) { aggregation = false ∷ false ∷ false ∷ true ∷ [] };
+  dump = record {
+    tables = record { line = 1; guid = 16; top = 64; rows = adapters_row 1 ∷ a_row 64 2 (destinations.ChannelAdapter 513) ∷ [] }
+        ∷ record { line = 2; guid = 32; top = 64; rows = adapters_row 1 ∷ [] } ∷ [];
+  };
+}
 
 -- ---- what goes on has no line, or what is a hole
 abbrev pub is_going : Turn → Bool
@@ -241,7 +381,7 @@ LoopsHaveALine = ReportsTroubles (silent_where is_going) → ⊥
 abbrev pub HolesHaveALine : Type 0
 HolesHaveALine = ReportsTroubles (silent_where is_hole) → ⊥
 
--- ---- a LID whose port the topology lacks has no line
+-- ---- a LID whose port the fabric lacks has no line
 abbrev pub silent_of_others : NetState → ℕ → Aim → List ℕ
 silent_of_others net place aim = if is_some aim.end then trouble_line net place aim else []
 

@@ -1,18 +1,22 @@
-//! The audit of a dump over a topology.
+//! The audit of a dump over a topology or a discovery.
 
-ghost use Rattle.std.specs.Prelude.{◌≡◌, ◌++◌, filter, flat_map, is_some, IfOk, OnOk, option_map};
-ghost use Rattle.route_audit.specs.Audit.{audit, audit_of, count_line, counts_by, credit_loop, deadlock_words, lids_of, lines_by, lost_part, other_part};
+ghost use Rattle.std.specs.Prelude.{◌≡◌, ◌<◌, ◌++◌, length, filter, flat_map, is_some, IfOk, OnOk, option_map};
+ghost use Rattle.route_audit.specs.Audit.{aggregation_line, audit, audit_by, audit_discovery, audit_of, behind, closing, closing_word, closing_words, count_line, counts_by, credit_loop, deadlock_words};
+ghost use Rattle.route_audit.specs.Audit.{leaves_by_both, lids_of, lines_by, lost_part, other_part};
 ghost use Rattle.route_audit.specs.Audit.{port_word, reached_part, ring_line, switches_credit_loop, text_by};
 ghost use Rattle.route_audit.specs.Lids.{is_others};
 
+use crate::channels::channel_at;
 use crate::following::Fate;
 use crate::lids::Aim;
 use crate::net::Net;
 use crate::outcome::Audit;
-use crate::pairs::{Pair, between_adapters, count_of, in_transit, to_switches};
+use crate::pairs::{Pair, between_hosts, count_of, in_transit, to_aggregation, to_switches};
+use crate::plan::Plan;
 use crate::verdict::push_verdict;
 use dump_file::Dump;
 use fabric_parts::PortRef;
+use netdiscover_file::Discovery;
 use std::alloc::{AllocError, Global};
 use text_parts::push_decimal;
 use topo_file::LargeTopology;
@@ -83,6 +87,16 @@ fn push_count_line(
     Ok(())
 }
 
+#[tactic(auto, unfolding(crate::specs::Audit::aggregation_line))]
+fn push_aggregation(text: &mut Vec<u8>, pairs: &[Pair]) -> Result<(), AllocError>
+    ensures { OnOk result (text.new.items ≡ text.old.items ++ aggregation_line pairs.now) }
+{
+    if pairs.is_empty() {
+        return Ok(());
+    }
+    push_count_line(text, b"aggregation: ", pairs, b"")
+}
+
 #[tactic(auto, unfolding(crate::specs::Audit::counts_by))]
 fn push_counts(
     alloc: Global,
@@ -93,13 +107,34 @@ fn push_counts(
 ) -> Result<(), AllocError>
     ensures { OnOk result (text.new.items ≡ text.old.items ++ counts_by pairs.now others switches) }
 {
-    let deciding = between_adapters(alloc, pairs)?;
+    let deciding = between_hosts(alloc, pairs)?;
     push_count_line(text, b"adapters: ", &deciding, deadlock_words(others))?;
     let transit = in_transit(alloc, pairs)?;
     push_count_line(text, b"transit: ", &transit, b"")?;
+    let reducing = to_aggregation(alloc, pairs)?;
+    push_aggregation(text, &reducing)?;
     let own = to_switches(alloc, pairs)?;
     push_count_line(text, b"switches: ", &own, b"")?;
     push_count_line(text, b"audit: ", pairs, deadlock_words(others || switches))
+}
+
+/// The channel behind this one in a cycle; behind the last one is the first.
+fn behind(ring: &[PortRef], index: usize) -> PortRef
+    requires { index < length ring.now }
+    ensures { result ≡ behind ring.now index }
+{
+    if index + 1 < ring.len() {
+        channel_at(ring, index + 1)
+    } else {
+        channel_at(ring, 0)
+    }
+}
+
+fn audited(alloc: Global, plan: &Plan, dump: &Dump) -> Result<Audit, AllocError>
+    ensures { IfOk result (λ found. found ≡ audit_of (record { plan = plan.now; dump = dump.now })) }
+{
+    let net = Net::new(alloc, plan, dump)?;
+    net.audited(alloc)
 }
 
 impl<'a> Net<'a> {
@@ -121,11 +156,18 @@ impl<'a> Net<'a> {
             .collect(alloc)
     }
 
+    /// All LIDs but the switches' own.
+    pub(crate) fn other_lids(&self, alloc: Global, aims: &[Aim]) -> Result<Vec<u16>, AllocError>
+        ensures { IfOk result (λ lids. lids.items ≡ lids_of (filter (is_others self.now) aims.now)) }
+    {
+        let some = self.others(alloc, aims)?;
+        lids_of(alloc, &some)
+    }
+
     fn credit_loop(&self, alloc: Global, aims: &[Aim]) -> Result<Option<Vec<PortRef>>, AllocError>
         ensures { IfOk result (λ found. option_map (λ ring. ring.items) found ≡ credit_loop self.now aims.now) }
     {
-        let some = self.others(alloc, aims)?;
-        let lids = lids_of(alloc, &some)?;
+        let lids = self.other_lids(alloc, aims)?;
         self.deadlock(alloc, &lids)
     }
 
@@ -161,22 +203,76 @@ impl<'a> Net<'a> {
         Ok(())
     }
 
+    fn leaves_by_both(&self, a: PortRef, b: PortRef, aim: &Aim) -> bool
+        ensures { result ≡ leaves_by_both self.now a b aim.now }
+    {
+        let aim = *aim;
+        self.leaves_by(a, aim.lid) && self.leaves_by(b, aim.lid)
+    }
+
+    /// The LID by which a channel of a cycle waits for the one behind it.
+    fn closing(&self, aims: &[Aim], ring: &[PortRef], index: usize) -> Option<Aim>
+        requires { index < length ring.now }
+        ensures { result ≡ closing self.now aims.now ring.now index }
+    {
+        let here = channel_at(ring, index);
+        let next = behind(ring, index);
+        aims.iter()
+            .copied()
+            .find(|aim| self.leaves_by_both(here, next, aim))
+    }
+
+    fn push_closing_word(
+        &self,
+        text: &mut Vec<u8>,
+        aims: &[Aim],
+        ring: &[PortRef],
+        index: usize,
+    ) -> Result<(), AllocError>
+        requires { index < length ring.now }
+        ensures { OnOk result (text.new.items ≡ text.old.items ++ closing_word self.now aims.now ring.now index) }
+    {
+        if let Some(aim) = self.closing(aims, ring, index) {
+            text.extend_from_slice(b" ")?;
+            self.push_lid(text, aim.lid, aim.end)?;
+        }
+        Ok(())
+    }
+
+    fn push_closing_words(
+        &self,
+        text: &mut Vec<u8>,
+        aims: &[Aim],
+        ring: &[PortRef],
+    ) -> Result<(), AllocError>
+        ensures { OnOk result (text.new.items ≡ text.old.items ++ closing_words self.now aims.now ring.now) }
+    {
+        for index in 0..ring.len() {
+            self.push_closing_word(text, aims, ring, index)?;
+        }
+        Ok(())
+    }
+
     fn push_ring_line(
         &self,
         text: &mut Vec<u8>,
         words: &[u8],
+        aims: &[Aim],
         ring: &Option<Vec<PortRef>>,
     ) -> Result<(), AllocError>
-        ensures { OnOk result (text.new.items ≡ text.old.items ++ ring_line self.now words.now (option_map (λ ports. ports.items) ring.now)) }
+        ensures { OnOk result (text.new.items ≡ text.old.items ++ ring_line self.now words.now aims.now (option_map (λ ports. ports.items) ring.now)) }
     {
         if let Some(ports) = ring {
             text.extend_from_slice(words)?;
             self.push_port_words(text, ports.as_slice())?;
+            text.extend_from_slice(b" by LIDs")?;
+            self.push_closing_words(text, aims, ports.as_slice())?;
             text.push(b'\n')?;
         }
         Ok(())
     }
 
+    #[tactic(auto, unfolding(crate::specs::Audit::lines_by))]
     fn push_lines(
         &self,
         alloc: Global,
@@ -190,20 +286,26 @@ impl<'a> Net<'a> {
     {
         self.push_files(text, aims)?;
         self.push_troubles(alloc, text, aims)?;
-        self.push_ring_line(text, b"deadlock", others)?;
-        self.push_ring_line(text, b"deadlock switch-lids", switches)
+        let some = self.others(alloc, aims)?;
+        self.push_ring_line(text, b"deadlock", &some, others)?;
+        self.push_ring_line(text, b"deadlock switch-lids", aims, switches)
     }
 
-    #[tactic(auto, unfolding(crate::specs::Audit::audit_of, crate::specs::Audit::text_by))]
-    fn audited(&self, alloc: Global) -> Result<Audit, AllocError>
-        ensures { IfOk result (λ found. found ≡ audit_of self.now) }
+    /// What is printed, and whether the routes are safe, by the cycles that were found.
+    #[tactic(auto, unfolding(crate::specs::Audit::text_by))]
+    fn audit_by(
+        &self,
+        alloc: Global,
+        aims: &[Aim],
+        others: &Option<Vec<PortRef>>,
+        switches: &Option<Vec<PortRef>>,
+    ) -> Result<Audit, AllocError>
+        ensures { IfOk result (λ found. found
+            ≡ audit_by self.now aims.now (option_map (λ ports. ports.items) others.now) (option_map (λ ports. ports.items) switches.now)) }
     {
-        let aims = self.aims(alloc)?;
-        let others = self.credit_loop(alloc, &aims)?;
-        let switches = self.switches_credit_loop(alloc, &aims, others.is_some())?;
         let mut text = Vec::new(alloc);
-        self.push_lines(alloc, &mut text, &aims, &others, &switches)?;
-        let pairs = self.pairs(alloc, &aims)?;
+        self.push_lines(alloc, &mut text, aims, others, switches)?;
+        let pairs = self.pairs(alloc, aims)?;
         push_counts(
             alloc,
             &mut text,
@@ -211,12 +313,23 @@ impl<'a> Net<'a> {
             others.is_some(),
             switches.is_some(),
         )?;
-        let verdict = self.verdict(alloc, &aims, &pairs, &others)?;
+        let verdict = self.verdict(alloc, aims, &pairs, others)?;
         push_verdict(alloc, &mut text, verdict)?;
         Ok(Audit {
             text,
             is_safe: verdict.is_safe(),
         })
+    }
+
+    #[tactic(auto, unfolding(crate::specs::Audit::audit_of))]
+    fn audited(&self, alloc: Global) -> Result<Audit, AllocError>
+        ensures { IfOk result (λ found. found ≡ audit_of self.now) }
+    {
+        let aims = self.aims(alloc)?;
+        let others = self.credit_loop(alloc, &aims)?;
+        let switches = self.switches_credit_loop(alloc, &aims, others.is_some())?;
+        let found = self.audit_by(alloc, &aims, &others, &switches)?;
+        Ok(found)
     }
 }
 
@@ -225,9 +338,18 @@ impl<'a> Net<'a> {
 /// What is reported is stated in `specs/Audit.antt`: first what the two lack of one another, then what is wrong at each
 /// switch with each LID, then a cycle of channels that wait for one another, counts, and the verdict. Time is that of
 /// following each LID from each switch, and of looking for cycles among the channels that are on one or lead to one.
-pub fn audit(alloc: Global, plan: &LargeTopology, dump: &Dump) -> Result<Audit, AllocError>
-    ensures { IfOk result (λ found. found ≡ audit plan.now dump.now) }
+pub fn audit(alloc: Global, topology: &LargeTopology, dump: &Dump) -> Result<Audit, AllocError>
+    ensures { IfOk result (λ found. found ≡ audit topology.now dump.now) }
 {
-    let net = Net::new(alloc, plan, dump)?;
-    net.audited(alloc)
+    let plan = Plan::of(alloc, topology)?;
+    audited(alloc, &plan, dump)
+}
+
+/// The same over a discovery, which is no fabric to be simulated: no limit applies but those of its text. Routers are end ports
+/// there, as channel adapters are, and a name is the description of a node. It can only run out of memory.
+pub fn audit_discovery(alloc: Global, found: &Discovery, dump: &Dump) -> Result<Audit, AllocError>
+    ensures { IfOk result (λ audit. audit ≡ audit_discovery found.now dump.now) }
+{
+    let plan = Plan::found(alloc, found)?;
+    audited(alloc, &plan, dump)
 }

@@ -1,7 +1,7 @@
 //! The channels of a fabric, and which depend on which.
 
 ghost use Rattle.std.specs.Prelude.{◌≡◌, ◌==◌, ◌&&◌, ◌||◌, ◌++◌, ◌<◌, ◌≤◌, length, map, flat_map, get_or, option_map, IfOk, OnOk, ℕ};
-ghost use Rattle.route_audit.specs.Channels.{channels, channels_of, deadlock, dependencies, depends, is_channel, leads_to, nexts};
+ghost use Rattle.route_audit.specs.Channels.{channels, channels_of, deadlock, dependencies, depends, is_channel, leads_to, leaves_by, nexts};
 ghost use Rattle.route_audit.specs.Waits.{KnowsTaken, all_groups, are_ports, channel_behind, group_at, group_of, if_switch, is_taken, next_if, numbered_at, two_ports};
 ghost use Rattle.fabric_parts.specs.Cable.{far_end, port};
 
@@ -9,10 +9,10 @@ use crate::cycle::{NextList, cycle, is_marked};
 use crate::entry::Entry;
 use crate::lids::blank;
 use crate::net::Net;
+use crate::plan::ports_at;
 use fabric_parts::PortRef;
 use std::alloc::{AllocError, Global};
 use std::marker::Model;
-use topo_file::ports_at;
 
 /// Channels of one node, each with its place among all.
 #[derive(Drop)]
@@ -210,6 +210,16 @@ impl<'a> Net<'a> {
         Ok(marks)
     }
 
+    /// Whether the switch of this port forwards the LID out of it.
+    pub(crate) fn leaves_by(&self, at: PortRef, lid: u16) -> bool
+        ensures { result ≡ leaves_by self.now at lid }
+    {
+        match self.entry(lid, at.node) {
+            Entry::Out(number) => number == at.port,
+            Entry::Missing | Entry::Unreported => false,
+        }
+    }
+
     fn leads_to(&self, at: PortRef, place: usize) -> bool
         ensures { result ≡ leads_to self.now at place }
     {
@@ -323,7 +333,8 @@ impl<'a> Net<'a> {
     }
 }
 
-fn channel_at(channels: &[PortRef], place: usize) -> PortRef
+/// The channel there, or no port of a switch where there is none.
+pub(crate) fn channel_at(channels: &[PortRef], place: usize) -> PortRef
     ensures { result ≡ get_or channels.now place (port 0 0) }
 {
     match channels.get(place) {

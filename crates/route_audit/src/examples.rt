@@ -1,6 +1,6 @@
 //! What entries, ports and lines are, computed. Each function does nothing: its contract is the example.
 
-ghost use Rattle.route_audit.specs.Examples.{AttachedAreReported, CountsAreReported, EntriesAreReported, KindsAreReported, LacksAreReported, PortsAreFound, TroublesAreReported, VerdictsAreReported};
+ghost use Rattle.route_audit.specs.Examples.{AttachedAreReported, CountsAreReported, DeadlocksAreReported, EntriesAreReported, KindsAreReported, LacksAreReported, PortsAreFound, TroublesAreReported, VerdictsAreReported};
 
 /// The entries of a table.
 pub fn entries_are_reported()
@@ -17,7 +17,12 @@ pub fn troubles_are_reported()
     ensures { TroublesAreReported }
 {}
 
-/// What a dump and a topology lack of one another.
+/// A credit loop, with the LIDs that close it.
+pub fn deadlocks_are_reported()
+    ensures { DeadlocksAreReported }
+{}
+
+/// What a dump and a fabric lack of one another.
 pub fn lacks_are_reported()
     ensures { LacksAreReported }
 {}

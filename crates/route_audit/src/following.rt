@@ -8,10 +8,10 @@ ghost use Rattle.route_audit.specs.declared.entry.Entry.TheVariants.{Out};
 use crate::entry::Entry;
 use crate::inputs::Inputs;
 use crate::net::Net;
+use crate::plan::ports_at;
 use fabric_parts::PortRef;
 use std::alloc::{AllocError, Global};
 use std::marker::Model;
-use topo_file::ports_at;
 
 /// What a switch does with a packet.
 #[derive(Clone, Copy)]

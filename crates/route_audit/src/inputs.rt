@@ -1,4 +1,4 @@
-//! A topology and a dump, as they were read.
+//! A fabric and a dump, as they were read.
 
 ghost use Rattle.std.specs.Prelude.{◌≡◌, ◌+◌, ◌<◌, true, false, nat_lt, IfOk, IfSome, Some, slice_get};
 ghost use Rattle.std.specs.List.Sorted.{IsNonDecreasingBy, IsPartitionPoint};
@@ -9,21 +9,22 @@ ghost use Rattle.dump_file.specs.Table.{place_of};
 ghost use Rattle.topo_file.specs.Connectivity.{switches};
 ghost use Rattle.topo_file.specs.Node.{is_switch_at};
 ghost use Rattle.route_audit.specs.Lookup.{all_ends, all_entries, column, column_at, ends_at, table_places};
-ghost use Rattle.route_audit.specs.Net.{entry, entry_in, is_left_out, row_at, row_of, table_at};
+ghost use Rattle.route_audit.specs.Net.{entry, entry_in, is_left_out, is_wide, may_lack, row_at, row_of, table_at};
+ghost use Rattle.route_audit.specs.Plan.{is_host, port_of};
 
 use crate::entry::{Entry, EntryList};
 use crate::far_ends::{EndList, far_ends};
+use crate::plan::{Plan, PlanNode, is_switch_at, ports_at};
 use dump_file::{Dump, Row, Table};
 use fabric_parts::{Cable, NO_PORT, PortRef};
 use indexmap::IndexMap;
 use std::alloc::{AllocError, Global};
 use std::marker::Model;
-use topo_file::{LargeTopology, Node, ports_at};
 
-/// A topology and a dump, with the far ends of cables looked up in constant time.
+/// A fabric and a dump, with the far ends of cables looked up in constant time.
 #[derive(Drop)]
 pub(crate) struct Inputs<'a> {
-    plan: &'a LargeTopology,
+    plan: &'a Plan,
     dump: &'a Dump,
     far_ends: IndexMap<PortRef, PortRef>,
     // The places of all switches among the nodes.
@@ -50,7 +51,7 @@ impl<'a> Model for Inputs<'a> {
 impl<'a> Inputs<'a> {
     pub(crate) fn new(
         alloc: Global,
-        plan: &'a LargeTopology,
+        plan: &'a Plan,
         dump: &'a Dump,
     ) -> Result<Inputs<'a>, AllocError>
         ensures { IfOk result (λ inputs. inputs ≡ record { plan = plan.now; dump = dump.now }) }
@@ -73,7 +74,7 @@ impl<'a> Inputs<'a> {
         self.dump
     }
 
-    pub(crate) fn nodes(&self) -> &[Node]
+    pub(crate) fn nodes(&self) -> &[PlanNode]
         ensures { result.now ≡ self.now.plan.nodes }
     {
         self.plan.nodes()
@@ -85,6 +86,19 @@ impl<'a> Inputs<'a> {
         self.plan.cables()
     }
 
+    pub(crate) fn apart(&self) -> &[Cable]
+        ensures { result.now ≡ self.now.plan.apart }
+    {
+        self.plan.apart()
+    }
+
+    /// The end port of this GUID.
+    pub(crate) fn port_of(&self, guid: u64) -> Option<PortRef>
+        ensures { result ≡ port_of self.now.plan.ends guid }
+    {
+        self.plan.port_of(guid)
+    }
+
     pub(crate) fn switches(&self) -> &[usize]
         ensures { result.now ≡ switches self.now.plan.nodes }
     {
@@ -94,7 +108,13 @@ impl<'a> Inputs<'a> {
     pub(crate) fn is_switch_at(&self, place: usize) -> bool
         ensures { result ≡ is_switch_at self.now.plan.nodes place }
     {
-        self.plan.is_switch_at(place)
+        is_switch_at(self.nodes(), place)
+    }
+
+    pub(crate) fn is_host(&self, place: usize) -> bool
+        ensures { result ≡ is_host self.now.plan place }
+    {
+        self.plan.is_host(place)
     }
 
     pub(crate) fn far_end(&self, here: PortRef) -> Option<PortRef>
@@ -132,7 +152,7 @@ impl<'a> Inputs<'a> {
         ensures { result ≡ entry self.now lid place }
     {
         match self.table_at(place) {
-            Some(table) => entry_in(lid, table),
+            Some(table) => entry_in(ports_at(self.nodes(), place), lid, table),
             None => Entry::Unreported,
         }
     }
@@ -142,7 +162,7 @@ impl<'a> Inputs<'a> {
         ensures { IfOk result (λ entries. entries.items ≡ column_at self.now place) }
     {
         match self.table_at(place) {
-            Some(table) => column(alloc, table),
+            Some(table) => column(alloc, ports_at(self.nodes(), place), table),
             None => Ok(Vec::new(alloc)),
         }
     }
@@ -246,56 +266,61 @@ pub(crate) fn row_of(rows: &[Row], lid: u16, top: u16) -> Option<&Row>
     }
 }
 
-fn entry_in(lid: u16, table: &Table) -> Entry
+/// Whether the tools leave out rows of a switch of so many ports, those of ports from 128 on.
+pub(crate) fn is_wide(ports: u8) -> bool
+    ensures { result ≡ is_wide ports }
+{
+    ports >= 128
+}
+
+fn may_lack(ports: u8, table: &Table, lid: u16) -> bool
+    ensures { result ≡ may_lack ports table.now lid }
+{
+    is_wide(ports) || is_left_out(table, lid)
+}
+
+/// The entry of a LID in the table of a switch of so many ports.
+fn entry_in(ports: u8, lid: u16, table: &Table) -> Entry
     requires { is_rising table.now ≡ true }
-    ensures { result ≡ entry_in lid table.now }
+    ensures { result ≡ entry_in ports lid table.now }
 {
     match row_of(table.rows.as_slice(), lid, table.top) {
         Some(row) if row.port == NO_PORT => Entry::Missing,
         Some(row) => Entry::Out(row.port),
-        None if is_left_out(table, lid) => Entry::Unreported,
+        None if may_lack(ports, table, lid) => Entry::Unreported,
         None => Entry::Missing,
     }
 }
 
 /// The entries of a table by LID, below its top.
-fn column(alloc: Global, table: &Table) -> Result<Vec<Entry>, AllocError>
+fn column(alloc: Global, ports: u8, table: &Table) -> Result<Vec<Entry>, AllocError>
     requires { is_rising table.now ≡ true }
-    ensures { IfOk result (λ entries. entries.items ≡ column table.now) }
+    ensures { IfOk result (λ entries. entries.items ≡ column ports table.now) }
 {
     let mut entries = Vec::new(alloc);
     for lid in 0..table.top {
-        entries.push(entry_in(lid, table))?;
+        entries.push(entry_in(ports, lid, table))?;
     }
     Ok(entries)
 }
 
 fn table_places(
     alloc: Global,
-    nodes: &[Node],
+    nodes: &[PlanNode],
     dump: &Dump,
 ) -> Result<Vec<Option<usize>>, AllocError>
     ensures { IfOk result (λ places. places.items ≡ table_places dump.now.tables nodes.now) }
 {
     nodes
         .iter()
-        .map(|node| dump.place_of(node.guid))
+        .map(|node| dump.place_of(node.guid()))
         .collect(alloc)
 }
 
-fn switches(alloc: Global, nodes: &[Node]) -> Result<Vec<usize>, AllocError>
+fn switches(alloc: Global, nodes: &[PlanNode]) -> Result<Vec<usize>, AllocError>
     ensures { IfOk result (λ places. places.items ≡ switches nodes.now) }
 {
     (0..nodes.len())
         .filter(|place| is_switch_at(nodes, *place))
         .collect(alloc)
-}
-
-fn is_switch_at(nodes: &[Node], place: usize) -> bool
-    ensures { result ≡ is_switch_at nodes.now place }
-{
-    match nodes.get(place) {
-        Some(node) => node.is_switch(),
-        None => false,
-    }
 }

@@ -1,7 +1,12 @@
 //! Laws of all audits. The functions do nothing; their clauses are the theorems.
 
-ghost use Rattle.route_audit.specs.Laws.{ChannelsAreReported, CountsAddUp, EachTroubleHasALine, LoopsNeverEnd, NoCycleIsMissed};
+ghost use Rattle.route_audit.specs.Laws.{CablesAreTaken, ChannelsAreReported, CountsAddUp, EachTroubleHasALine, LoopsAreClosedByTheirLids, LoopsNeverEnd, NoCycleIsMissed};
 ghost use Rattle.route_audit.specs.Laws.{SafeRoutesAreReported, ReportedLoopsWait, ReportedLoopsGoRound, WaysAreFollowed};
+
+/// Two ports have a cable exactly where the lines of a discovery say so; the cables that join no switch stand apart.
+pub fn cables_are_taken()
+    ensures { CablesAreTaken }
+{}
 
 /// A packet that does not end within as many switches as there are never ends.
 pub fn loops_never_end()
@@ -29,7 +34,7 @@ pub fn channels_are_reported()
 {}
 
 /// If packets from a switch to the LID of an end port do not arrive there, a switch on their path has a line, unless the dump
-/// says nothing of the entry where they stop. So it is if packets to the LID of a port that the topology lacks come to a
+/// says nothing of the entry where they stop. So it is if packets to the LID of a port that the fabric lacks come to a
 /// switch without an entry, and if packets to any LID go round in a loop.
 pub fn each_trouble_has_a_line()
     ensures { EachTroubleHasALine }
@@ -40,6 +45,12 @@ pub fn reported_loops_wait()
     ensures { ReportedLoopsWait }
 {}
 
+/// The LID that is printed for a channel of a credit loop is one of those that were asked, and the channel waits by it for the one
+/// behind it.
+pub fn loops_are_closed_by_their_lids()
+    ensures { LoopsAreClosedByTheirLids }
+{}
+
 /// If none is printed there is none, however long.
 pub fn no_cycle_is_missed()
     ensures { NoCycleIsMissed }
@@ -47,7 +58,8 @@ pub fn no_cycle_is_missed()
 
 /// The verdict is safe if and only if each cabled port of an adapter has a LID; from each switch to which an adapter is attached
 /// a path along the entries leads to the adapter port of each LID; there is no credit loop along all LIDs except the switches'
-/// own; and the dump and the topology name the same switches and adapter ports. (That safe routes are called safe needs
+/// own; the dump and the fabric name the same switches and adapter ports; and where a switch sends such a LID to another
+/// switch, the entry there is known. (That safe routes are called safe needs
 /// that some adapter port has a cable, as the SM's has.)
 pub fn safe_routes_are_reported()
     ensures { SafeRoutesAreReported }

@@ -1,6 +1,7 @@
 //! The routes that stand in the switches of a live fabric, judged, whichever subnet manager set them up.
 //!
-//! [`audit`] takes a topology and the linear forwarding tables that `dump_file` read. What a switch does with a LID is stated in
+//! [`audit`] takes a topology and the linear forwarding tables that `dump_file` read, [`audit_discovery`] what `netdiscover_file`
+//! read in place of the topology. What an audit takes of either is stated in `specs/Plan.antt`. What a switch does with a LID is stated in
 //! `specs/Net.antt` and `specs/Following.antt`; which channels wait for one another, in `specs/Channels.antt` and
 //! `specs/Cycle.antt`; what is printed, in `specs/Lines.antt` and `specs/Audit.antt`; when routes are safe, in
 //! `specs/Verdict.antt`. `src/laws.rt` says what that means of ways along entries, however long, and of cycles.
@@ -10,6 +11,8 @@ mod attached;
 mod auditing;
 mod channels;
 mod cycle;
+mod discovered;
+mod ends;
 mod entry;
 mod examples;
 mod far_ends;
@@ -22,13 +25,14 @@ mod lines;
 mod net;
 mod outcome;
 mod pairs;
+mod plan;
 mod verdict;
 mod wrong_rules;
 
-pub use crate::auditing::audit;
+pub use crate::auditing::{audit, audit_discovery};
 pub use crate::laws::{
-    channels_are_reported, counts_add_up, each_trouble_has_a_line, loops_never_end,
-    no_cycle_is_missed, reported_loops_go_round, reported_loops_wait, safe_routes_are_reported,
-    ways_are_followed,
+    channels_are_reported, counts_add_up, each_trouble_has_a_line, loops_are_closed_by_their_lids,
+    loops_never_end, no_cycle_is_missed, reported_loops_go_round, reported_loops_wait,
+    safe_routes_are_reported, ways_are_followed,
 };
 pub use crate::outcome::Audit;

@@ -1,11 +1,11 @@
-//! The LIDs that a dump names, and the end ports of the topology that have them.
+//! The LIDs that a dump names, and the end ports of the fabric that have them.
 
 ghost use Rattle.std.specs.Prelude.{◌≡◌, ◌≤◌, ◌<◌, ◌||◌, ◌==◌, ◌++◌, ◌∷◌, [], true, false, if◌then◌else◌, length, IfOk, OnOk, ℕ};
 ghost use Rattle.std.specs.List.{list_all, list_any};
 ghost use Rattle.dump_file.specs.Row.{end_of};
 ghost use Rattle.dump_file.specs.Table.{rows_of};
 ghost use Rattle.route_audit.specs.Lids.{aim_of, aims, aims_below, end_by, has_lid, have_lids, if_of_kind, is_lacking, is_named, is_of, is_of_fabric};
-ghost use Rattle.route_audit.specs.Lids.{number_in, port_of, says_kind, says_of_fabric};
+ghost use Rattle.route_audit.specs.Lids.{says_kind, says_of_fabric};
 ghost use Rattle.route_audit.specs.Kinds.{KnowsOthers};
 ghost use Rattle.route_audit.specs.Marks.{is_marked};
 ghost use Rattle.route_audit.specs.Net.{row_at};
@@ -16,7 +16,6 @@ use crate::net::Net;
 use dump_file::{Destination, Row, Table};
 use fabric_parts::{Cable, PortRef};
 use std::alloc::{AllocError, Global};
-use topo_file::Node;
 
 /// What is known of a LID that a dump names.
 #[derive(Clone, Copy)]
@@ -24,38 +23,8 @@ pub(crate) struct Aim {
     pub(crate) lid: u16,
     /// The GUID of the end port that has it, if a row says one.
     pub(crate) guid: Option<u64>,
-    /// The end port of this GUID, if the topology has it, of the kind that rows say.
+    /// The end port of this GUID, if the fabric has it, of the kind that rows say.
     pub(crate) end: Option<PortRef>,
-}
-
-/// The number of the port of the node that has this GUID, if one does.
-fn number_in(guid: u64, node: &Node) -> Option<u8>
-    ensures { result ≡ number_in guid node.now }
-{
-    if node.is_switch() {
-        return if guid == node.guid { Some(0) } else { None };
-    }
-    let ports = node.ports;
-    if guid <= node.guid {
-        return None;
-    }
-    let number = guid - node.guid;
-    if number > u64::from(ports) {
-        return None;
-    }
-    Some(number as u8)
-}
-
-/// The port of this GUID.
-fn port_of(nodes: &[Node], guid: u64) -> Option<PortRef>
-    ensures { result ≡ port_of nodes.now guid }
-{
-    for place in 0..nodes.len() {
-        if let Some(port) = number_in(guid, &nodes[place]) {
-            return Some(PortRef { node: place, port });
-        }
-    }
-    None
 }
 
 /// Whether it is a channel adapter's or a switch's.
@@ -171,7 +140,7 @@ impl<'a> Net<'a> {
         requires others { KnowsOthers self.now false no_others.now }
         ensures { result ≡ end_by self.now lid guid }
     {
-        let end = port_of(self.nodes(), guid?)?;
+        let end = self.port_of(guid?)?;
         self.if_of_kind(no_switches, no_others, lid, end)
     }
 
@@ -205,7 +174,7 @@ impl<'a> Net<'a> {
             .any(|place| self.says_of_fabric(lid, *place))
     }
 
-    /// Whether a row says that it is a channel adapter's or a switch's, and the topology has no such port.
+    /// Whether a row says that it is a channel adapter's or a switch's, and the fabric has no such port.
     pub(crate) fn is_lacking(&self, aim: &Aim) -> bool
         ensures { result ≡ is_lacking self.now aim.now }
     {

@@ -7,28 +7,28 @@ ghost use Rattle.route_audit.specs.Following.{loop_from, turn};
 ghost use Rattle.route_audit.specs.Lids.{is_named};
 ghost use Rattle.route_audit.specs.Net.{table_at};
 ghost use Rattle.dump_file.specs.Sound.{is_rising};
-ghost use Rattle.route_audit.specs.Lines.{files_by, has_switch, hole_line, is_least, is_nobodys, is_stray, lacking_line, leaves_out};
-ghost use Rattle.route_audit.specs.Lines.{line_by, loop_line, name_text, name_word, nobodys_line, unplaced_line, no_lid_line, no_lid_lines, no_port_line, no_switch_line, no_table_line};
+ghost use Rattle.route_audit.specs.Lines.{apart_line, passed_words, files_by, has_switch, lid_text, owner_text, hole_line, is_least, is_nobodys, is_stray, lacking_line, leaves_out};
+ghost use Rattle.route_audit.specs.Lines.{is_wide_at, left_out_line, line_by, loop_line, name_text, name_word, nobodys_line, unplaced_line, no_lid_line, no_lid_lines, no_port_line, no_switch_line, no_table_line};
 ghost use Rattle.route_audit.specs.Lines.{nowhere_line, port_text, stray_line, trouble_line, troubles_at, troubles_by, unreported_line, unreported_lines, wrong_line};
 ghost use Rattle.topo_file.specs.Connectivity.{switches};
 
 use crate::following::Turn;
-use crate::inputs::{is_left_out, row_of};
+use crate::inputs::{is_left_out, is_wide, row_of};
 use crate::lids::Aim;
 use crate::net::Net;
+use crate::plan::{PlanNode, name_at, ports_at};
 use dump_file::{Destination, Row, Table};
 use fabric_parts::{Cable, NO_PORT, PortRef};
 use std::alloc::{AllocError, Global};
 use text_parts::{push_decimal, push_guid, push_port_name};
-use topo_file::{Node, name_at};
 
 /// Whether a switch of these has the GUID.
-pub(crate) fn has_switch(guid: u64, nodes: &[Node]) -> bool
+pub(crate) fn has_switch(guid: u64, nodes: &[PlanNode]) -> bool
     ensures { result ≡ has_switch guid nodes.now }
 {
     nodes
         .iter()
-        .any(|node| node.is_switch() && node.guid == guid)
+        .any(|node| node.is_switch() && node.guid() == guid)
 }
 
 fn push_lacking(text: &mut Vec<u8>, lid: u16, guid: Option<u64>) -> Result<(), AllocError>
@@ -106,6 +106,13 @@ fn is_least(place: usize, ring: &[usize]) -> bool
     ring.iter().all(|other| place <= *other)
 }
 
+#[tactic(auto, unfolding(crate::specs::Lines::passed_words))]
+fn push_passed_words(text: &mut Vec<u8>) -> Result<(), AllocError>
+    ensures { OnOk result (text.new.items ≡ text.old.items ++ passed_words) }
+{
+    text.extend_from_slice(b"# passed over: ")
+}
+
 impl<'a> Net<'a> {
     fn push_name(&self, text: &mut Vec<u8>, place: usize) -> Result<(), AllocError>
         ensures { OnOk result (text.new.items ≡ text.old.items ++ name_text self.now place) }
@@ -117,6 +124,52 @@ impl<'a> Net<'a> {
         ensures { OnOk result (text.new.items ≡ text.old.items ++ port_text self.now port) }
     {
         push_port_name(text, name_at(self.nodes(), port.node), port.port)
+    }
+
+    fn push_owner(&self, text: &mut Vec<u8>, end: Option<PortRef>) -> Result<(), AllocError>
+        ensures { OnOk result (text.new.items ≡ text.old.items ++ owner_text self.now end) }
+    {
+        if let Some(end) = end {
+            text.extend_from_slice(b" (")?;
+            self.push_port(text, end)?;
+            text.extend_from_slice(b")")?;
+        }
+        Ok(())
+    }
+
+    /// Adds a LID, and the port that has it.
+    pub(crate) fn push_lid(
+        &self,
+        text: &mut Vec<u8>,
+        lid: u16,
+        end: Option<PortRef>,
+    ) -> Result<(), AllocError>
+        ensures { OnOk result (text.new.items ≡ text.old.items ++ lid_text self.now lid end) }
+    {
+        push_decimal(text, usize::from(lid))?;
+        self.push_owner(text, end)
+    }
+
+    #[tactic(auto, unfolding(crate::specs::Lines::apart_line))]
+    fn push_apart(&self, text: &mut Vec<u8>, cable: Cable) -> Result<(), AllocError>
+        ensures { OnOk result (text.new.items ≡ text.old.items ++ apart_line self.now cable) }
+    {
+        push_passed_words(text)?;
+        self.push_port(text, cable.first)?;
+        text.extend_from_slice(b" ")?;
+        self.push_port(text, cable.second)?;
+        text.push(b'\n')?;
+        Ok(())
+    }
+
+    /// Adds the cables that join no switch.
+    fn push_all_apart(&self, text: &mut Vec<u8>) -> Result<(), AllocError>
+        ensures { OnOk result (text.new.items ≡ text.old.items ++ flat_map (apart_line self.now) self.now.plan.apart) }
+    {
+        for cable in self.apart() {
+            self.push_apart(text, *cable)?;
+        }
+        Ok(())
     }
 
     fn push_no_table(&self, text: &mut Vec<u8>, place: usize) -> Result<(), AllocError>
@@ -226,11 +279,12 @@ impl<'a> Net<'a> {
         Ok(())
     }
 
-    /// Adds what the dump and the topology lack of one another.
+    /// Adds what the dump and the fabric lack of one another.
     #[tactic(auto, unfolding(crate::specs::Lines::files_by))]
     pub(crate) fn push_files(&self, text: &mut Vec<u8>, aims: &[Aim]) -> Result<(), AllocError>
         ensures { OnOk result (text.new.items ≡ text.old.items ++ files_by self.now aims.now) }
     {
+        self.push_all_apart(text)?;
         self.push_no_tables(text)?;
         self.push_no_switches(text)?;
         push_no_ports(text, aims)?;
@@ -239,13 +293,45 @@ impl<'a> Net<'a> {
         Ok(())
     }
 
-    fn push_hole(&self, text: &mut Vec<u8>, place: usize, lid: u16) -> Result<(), AllocError>
-        ensures { OnOk result (text.new.items ≡ text.old.items ++ hole_line self.now place lid) }
+    /// Whether the table of the switch there may lack rows because of its many ports.
+    fn is_wide_at(&self, place: usize) -> bool
+        ensures { result ≡ is_wide_at self.now place }
+    {
+        is_wide(ports_at(self.nodes(), place)) && self.table_at(place).is_some()
+    }
+
+    fn push_left_out(
+        &self,
+        text: &mut Vec<u8>,
+        place: usize,
+        lid: u16,
+        end: Option<PortRef>,
+    ) -> Result<(), AllocError>
+        ensures { OnOk result (text.new.items ≡ text.old.items ++ left_out_line self.now place lid end) }
+    {
+        if self.is_wide_at(place) {
+            text.extend_from_slice(b"left-out ")?;
+            self.push_name(text, place)?;
+            text.extend_from_slice(b" ")?;
+            self.push_lid(text, lid, end)?;
+            text.push(b'\n')?;
+        }
+        Ok(())
+    }
+
+    fn push_hole(
+        &self,
+        text: &mut Vec<u8>,
+        place: usize,
+        lid: u16,
+        end: Option<PortRef>,
+    ) -> Result<(), AllocError>
+        ensures { OnOk result (text.new.items ≡ text.old.items ++ hole_line self.now place lid end) }
     {
         text.extend_from_slice(b"hole ")?;
         self.push_name(text, place)?;
         text.extend_from_slice(b" ")?;
-        push_decimal(text, usize::from(lid))?;
+        self.push_lid(text, lid, end)?;
         text.push(b'\n')?;
         Ok(())
     }
@@ -255,14 +341,15 @@ impl<'a> Net<'a> {
         text: &mut Vec<u8>,
         place: usize,
         lid: u16,
+        end: PortRef,
         number: u8,
     ) -> Result<(), AllocError>
-        ensures { OnOk result (text.new.items ≡ text.old.items ++ nowhere_line self.now place lid number) }
+        ensures { OnOk result (text.new.items ≡ text.old.items ++ nowhere_line self.now place lid end number) }
     {
         text.extend_from_slice(b"nowhere ")?;
         self.push_name(text, place)?;
         text.extend_from_slice(b" ")?;
-        push_decimal(text, usize::from(lid))?;
+        self.push_lid(text, lid, Some(end))?;
         text.extend_from_slice(b" port ")?;
         push_decimal(text, usize::from(number))?;
         text.push(b'\n')?;
@@ -274,14 +361,15 @@ impl<'a> Net<'a> {
         text: &mut Vec<u8>,
         place: usize,
         lid: u16,
+        end: PortRef,
         there: PortRef,
     ) -> Result<(), AllocError>
-        ensures { OnOk result (text.new.items ≡ text.old.items ++ wrong_line self.now place lid there) }
+        ensures { OnOk result (text.new.items ≡ text.old.items ++ wrong_line self.now place lid end there) }
     {
         text.extend_from_slice(b"wrong ")?;
         self.push_name(text, place)?;
         text.extend_from_slice(b" ")?;
-        push_decimal(text, usize::from(lid))?;
+        self.push_lid(text, lid, Some(end))?;
         text.extend_from_slice(b" ")?;
         self.push_port(text, there)?;
         text.push(b'\n')?;
@@ -309,13 +397,14 @@ impl<'a> Net<'a> {
         text: &mut Vec<u8>,
         place: usize,
         lid: u16,
+        end: Option<PortRef>,
         ring: &[usize],
     ) -> Result<(), AllocError>
-        ensures { OnOk result (text.new.items ≡ text.old.items ++ loop_line self.now place lid (Some ring.now)) }
+        ensures { OnOk result (text.new.items ≡ text.old.items ++ loop_line self.now place lid end (Some ring.now)) }
     {
         if is_least(place, ring) {
             text.extend_from_slice(b"loop ")?;
-            push_decimal(text, usize::from(lid))?;
+            self.push_lid(text, lid, end)?;
             self.push_name_words(text, ring)?;
             text.push(b'\n')?;
         }
@@ -328,11 +417,12 @@ impl<'a> Net<'a> {
         text: &mut Vec<u8>,
         place: usize,
         lid: u16,
+        end: Option<PortRef>,
     ) -> Result<(), AllocError>
-        ensures { OnOk result (text.new.items ≡ text.old.items ++ loop_line self.now place lid (loop_from self.now lid place)) }
+        ensures { OnOk result (text.new.items ≡ text.old.items ++ loop_line self.now place lid end (loop_from self.now lid place)) }
     {
         if let Some(ring) = self.loop_from(alloc, lid, place)? {
-            self.push_ring(text, place, lid, &ring)?;
+            self.push_ring(text, place, lid, end, &ring)?;
         }
         Ok(())
     }
@@ -348,12 +438,12 @@ impl<'a> Net<'a> {
         ensures { OnOk result (text.new.items ≡ text.old.items ++ line_by self.now place lid end (turn self.now lid place)) }
     {
         match self.turn(lid, place) {
-            Turn::Goes(_) => self.push_loop(alloc, text, place, lid),
+            Turn::Goes(_) => self.push_loop(alloc, text, place, lid, Some(end)),
             Turn::Arrives(there) if there == end => Ok(()),
-            Turn::Arrives(there) => self.push_wrong(text, place, lid, there),
-            Turn::Hole => self.push_hole(text, place, lid),
-            Turn::Nowhere(number) => self.push_nowhere(text, place, lid, number),
-            Turn::Unknown => Ok(()),
+            Turn::Arrives(there) => self.push_wrong(text, place, lid, end, there),
+            Turn::Hole => self.push_hole(text, place, lid, Some(end)),
+            Turn::Nowhere(number) => self.push_nowhere(text, place, lid, end, number),
+            Turn::Unknown => self.push_left_out(text, place, lid, Some(end)),
         }
     }
 
@@ -367,9 +457,10 @@ impl<'a> Net<'a> {
         ensures { OnOk result (text.new.items ≡ text.old.items ++ unplaced_line self.now place lid (turn self.now lid place)) }
     {
         match self.turn(lid, place) {
-            Turn::Goes(_) => self.push_loop(alloc, text, place, lid),
-            Turn::Hole => self.push_hole(text, place, lid),
-            Turn::Arrives(_) | Turn::Nowhere(_) | Turn::Unknown => Ok(()),
+            Turn::Goes(_) => self.push_loop(alloc, text, place, lid, None),
+            Turn::Hole => self.push_hole(text, place, lid, None),
+            Turn::Unknown => self.push_left_out(text, place, lid, None),
+            Turn::Arrives(_) | Turn::Nowhere(_) => Ok(()),
         }
     }
 
@@ -383,7 +474,7 @@ impl<'a> Net<'a> {
         ensures { OnOk result (text.new.items ≡ text.old.items ++ nobodys_line self.now place lid (turn self.now lid place)) }
     {
         match self.turn(lid, place) {
-            Turn::Goes(_) => self.push_loop(alloc, text, place, lid),
+            Turn::Goes(_) => self.push_loop(alloc, text, place, lid, None),
             _ => Ok(()),
         }
     }

@@ -1,4 +1,4 @@
-//! A topology with the tables that stand in it, for many look-ups.
+//! A fabric with the tables that stand in it, for many look-ups.
 
 ghost use Rattle.std.specs.Prelude.{◌≡◌, true, IfOk, IfSome};
 ghost use Rattle.std.specs.Option.{option_copied};
@@ -8,19 +8,20 @@ ghost use Rattle.topo_file.specs.Connectivity.{switches};
 ghost use Rattle.topo_file.specs.Node.{is_switch_at};
 ghost use Rattle.route_audit.specs.Following.{turn_by};
 ghost use Rattle.route_audit.specs.Net.{entry, row_at, table_at};
+ghost use Rattle.route_audit.specs.Plan.{is_host, port_of};
 ghost use Rattle.route_audit.specs.declared.entry.Entry.TheVariants.{Out};
 
 use crate::entry::{Entry, EntryList, entry_at};
 use crate::far_ends::{EndList, end_at};
 use crate::following::{Turn, TurnList, turn_known};
 use crate::inputs::Inputs;
+use crate::plan::{Plan, PlanNode};
 use dump_file::{Dump, Row, Table};
 use fabric_parts::{Cable, PortRef};
 use std::alloc::{AllocError, Global};
 use std::marker::Model;
-use topo_file::{LargeTopology, Node};
 
-/// A topology and a dump, with entries and the far ends of cables looked up by their numbers.
+/// A fabric and a dump, with entries and the far ends of cables looked up by their numbers.
 #[derive(Drop)]
 pub(crate) struct Net<'a> {
     inputs: Inputs<'a>,
@@ -46,11 +47,7 @@ impl<'a> Model for Net<'a> {
 }
 
 impl<'a> Net<'a> {
-    pub(crate) fn new(
-        alloc: Global,
-        plan: &'a LargeTopology,
-        dump: &'a Dump,
-    ) -> Result<Net<'a>, AllocError>
+    pub(crate) fn new(alloc: Global, plan: &'a Plan, dump: &'a Dump) -> Result<Net<'a>, AllocError>
         ensures { IfOk result (λ net. net ≡ record { plan = plan.now; dump = dump.now }) }
     {
         let inputs = Inputs::new(alloc, plan, dump)?;
@@ -71,7 +68,7 @@ impl<'a> Net<'a> {
         self.inputs.dump()
     }
 
-    pub(crate) fn nodes(&self) -> &[Node]
+    pub(crate) fn nodes(&self) -> &[PlanNode]
         ensures { result.now ≡ self.now.plan.nodes }
     {
         self.inputs.nodes()
@@ -81,6 +78,20 @@ impl<'a> Net<'a> {
         ensures { result.now ≡ self.now.plan.cables }
     {
         self.inputs.cables()
+    }
+
+    /// The cables that join no switch.
+    pub(crate) fn apart(&self) -> &[Cable]
+        ensures { result.now ≡ self.now.plan.apart }
+    {
+        self.inputs.apart()
+    }
+
+    /// The end port of this GUID.
+    pub(crate) fn port_of(&self, guid: u64) -> Option<PortRef>
+        ensures { result ≡ port_of self.now.plan.ends guid }
+    {
+        self.inputs.port_of(guid)
     }
 
     pub(crate) fn switches(&self) -> &[usize]
@@ -93,6 +104,12 @@ impl<'a> Net<'a> {
         ensures { result ≡ is_switch_at self.now.plan.nodes place }
     {
         self.inputs.is_switch_at(place)
+    }
+
+    pub(crate) fn is_host(&self, place: usize) -> bool
+        ensures { result ≡ is_host self.now.plan place }
+    {
+        self.inputs.is_host(place)
     }
 
     fn known_end(&self, here: PortRef) -> Option<Option<PortRef>>

@@ -29,7 +29,7 @@ impl Audit {
 
     /// Whether the routes are safe: each port of an adapter that has a cable has a LID, all these are reached from each
     /// switch to which an adapter is attached, there is no credit loop along LIDs other than the switches' own, and the dump
-    /// and the topology name the same switches and ports of adapters.
+    /// and the fabric name the same switches and ports of adapters.
     pub fn is_safe(&self) -> bool
         ensures { result ≡ self.now.is_safe }
     {

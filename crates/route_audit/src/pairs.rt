@@ -1,8 +1,8 @@
 //! What packets come to from each switch to each LID that is an end port's.
 
 ghost use Rattle.std.specs.Prelude.{◌≡◌, ◌++◌, true, filter, IfOk, OnOk};
-ghost use Rattle.route_audit.specs.Pairs.{all_reached, between_adapters, count_of, in_transit, is_fate, pair_at, pairs_at, pairs_by, to_switches};
-ghost use Rattle.route_audit.specs.Attached.{carries_adapter};
+ghost use Rattle.route_audit.specs.Pairs.{all_reached, between_hosts, count_of, in_transit, is_fate, pair_at, pairs_at, pairs_by, to_aggregation, to_switches};
+ghost use Rattle.route_audit.specs.Attached.{carries_host};
 
 use crate::following::Fate;
 use crate::lids::Aim;
@@ -12,8 +12,10 @@ use std::alloc::{AllocError, Global};
 /// A switch and a LID of an end port.
 #[derive(Clone, Copy)]
 pub(crate) struct Pair {
-    /// Whether an adapter is attached to the switch.
-    pub(crate) from_adapters: bool,
+    /// Whether a host is attached to the switch.
+    pub(crate) from_hosts: bool,
+    /// Whether the end port is a host's.
+    pub(crate) to_host: bool,
     /// Whether the end port is a switch's.
     pub(crate) to_switch: bool,
     /// What packets come to.
@@ -25,16 +27,17 @@ impl<'a> Net<'a> {
         &self,
         pairs: &mut Vec<Pair>,
         place: usize,
-        from_adapters: bool,
+        from_hosts: bool,
         aim: &Aim,
     ) -> Result<(), AllocError>
-        requires { from_adapters ≡ carries_adapter self.now place }
+        requires { from_hosts ≡ carries_host self.now place }
         ensures { OnOk result (pairs.new.items ≡ pairs.old.items ++ pair_at self.now place aim.now) }
     {
         let aim = *aim;
         if let Some(end) = aim.end {
             pairs.push(Pair {
-                from_adapters,
+                from_hosts,
+                to_host: self.is_host(end.node),
                 to_switch: self.is_switch_at(end.node),
                 fate: self.fate(aim.lid, end, place),
             })?;
@@ -50,9 +53,9 @@ impl<'a> Net<'a> {
     ) -> Result<(), AllocError>
         ensures { OnOk result (pairs.new.items ≡ pairs.old.items ++ pairs_at self.now aims.now place) }
     {
-        let from_adapters = self.carries_adapter(place);
+        let from_hosts = self.carries_host(place);
         for aim in aims {
-            self.push_pair(pairs, place, from_adapters, aim)?;
+            self.push_pair(pairs, place, from_hosts, aim)?;
         }
         Ok(())
     }
@@ -83,25 +86,36 @@ fn is_fate(a: Fate, b: Fate) -> bool
     }
 }
 
-/// The pairs from switches to which an adapter is attached to LIDs of adapter ports.
-pub(crate) fn between_adapters(alloc: Global, pairs: &[Pair]) -> Result<Vec<Pair>, AllocError>
-    ensures { IfOk result (λ some. some.items ≡ between_adapters pairs.now) }
+/// The pairs from switches to which a host is attached to LIDs of hosts' ports.
+pub(crate) fn between_hosts(alloc: Global, pairs: &[Pair]) -> Result<Vec<Pair>, AllocError>
+    ensures { IfOk result (λ some. some.items ≡ between_hosts pairs.now) }
 {
     pairs
         .iter()
         .copied()
-        .filter(|pair| !pair.to_switch && pair.from_adapters)
+        .filter(|pair| pair.to_host && pair.from_hosts)
         .collect(alloc)
 }
 
-/// The pairs from the other switches to LIDs of adapter ports.
+/// The pairs from the other switches to LIDs of hosts' ports.
 pub(crate) fn in_transit(alloc: Global, pairs: &[Pair]) -> Result<Vec<Pair>, AllocError>
     ensures { IfOk result (λ some. some.items ≡ in_transit pairs.now) }
 {
     pairs
         .iter()
         .copied()
-        .filter(|pair| !pair.to_switch && !pair.from_adapters)
+        .filter(|pair| pair.to_host && !pair.from_hosts)
+        .collect(alloc)
+}
+
+/// The pairs whose LIDs are aggregation nodes'.
+pub(crate) fn to_aggregation(alloc: Global, pairs: &[Pair]) -> Result<Vec<Pair>, AllocError>
+    ensures { IfOk result (λ some. some.items ≡ to_aggregation pairs.now) }
+{
+    pairs
+        .iter()
+        .copied()
+        .filter(|pair| !pair.to_host && !pair.to_switch)
         .collect(alloc)
 }
 

@@ -4,13 +4,14 @@ ghost use Rattle.std.specs.Prelude.{◌≡◌, ◌++◌, not, IfOk, OnOk, option
 ghost use Rattle.std.specs.List.{list_all, list_any};
 ghost use Rattle.route_audit.specs.Lids.{have_lids, is_lacking};
 ghost use Rattle.route_audit.specs.Pairs.{pairs_by};
-ghost use Rattle.route_audit.specs.Verdict.{has_table, have_tables, is_known, name_the_same, reasons, safe_words, verdict_by, verdict_is_safe, verdict_line, with_reason};
+ghost use Rattle.route_audit.specs.Verdict.{has_table, have_tables, is_known, is_unknown, knows_all, knows_entries, knows_next, name_the_same, reasons, safe_words, verdict_by, verdict_is_safe, verdict_line, with_reason};
 ghost use Rattle.topo_file.specs.Connectivity.{switches};
 
+use crate::following::Turn;
 use crate::lids::Aim;
 use crate::lines::has_switch;
 use crate::net::Net;
-use crate::pairs::{Pair, all_reached, between_adapters};
+use crate::pairs::{Pair, all_reached, between_hosts};
 use dump_file::Table;
 use fabric_parts::PortRef;
 use std::alloc::{AllocError, Global};
@@ -24,8 +25,10 @@ pub(crate) struct Verdict {
     is_reached: bool,
     /// Along all LIDs but the switches' own there is no credit loop.
     is_free: bool,
-    /// The dump and the topology name the same switches and ports of adapters.
+    /// The dump and the fabric name the same switches and ports of adapters.
     is_same: bool,
+    /// Along the same LIDs each switch to which another sends has a known entry.
+    is_known: bool,
 }
 
 impl Verdict {
@@ -33,8 +36,14 @@ impl Verdict {
     pub(crate) fn is_safe(self) -> bool
         ensures { result ≡ verdict_is_safe self }
     {
-        self.has_lids && self.is_reached && self.is_free && self.is_same
+        self.has_lids && self.is_reached && self.is_free && self.is_same && self.is_known
     }
+}
+
+fn is_unknown(turn: Turn) -> bool
+    ensures { result ≡ is_unknown turn }
+{
+    matches!(turn, Turn::Unknown)
 }
 
 /// Adds a reason behind those before, unless that holds of which it would be the lack.
@@ -59,6 +68,7 @@ fn reasons(alloc: Global, verdict: Verdict) -> Result<Vec<u8>, AllocError>
     add_reason(&mut text, verdict.is_reached, b"unreached")?;
     add_reason(&mut text, verdict.is_free, b"deadlock")?;
     add_reason(&mut text, verdict.is_same, b"mismatch")?;
+    add_reason(&mut text, verdict.is_known, b"unknown")?;
     Ok(text)
 }
 
@@ -139,6 +149,30 @@ impl<'a> Net<'a> {
         self.have_tables() && self.all_are_known() && !self.some_is_lacking(aims)
     }
 
+    /// Whether the LID comes to no switch from this one whose entry is unknown.
+    fn knows_next(&self, place: usize, lid: u16) -> bool
+        ensures { result ≡ knows_next self.now place lid }
+    {
+        match self.turn(lid, place) {
+            Turn::Goes(next) => !is_unknown(self.turn(lid, next)),
+            _ => true,
+        }
+    }
+
+    fn knows_all(&self, lids: &[u16], place: usize) -> bool
+        ensures { result ≡ knows_all self.now lids.now place }
+    {
+        lids.iter().all(|lid| self.knows_next(place, *lid))
+    }
+
+    fn knows_entries(&self, lids: &[u16]) -> bool
+        ensures { result ≡ knows_entries self.now lids.now }
+    {
+        self.switches()
+            .iter()
+            .all(|place| self.knows_all(lids, *place))
+    }
+
     /// The verdict, by the credit loop that was found.
     pub(crate) fn verdict(
         &self,
@@ -150,12 +184,14 @@ impl<'a> Net<'a> {
         requires { pairs.now ≡ pairs_by self.now aims.now }
         ensures { IfOk result (λ verdict. verdict ≡ verdict_by self.now aims.now (option_map (λ ports. ports.items) ring.now)) }
     {
-        let deciding = between_adapters(alloc, pairs)?;
+        let deciding = between_hosts(alloc, pairs)?;
+        let lids = self.other_lids(alloc, aims)?;
         Ok(Verdict {
             has_lids: self.all_have_lids(aims),
             is_reached: all_reached(&deciding),
             is_free: ring.is_none(),
             is_same: self.name_the_same(aims),
+            is_known: self.knows_entries(&lids),
         })
     }
 }

@@ -1,9 +1,20 @@
 //! Wrong rules for what is reported, and the law that each breaks, so that a reader sees that the laws say something. Each
 //! function does nothing: its contract says that with this rule the law is false.
 
+ghost use Rattle.route_audit.specs.WrongRules.{ANodeMayBeJoinedToItself, AdaptersAreJoinedApart, AggregationDecidesNothing, EachStepHasItsLid, LidsGoOnRound};
 ghost use Rattle.route_audit.specs.WrongRules.{FirstPortsAreChannels, HolesAreCounted, HolesHaveALine, LidsAreAsked, LoopsBeginWhereReported, LoopsHaveALine};
 ghost use Rattle.route_audit.specs.WrongRules.{NobodysLoopsHaveALine, OtherLidsDecide, OtherLidsDoNotCount, OtherPortsDecide, OtherTablesDecide, OthersHolesHaveALine};
-ghost use Rattle.route_audit.specs.WrongRules.{TheLastWaitsForTheFirst, TransitDecidesNothing, TwoMakeACycle, WaysAreAsked, WaysAreLonger};
+ghost use Rattle.route_audit.specs.WrongRules.{TheLastWaitsForTheFirst, TransitDecidesNothing, TwoMakeACycle, UnknownEntriesDecide, WaysAreAsked, WaysAreLonger};
+
+/// Where ports of one node have no cable, the two ends of a loopback plug have none.
+pub fn a_node_may_be_joined_to_itself()
+    ensures { ANodeMayBeJoinedToItself }
+{}
+
+/// Where no cable stands apart, one between two adapters is among those of switches.
+pub fn adapters_are_joined_apart()
+    ensures { AdaptersAreJoinedApart }
+{}
 
 /// Where what does not end at the first switch is reported to be endless, it may end at the second.
 pub fn ways_are_longer()
@@ -40,6 +51,16 @@ pub fn the_last_waits_for_the_first()
     ensures { TheLastWaitsForTheFirst }
 {}
 
+/// If a LID closes a loop that leaves by its channel, it may go another way from there.
+pub fn lids_go_on_round()
+    ensures { LidsGoOnRound }
+{}
+
+/// If the LID of the first step is printed for each, the second channel does not wait by it.
+pub fn each_step_has_its_lid()
+    ensures { EachStepHasItsLid }
+{}
+
 /// If a port of an adapter need not have a LID, one has none.
 pub fn lids_are_asked()
     ensures { LidsAreAsked }
@@ -55,19 +76,29 @@ pub fn transit_decides_nothing()
     ensures { TransitDecidesNothing }
 {}
 
+/// If LIDs of aggregation nodes have to be reached, routes are not called safe though packets of hosts come everywhere.
+pub fn aggregation_decides_nothing()
+    ensures { AggregationDecidesNothing }
+{}
+
 /// If the LIDs of adapters alone count, packets to a router go round.
 pub fn other_lids_decide()
     ensures { OtherLidsDecide }
 {}
 
-/// If the dump may have a table of a switch that the topology lacks, it is of another fabric.
+/// If the dump may have a table of a switch that the fabric lacks, it is of another fabric.
 pub fn other_tables_decide()
     ensures { OtherTablesDecide }
 {}
 
-/// If the dump may name an adapter that the topology lacks, it is of another fabric.
+/// If the dump may name an adapter that the fabric lacks, it is of another fabric.
 pub fn other_ports_decide()
     ensures { OtherPortsDecide }
+{}
+
+/// If entries may be unknown where no packet of a host comes to them, routes are called safe whose dependency graph is not known.
+pub fn unknown_entries_decide()
+    ensures { UnknownEntriesDecide }
 {}
 
 /// Where what goes on has no line, packets go round and none reports it.
@@ -80,7 +111,7 @@ pub fn holes_have_a_line()
     ensures { HolesHaveALine }
 {}
 
-/// If a LID whose port the topology lacks has no line, packets to it end and none reports it.
+/// If a LID whose port the fabric lacks has no line, packets to it end and none reports it.
 pub fn others_holes_have_a_line()
     ensures { OthersHolesHaveALine }
 {}

@@ -4,6 +4,7 @@ pub mod Nodes
 pub mod Names
 pub mod Tried
 pub mod Cables
+pub mod Sizes
 pub mod Text
 pub mod Fault
 pub mod Agreement

@@ -14,6 +14,7 @@ use Rattle.topology_import.specs.Cables.{adapter_end, cables_meant}
 use Rattle.topology_import.specs.Ends.{end_with, ends, is_router}
 use Rattle.topology_import.specs.Names.{name_at, named}
 use Rattle.topology_import.specs.Nodes.{nodes_meant}
+use Rattle.topology_import.specs.Sizes.{size_lines}
 
 -- ---- a LID, if there is one
 abbrev pub lid_text : Option ℕ → List ℕ
@@ -102,6 +103,7 @@ text_with discovery ends nodes cables manager =
     ++ flat_map (cable_line nodes) cables
     ++ manager_line nodes (adapter_end ends manager)
     ++ flat_map router_line discovery.nodes
+    ++ size_lines nodes (length ends)
 
 abbrev pub text_of : DiscoveryState → ℕ → List ℕ
 text_of discovery manager = text_with discovery (ends discovery) (planned_nodes discovery) (cables_meant discovery) manager

@@ -1,6 +1,6 @@
 //! The end ports of a discovery, and the adapters that their GUIDs make of them.
 
-ghost use Rattle.std.specs.Prelude.{◌≡◌, ◌++◌, [], ◌∷◌, if◌then◌else◌, IfOk, OnOk};
+ghost use Rattle.std.specs.Prelude.{◌≡◌, ◌++◌, [], ◌∷◌, if◌then◌else◌, length, IfOk, OnOk};
 ghost use Rattle.std.specs.Option.{option_copied};
 ghost use Rattle.topology_import.specs.Ends.{counts, end_with, ends, firsts, guid_of, is_above, is_below, is_end, is_first, is_port_guid, is_router, is_router_at, number_of, place_of_end, ports_from};
 
@@ -89,6 +89,12 @@ impl EndList {
             list.push_if_end(nodes, line)?;
         }
         Ok(list)
+    }
+
+    pub(crate) fn count(&self) -> usize
+        ensures { result ≡ length self.now }
+    {
+        self.lines.len()
     }
 
     fn push_if_end(&mut self, nodes: &[Node], line: &PortLine) -> Result<(), AllocError>

@@ -7,6 +7,7 @@ use crate::cables::{CableMeant, End, adapter_end};
 use crate::ends::{EndList, is_router};
 use crate::names::name_at;
 use crate::planned::{Planned, PlannedList};
+use crate::sizes::push_sizes;
 use netdiscover_file::{Discovery, Node, PortLine};
 use std::alloc::{AllocError, Global};
 use text_parts::{push_decimal, push_guid, push_port_name, push_quoted};
@@ -282,6 +283,7 @@ pub(crate) fn text_with(
     push_cable_lines(&mut text, nodes, cables)?;
     push_manager_line(&mut text, nodes, adapter_end(ends, manager))?;
     push_router_lines(&mut text, discovery.nodes())?;
+    push_sizes(&mut text, nodes.as_slice(), ends.count())?;
     Ok(text)
 }
 

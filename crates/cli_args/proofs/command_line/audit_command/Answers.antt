@@ -2,5 +2,5 @@ use Rattle.cli_args.proofs.command_line.audit_command.Goals as goal
 
 pub returns-clause-words : goal.returns-clause-words
 returns-clause-words c =
-    let found = c.with_arg-found.ensures _ _ c.new.ensures.app c.wanted_topology.ensures.rule in
+    let found = c.with_arg-found.ensures _ _ c.new.ensures.app c.wanted_fabric.ensures.rule in
     c.described.ensures.words _ (c.with_arg.ensures _ _ found c.wanted_dump.ensures.rule)
