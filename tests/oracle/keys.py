@@ -6,7 +6,7 @@
     tests/oracle/keys.py --try PROGRAM COUNT                                makes COUNT such fabrics, and compares what `PROGRAM audit-keys` prints
 
 Partition files may have what --make and the files of tests/opensm-keys have: definitions with a P_Key, flags, and lists of GUIDs,
-ALL, ALL_CAS, ALL_SWITCHES and SELF."""
+ALL, ALL_CAS, ALL_SWITCHES and SELF. A GUID with a letter that is no digit is the one error that is looked for."""
 
 import collections
 import difflib
@@ -18,6 +18,7 @@ import sys
 
 End = collections.namedtuple("End", "name guid node lid number switch far")  # far: the GUID of the switch and its port
 FEW_PAIRS = 100
+FELL_OPEN = "diagnosis: every port that was read has 0xffff alone: OpenSM dropped its file, or had none"
 
 
 def encoded(name, taken):
@@ -260,10 +261,10 @@ class Audit:
         lines = []
         if self.counts["extra"] + self.counts["missing"] + self.counts["membership"]:
             if read and all(set(held) == {0xFFFF} for _, held in read):
-                lines.append("every port that was read has 0xffff alone: OpenSM dropped its file, or had none")
+                lines.append(FELL_OPEN.removeprefix("diagnosis: "))
             else:
                 if all(set(held) == set(self.opensms[end.guid]) for end, held in read):
-                    lines.append("the tables are what OpenSM makes of this file: the last word that names a port counts")
+                    lines.append("OpenSM reads this file so: if several words name a port, it takes the last")
                 if alone and not self.counts["full"]:
                     lines.append("the tables follow another file, or another program wrote them: see stray and absent")
         for end, held in read:
@@ -279,6 +280,11 @@ class Audit:
                 ports = [end.name for end in self.fabric.ends if end.node == guid]
                 yield " ".join(["node-guid" if ports else "no-port", f"0x{guid:016x}", *ports])
         yield from (f"no-partition {end.name}" for end in self.fabric.ends if not self.given[end.guid])
+
+    def without_partitions(self):
+        """What is said of the tables if the partition file is refused."""
+        held = [keys for keys in map(self.own, self.fabric.ends) if keys is not None]
+        return [FELL_OPEN] if held and all(set(keys) == {0xFFFF} for keys in held) else []
 
     def lines(self):
         read = []
@@ -300,6 +306,20 @@ class Audit:
             "verdict: " + verdict,
             f"status {int(not self.clean)}",
         ]
+
+
+def refused_line(partitions):
+    """The first line of the file with a GUID that is none, if there is one."""
+    lines = [] if partitions == "-" else open(partitions).read().split("\n")
+    return next((place for place, line in enumerate(lines, 1) if re.search(r"\b0x\w*[g-zG-Z_]", line.split("#")[0])), None)
+
+
+def audited(netdiscover, pkeys, partitions, manager=None, all_pairs=False):
+    """The lines of both outputs, one behind the other, and of the status."""
+    line = refused_line(partitions)
+    if line is None:
+        return Audit(netdiscover, pkeys, partitions, manager, all_pairs).lines()
+    return [*Audit(netdiscover, pkeys, "-", manager).without_partitions(), f"fault PF2 partitions line {line}", "status 1"]
 
 
 def table_text(words, capacity):
@@ -352,7 +372,15 @@ def make(seed):
     fabric = Fabric("netdiscover")
     given, _, _ = memberships("partitions", fabric, fabric.manager)
 
+    # Some files have a GUID that is none, so OpenSM dropped them.
+    dropped = chance.randrange(8) == 0
+    if dropped:
+        rules.insert(chance.randrange(len(rules) + 1), "Typo=0x0077: 0x98o39b0300d05051=full;")
+        open("partitions", "w").write("\n".join(rules) + "\n")
+
     def edited(keys, capacity):
+        if dropped:
+            return table_text([0xFFFF] if chance.randrange(20) else [0xFFFF, 0x8001], capacity)
         keys = list(keys)
         if chance.randrange(4) == 0:
             keys.insert(chance.randrange(len(keys) + 1), 0)
@@ -396,7 +424,7 @@ def tried(program, seed):
     options = ["--all"] if all_pairs else []
     run = subprocess.run([program, "audit-keys", "netdiscover", "pkeys", "partitions", *options], capture_output=True, stdin=subprocess.DEVNULL)
     given = (run.stdout + run.stderr).decode() + f"status {run.returncode}\n"
-    wanted = "\n".join(Audit("netdiscover", "pkeys", "partitions", all_pairs=all_pairs).lines()) + "\n"
+    wanted = "\n".join(audited("netdiscover", "pkeys", "partitions", all_pairs=all_pairs)) + "\n"
     if given != wanted:
         print(f"tests/keys: the fabric of seed {seed} differs (-: wanted, +: given)")
         print("\n".join(list(difflib.unified_diff(wanted.split("\n"), given.split("\n"), lineterm=""))[2:20]))
@@ -410,4 +438,4 @@ elif sys.argv[1] == "--try":
     print(f"{sum(results)} passed, {len(results) - sum(results)} failed")
 else:
     all_pairs = "--all" in sys.argv
-    print("\n".join(Audit(*sys.argv[1:4], int(sys.argv[5], 16) if "--sm" in sys.argv else None, all_pairs).lines()))
+    print("\n".join(audited(*sys.argv[1:4], int(sys.argv[5], 16) if "--sm" in sys.argv else None, all_pairs)))

@@ -11,3 +11,4 @@ pub mod LineTextLemmas
 pub mod PortLineLemmas
 pub mod PrintedLemmas
 pub mod OneEndingLemmas
+pub mod KeysLemmas

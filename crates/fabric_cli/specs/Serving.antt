@@ -1,6 +1,6 @@
 -- The result of an invocation, from its arguments, the bytes of its files, and what becomes of the fabric that they describe.
 use Rattle.std.specs.Prelude.{ℕ, ◌≡◌, ◌≢◌, ◌⊎◌, Bool, true, List, [], Option, Some, None, is_some, option_map, unwrap_or, Vec}
-use Rattle.std.specs.Prelude.{codes, if◌then◌else◌, string_bytes, ◌++◌, IfOk, IfSome, Result, Ok, Err}
+use Rattle.std.specs.Prelude.{codes, if◌then◌else◌, length, string_bytes, ◌++◌, ◌==◌, IfOk, IfSome, Result, Ok, Err}
 use Rattle.std.specs.Io.KnownBytes.{Appends, Keeps}
 use Rattle.subnet_core.specs.declared.fault.RunFault.{RunFault}
 use Rattle.subnet_core.specs.declared.fault.RunFault.TheVariants as run
@@ -64,7 +64,9 @@ use Rattle.fabric_parts.specs.declared.limits.Limits.TheVariants.{Large}
 use Rattle.dump_file.specs.Dump.{DumpState, dump_of}
 use Rattle.dump_file.specs.declared.fault.DumpCause.{DumpCause}
 use Rattle.route_audit.specs.Audit.{AuditState, audit, audit_discovery}
-use Rattle.keys_audit.specs.Text.{KeysAuditState, keys_audit}
+use Rattle.keys_audit.specs.Text.{KeysAuditState, audit_without_partitions, keys_audit}
+use Rattle.fabric_cli.specs.declared.key_audits.KeysOutput.{KeysOutput}
+use Rattle.fabric_cli.specs.declared.key_audits.KeysOutput.TheVariants as keys_output
 use Rattle.pkeys_file.specs.Answers.{answers_of}
 use Rattle.pkeys_file.specs.declared.answer.Answer.{Answer as KeysAnswer}
 use Rattle.pkeys_file.specs.declared.fault.KeysCause.{KeysCause}
@@ -85,7 +87,7 @@ use Rattle.cli_args.specs.Words.{Asking, Names, named_inspection, named_view, op
 
 -- how an invocation ends: the arguments are refused, with this text if it is known; or an error's status and line; or a
 -- whole output; or the whole audit of routes that are not safe, or of key tables that do not follow the file; or the line of a script's error, after the report of the
--- lines before it
+-- lines before it, or of a partition file's error, after what is said of key tables without it
 pub data Ending : Type 0 where
   refused : Option (List ℕ) → Ending
   faulted : ℕ → List ℕ → Ending
@@ -332,9 +334,19 @@ abbrev pub partitions_given : Option (List ℕ) → Result (List Partition) (AtL
 partitions_given (Some text) = partitions_of text
 partitions_given None = Ok no_file
 
+-- if the partition file has an error, what is said of the tables without it is printed before the error
+abbrev pub keys_refused : (said : List ℕ) → (line : ℕ) → PartitionCause → Ending
+keys_refused said line cause =
+    if length said == 0 then faulted 1 (partitions_line (partitions_code cause) line) else broken_off (partitions_line (partitions_code cause) line) said
+
+-- an output with what it comes to
+abbrev pub keys_output_ending : KeysOutput → Ending
+keys_output_ending (keys_output.Audited found) = keys_ending found
+keys_output_ending (keys_output.Unjudged said line cause) = broken_off (partitions_line (partitions_code cause) line) said.items
+
 abbrev pub keys_by : (all : Bool) → TopologyState → DiscoveryState → List KeysAnswer → Result (List Partition) (AtLine PartitionCause) → Ending
 keys_by all plan discovery answers (Ok partitions) = keys_ending (keys_audit plan discovery answers partitions all)
-keys_by all plan discovery answers (Err at) = faulted 1 (partitions_line (partitions_code at.cause) at.line)
+keys_by all plan discovery answers (Err at) = keys_refused (audit_without_partitions plan discovery answers) at.line at.cause
 
 abbrev pub keys_over : (all : Bool) → TopologyState → DiscoveryState → Option (List ℕ) → Result (List KeysAnswer) (AtLine KeysCause) → Ending
 keys_over all plan discovery partitions (Ok answers) = keys_by all plan discovery answers (partitions_given partitions)
@@ -581,10 +593,6 @@ dump_stop (of_text.At line cause) = Foreign line (Dump cause)
 abbrev pub keys_stop : TextFault KeysCause → Stop
 keys_stop of_text.NoMemory = NoMemory
 keys_stop (of_text.At line cause) = Foreign line (KeysFault cause)
-
-abbrev pub partitions_stop : TextFault PartitionCause → Stop
-partitions_stop of_text.NoMemory = NoMemory
-partitions_stop (of_text.At line cause) = Run (run.Partitions line cause)
 
 -- arguments are refused, with this text
 abbrev pub IsRefusal : Ending → List ℕ → Type 0

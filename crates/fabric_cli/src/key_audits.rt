@@ -4,8 +4,11 @@ ghost use Rattle.std.specs.Prelude.{◌≡◌, Ok, Option, List, ℕ, is_some, o
 ghost use Rattle.fabric_cli.specs.Faults.{IsOfFiles, IsOfRun, LeavesUnread, NamesUnread};
 ghost use Rattle.fabric_cli.specs.Files.{OpensAll, OpensInOrder};
 ghost use Rattle.fabric_cli.specs.KeyFiles.{keys_names, partitions_name};
-ghost use Rattle.fabric_cli.specs.Serving.{bytes_if_named, ended, ending_of, keys_audited, keys_by, keys_ending, keys_in_topology, keys_of_import, keys_over};
-ghost use Rattle.fabric_cli.specs.Serving.{keys_stop, partitions_given, partitions_stop, Answers, EndsIn, Judged};
+ghost use Rattle.fabric_cli.specs.Serving.{bytes_if_named, ended, ending_of, broken_off, keys_audited, keys_by, keys_ending, keys_in_topology, keys_of_import, keys_output_ending, keys_over, keys_refused};
+ghost use Rattle.fabric_cli.specs.Serving.{keys_stop, partitions_given, Answers, EndsIn, ForEnding, Judged};
+ghost use Rattle.fabric_cli.specs.Faults.{partitions_line};
+ghost use Rattle.keys_audit.specs.Text.{audit_without_partitions};
+ghost use Rattle.partition_file.specs.Fault.{code_of as partitions_code};
 ghost use Rattle.pkeys_file.specs.Answers.{answers_of};
 ghost use Rattle.topo_file.specs.Topology.{topology_within};
 ghost use Rattle.topology_import.specs.Import.{import_of};
@@ -19,13 +22,13 @@ use crate::outputs::{discovery_stop, import_stop, topology_stop};
 use crate::reading::read_file;
 use crate::texts::read_if_named;
 use fabric_parts::Limits;
-use keys_audit::{KeysAudit, audit_keys};
+use keys_audit::{KeysAudit, audit_keys, audit_without_partitions};
 use netdiscover_file::Discovery;
-use partition_file::{PartFault, Partitions, no_file};
+use partition_file::{PartFault, PartitionCause, Partitions, no_file};
 use pkeys_file::{Answers as SmpqueryAnswers, KeysFault};
 use std::alloc::Global;
 use subnet_core::RunFault;
-use text_streams::{Output, TextSize};
+use text_streams::{Output, TextSize, write_whole};
 use topo_file::LargeTopology;
 use topology_import::topology_text;
 
@@ -49,6 +52,22 @@ pub struct KeysTexts {
     pub pkeys: Vec<u8>,
     /// The partition file, if there is one.
     pub partitions: Option<Vec<u8>>,
+}
+
+/// What an audit comes to.
+#[derive(Drop)]
+pub enum KeysOutput {
+    /// The audit.
+    Audited(KeysAudit),
+    /// The partition file has an error.
+    Unjudged {
+        /// What is said of the tables without it.
+        said: Vec<u8>,
+        /// The line of the error, from 1.
+        line: usize,
+        /// What is wrong there.
+        cause: PartitionCause,
+    },
 }
 
 /// The bytes of the files, each opened once and read in its turn; those of other programs may be big.
@@ -100,14 +119,24 @@ fn keys_stop<'a>(fault: KeysFault) -> Stop<'a>
     }
 }
 
-fn partitions_stop<'a>(fault: PartFault) -> Stop<'a>
-    ensures reported { result ≡ partitions_stop fault }
-    ensures fault { IsOfRun result }
+/// The error of the partition file, behind what is said of the tables without it.
+fn keys_refused<'a>(
+    alloc: Global,
+    plan: &LargeTopology,
+    discovery: &Discovery,
+    answers: &SmpqueryAnswers,
+    line: usize,
+    cause: PartitionCause,
+) -> Result<KeysOutput, Stop<'a>>
+    ensures exact { EndsIn keys_output_ending
+        (ended (keys_refused (audit_without_partitions plan.now discovery.now answers.now) line cause)) result }
+    ensures fault { IfErr result IsOfRun }
 {
-    match fault {
-        PartFault::NoMemory => Stop::NoMemory,
-        PartFault::At { line, cause } => Stop::Run(RunFault::Partitions { line, cause }),
+    let said = audit_without_partitions(alloc, plan, discovery, answers)?;
+    if said.is_empty() {
+        return Err(Stop::Run(RunFault::Partitions { line, cause }));
     }
+    Ok(KeysOutput::Unjudged { said, line, cause })
 }
 
 fn keys_by<'a>(
@@ -117,14 +146,20 @@ fn keys_by<'a>(
     answers: &SmpqueryAnswers,
     partitions: &Option<Vec<u8>>,
     all: bool,
-) -> Result<KeysAudit, Stop<'a>>
-    ensures exact { EndsIn keys_ending (ended (keys_by all plan.now discovery.now answers.now
+) -> Result<KeysOutput, Stop<'a>>
+    ensures exact { EndsIn keys_output_ending (ended (keys_by all plan.now discovery.now answers.now
         (partitions_given (option_map (λ items. items.items) partitions.now)))) result }
     ensures fault { IfErr result IsOfRun }
 {
     match partitions_given(alloc, partitions) {
-        Ok(partitions) => Ok(audit_keys(alloc, plan, discovery, answers, &partitions, all)?),
-        Err(fault) => Err(partitions_stop(fault)),
+        Ok(partitions) => {
+            let audit = audit_keys(alloc, plan, discovery, answers, &partitions, all)?;
+            Ok(KeysOutput::Audited(audit))
+        }
+        Err(PartFault::NoMemory) => Err(Stop::NoMemory),
+        Err(PartFault::At { line, cause }) => {
+            keys_refused(alloc, plan, discovery, answers, line, cause)
+        }
     }
 }
 
@@ -134,8 +169,8 @@ fn keys_over<'a>(
     discovery: &Discovery,
     texts: &KeysTexts,
     all: bool,
-) -> Result<KeysAudit, Stop<'a>>
-    ensures exact { EndsIn keys_ending (ended (keys_over all plan.now discovery.now
+) -> Result<KeysOutput, Stop<'a>>
+    ensures exact { EndsIn keys_output_ending (ended (keys_over all plan.now discovery.now
         (option_map (λ items. items.items) texts.now.partitions) (answers_of texts.now.pkeys.items))) result }
     ensures fault { IfErr result IsOfRun }
 {
@@ -151,8 +186,8 @@ fn keys_in_topology<'a>(
     topology: &[u8],
     texts: &KeysTexts,
     all: bool,
-) -> Result<KeysAudit, Stop<'a>>
-    ensures exact { EndsIn keys_ending (ended (keys_in_topology all discovery.now texts.now.pkeys.items
+) -> Result<KeysOutput, Stop<'a>>
+    ensures exact { EndsIn keys_output_ending (ended (keys_in_topology all discovery.now texts.now.pkeys.items
         (option_map (λ items. items.items) texts.now.partitions) (topology_within Large topology.now))) result }
     ensures fault { IfErr result IsOfRun }
 {
@@ -168,8 +203,8 @@ fn keys_of_import<'a>(
     texts: &KeysTexts,
     manager: Option<u64>,
     all: bool,
-) -> Result<KeysAudit, Stop<'a>>
-    ensures exact { EndsIn keys_ending (ended (keys_of_import all discovery.now texts.now.pkeys.items
+) -> Result<KeysOutput, Stop<'a>>
+    ensures exact { EndsIn keys_output_ending (ended (keys_of_import all discovery.now texts.now.pkeys.items
         (option_map (λ items. items.items) texts.now.partitions) (import_of discovery.now manager))) result }
     ensures fault { IfErr result IsOfRun }
 {
@@ -185,8 +220,8 @@ pub fn keys_audited<'a>(
     texts: &KeysTexts,
     manager: Option<u64>,
     all: bool,
-) -> Result<KeysAudit, Stop<'a>>
-    ensures exact { EndsIn keys_ending (ended (keys_audited manager all texts.now.netdiscover.items texts.now.pkeys.items
+) -> Result<KeysOutput, Stop<'a>>
+    ensures exact { EndsIn keys_output_ending (ended (keys_audited manager all texts.now.netdiscover.items texts.now.pkeys.items
         (option_map (λ items. items.items) texts.now.partitions))) result }
     ensures fault { IfErr result IsOfRun }
 {
@@ -199,15 +234,38 @@ pub fn keys_audited<'a>(
 /// Writes an audit of P_Key tables.
 pub fn written_keys<'a, O: Output>(
     out: &mut O,
-    made: Result<KeysAudit, Stop<'a>>,
+    made: Result<KeysOutput, Stop<'a>>,
 ) -> Result<Answer, Stop<'a>>
-    ensures exact { (judged : Judged) → EndsIn keys_ending judged made.entry
+    ensures exact { (judged : Judged) → EndsIn keys_output_ending judged made.entry
         → Answers judged result (O.is_sure out.old) (O.contents out.old) (O.contents out.new) }
     ensures unread { IfErr made.entry IsOfRun → IfErr result (LeavesUnread (λ _. ⊥)) }
 {
     match made {
-        Ok(audit) => written_as(out, audit.text(), answer_of(&audit)),
+        Ok(KeysOutput::Audited(audit)) => written_as(out, audit.text(), answer_of(&audit)),
+        Ok(KeysOutput::Unjudged { said, line, cause }) => {
+            written_before(out, said.as_slice(), line, cause)
+        }
         Err(stop) => Err(stop),
+    }
+}
+
+/// Writes what is said before an error of the partition file.
+#[tactic(auto, using(crate::proofs::KeysLemmas::breaks_behind, crate::proofs::KeysLemmas::goes_partly))]
+fn written_before<'a, O: Output>(
+    out: &mut O,
+    said: &[u8],
+    line: usize,
+    cause: PartitionCause,
+) -> Result<Answer, Stop<'a>>
+    ensures exact { (judged : Judged)
+        → ForEnding judged (λ ending. ending ≡ broken_off (partitions_line (partitions_code cause) line) said.now)
+        → Answers judged result (O.is_sure out.old) (O.contents out.old) (O.contents out.new) }
+    ensures unread { IfErr result (LeavesUnread (λ _. ⊥)) }
+{
+    if write_whole(out, said) {
+        Err(Stop::Run(RunFault::Partitions { line, cause }))
+    } else {
+        Err(Stop::Unwritten)
     }
 }
 

@@ -11,7 +11,7 @@ use Rattle.keys_audit.specs.declared.port.FacingPort.{FacingPort}
 use Rattle.keys_audit.specs.declared.port.HeldKeys.{HeldKeys}
 use Rattle.keys_audit.specs.Differences.{are_clean, enforces, facing_fits_by, fits_if_enforced, is_clean, keys_follow, tables_fit}
 use Rattle.keys_audit.specs.Held.{is_key}
-use Rattle.keys_audit.specs.Laws.{FitsIfEnforced, HasKeys, HaveBases, HaveSameBases, HaveSameKeys, IsRight, PassesTheRight, TablesThatFollowAreClean, TheStatusIsThatOfEachPort}
+use Rattle.keys_audit.specs.Laws.{FitsIfEnforced, HasKeys, HaveBases, HaveSameBases, HaveSameKeys, IsRight, OfEach, PassesTheRight, TablesThatFollowAreClean, TheStatusIsThatOfEachPort}
 
 equal : (n : ℕ) → (n == n) ≡ true
 equal n = grind (arith, nat_tests)
@@ -78,11 +78,11 @@ fit_means (Some table) (Some adapter) is =
 means_fit : (table adapter : Option HeldKeys) → HaveBases table adapter → tables_fit table adapter ≡ true
 means_fit table adapter is = rw (is.read, is.other_read) (means_same base_of is.held.keys is.other.keys is.same)
 
-fits_by : (b fit : Bool) → (not b || fit) ≡ true → b ≡ true → fit ≡ true
+pub fits_by : (b fit : Bool) → (not b || fit) ≡ true → b ≡ true → fit ≡ true
 fits_by true fit is on = is
 fits_by false fit is on = absurd (false≢true on)
 
-by_fits : (b fit : Bool) → (b ≡ true → fit ≡ true) → (not b || fit) ≡ true
+pub by_fits : (b fit : Bool) → (b ≡ true → fit ≡ true) → (not b || fit) ≡ true
 by_fits true fit is = is refl
 by_fits false fit is = refl
 
@@ -110,31 +110,34 @@ means_facing : (facing : Option FacingPort) (adapter : Option HeldKeys) → IfSo
 means_facing None adapter is = refl
 means_facing (Some facing) adapter is = means_fits facing adapter is
 
-port_means : (port : AuditedPort) → is_clean port ≡ true → IsRight port
+pub port_means : (port : AuditedPort) → is_clean port ≡ true → IsRight port
 port_means port is =
     let parts = and_parts (keys_follow port.table port.file) (facing_fits_by port.facing port.table) is in
     record { keys = keys_mean port.table port.file parts.0; bases = facing_means port.facing port.table parts.1 }
 
-means_port : (port : AuditedPort) → IsRight port → is_clean port ≡ true
+pub means_port : (port : AuditedPort) → IsRight port → is_clean port ≡ true
 means_port port is = rw (means_keys port.table port.file is.keys, means_facing port.facing port.table is.bases) refl
 
 pub the_right_ports_pass : PassesTheRight is_clean
 the_right_ports_pass port = (port_means port, means_port port)
 
 -- ---- all of them
-ports_mean : (ports : List AuditedPort) → are_clean ports ≡ true → (place : ℕ) (port : AuditedPort) → slice_get ports place ≡ Some port → IsRight port
-ports_mean [] is place port there = cc
-ports_mean (first ∷ ports) is zero port there =
-    subst (λ (p : AuditedPort). IsRight p) (same_Some first port there) (port_means first (and_parts (is_clean first) (are_clean ports) is).0)
-ports_mean (first ∷ ports) is (suc place) port there = ports_mean ports (and_parts (is_clean first) (are_clean ports) is).1 place port there
+module _ (rule : AuditedPort → Bool) (Is : AuditedPort → Type 0) (rule_means : (port : AuditedPort) → rule port ≡ true → Is port)
+    (means_rule : (port : AuditedPort) → Is port → rule port ≡ true) where
+  pub all_mean : (ports : List AuditedPort) → list_all rule ports ≡ true → OfEach Is ports
+  all_mean [] is place port there = cc
+  all_mean (first ∷ ports) is zero port there =
+      subst (λ (p : AuditedPort). Is p) (same_Some first port there) (rule_means first (and_parts (rule first) (list_all rule ports) is).0)
+  all_mean (first ∷ ports) is (suc place) port there = all_mean ports (and_parts (rule first) (list_all rule ports) is).1 place port there
 
-means_ports : (ports : List AuditedPort) → ((place : ℕ) (port : AuditedPort) → slice_get ports place ≡ Some port → IsRight port) → are_clean ports ≡ true
-means_ports [] each = refl
-means_ports (first ∷ ports) each =
-    rw (means_port first (each 0 first refl), means_ports ports (λ place port there. each (suc place) port there)) refl
+  pub mean_all : (ports : List AuditedPort) → OfEach Is ports → list_all rule ports ≡ true
+  mean_all [] each = refl
+  mean_all (first ∷ ports) each =
+      rw (means_rule first (each 0 first refl), mean_all ports (λ place port there. each (suc place) port there)) refl
 
 pub the_status_is_that_of_each_port : TheStatusIsThatOfEachPort
-the_status_is_that_of_each_port ports = (ports_mean ports, means_ports ports)
+the_status_is_that_of_each_port ports =
+    (all_mean is_clean IsRight port_means means_port ports, mean_all is_clean IsRight port_means means_port ports)
 
 -- ---- tables that follow
 none_kept : (n : ℕ) → filter is_key (replicate n 0) ≡ []

@@ -1,5 +1,6 @@
 mod LoopLemmas
 mod LawLemmas
-mod WrongLemmas
+mod VerdictLemmas
 mod BaseLemmas
 mod PairLemmas
+mod WrongLemmas

@@ -1,7 +1,9 @@
 -- What wrong rules let pass, and what they refuse.
-use Rattle.std.proofs.Common.{◌≡◌, ◌∙◌, ap, ℕ, true, false, List, [], ◌∷◌, Option, Some, None, refl, sym}
+use Rattle.std.proofs.Common.{◌≡◌, ◌∙◌, ap, ℕ, length, Bool, true, false, List, [], ◌∷◌, Option, Some, None, refl, sym}
 use Rattle.std.proofs.lemmas.Bool.{false≢true}
 use Rattle.std.proofs.lemmas.Option.{same_Some}
+use Rattle.pair_changes.specs.declared.pairs.Pair.{Pair}
+use Rattle.pair_changes.proofs.WrongLemmas.{all_counted, one_is_not_none}
 use Rattle.pkey_rules.specs.KeyTable.{has_base, holds}
 use Rattle.fabric_parts.specs.declared.cable.PortRef.{PortRef}
 use Rattle.keys_audit.specs.declared.port.AuditedPort.{AuditedPort}
@@ -9,8 +11,10 @@ use Rattle.keys_audit.specs.declared.port.Enforcement.{Enforcement}
 use Rattle.keys_audit.specs.declared.port.FacingPort.{FacingPort}
 use Rattle.keys_audit.specs.declared.port.HeldKeys.{HeldKeys}
 use Rattle.keys_audit.specs.Differences.{enforces}
-use Rattle.keys_audit.specs.Laws.{FitsIfEnforced, HasKeys, HaveBases, IsRight}
-use Rattle.keys_audit.specs.WrongRules.{BasesAreNotEnough, MissingKeysCount, OneDirectionCounts, OwnTablesAreNotEnough, UnreadPortsDoNotPass, UnreadSwitchPortsDoNotPass}
+use Rattle.keys_audit.specs.Laws.{FitsIfEnforced, HasKeys, HasThoseAlone, HaveBases, IsRight, talk_by_file, talk_by_tables}
+use Rattle.keys_audit.specs.Standing.{only_by_file, only_by_tables}
+use Rattle.keys_audit.specs.WrongRules.{BasesAreNotEnough, BothMayTalk, LimitedMembersDoNotTalk, MissingKeysCount, OneDirectionCounts, OwnTablesAreNotEnough, SwitchPortsCount, UnreadPortsDoNotPass, UnreadSwitchPortsDoNotPass, UnreadTablesDoNotFollow, all_by_file, all_by_tables, members_by_file, members_by_tables}
+use Rattle.keys_audit.proofs.PairLemmas.{pairs_of_tables_are_theirs, pairs_of_the_file_are_its}
 
 abbrev at : PortRef
 at = record { node = 0; port = 1 }
@@ -97,3 +101,44 @@ pub own_tables_are_not_enough : OwnTablesAreNotEnough
 own_tables_are_not_enough law =
     let on : Enforcement = record { inbound = true; outbound = true } in
     lacks_none on refl ((law (lacking on)).0 refl)
+
+-- ---- lists of pairs that a law makes as long as they are
+as_many : (rule right : ℕ → List AuditedPort → List Pair) (so other : ℕ → AuditedPort → AuditedPort → Bool)
+    → HasThoseAlone right so other → HasThoseAlone rule so other → (ports : List AuditedPort) → length (rule 1 ports) ≡ length (right 1 ports)
+as_many rule right so other holds law ports =
+    sym (all_counted (rule 1 ports)) ∙ law 1 ports (λ pair. true) refl ∙ sym (holds 1 ports (λ pair. true) refl) ∙ all_counted (right 1 ports)
+
+abbrev two : (keys file : List ℕ) → List AuditedPort
+two keys file = port_with (Some (of keys)) file None ∷ port_with (Some (of keys)) file None ∷ []
+
+-- limited members of the partition, by the tables or by the file
+pub limited_members_do_not_talk : LimitedMembersDoNotTalk
+limited_members_do_not_talk = record {
+  tables = λ law.
+      one_is_not_none _ _ refl refl (as_many members_by_tables only_by_tables talk_by_tables talk_by_file pairs_of_tables_are_theirs law (two (0x0001 ∷ []) []));
+  file = λ law.
+      one_is_not_none _ _ refl refl (as_many members_by_file only_by_file talk_by_file talk_by_tables pairs_of_the_file_are_its law (two [] (0x0001 ∷ [])));
+}
+
+-- full members by both
+pub both_may_talk : BothMayTalk
+both_may_talk = record {
+  tables = λ law.
+      one_is_not_none _ _ refl refl (as_many all_by_tables only_by_tables talk_by_tables talk_by_file pairs_of_tables_are_theirs law (two (0x8001 ∷ []) (0x8001 ∷ [])));
+  file = λ law.
+      one_is_not_none _ _ refl refl (as_many all_by_file only_by_file talk_by_file talk_by_tables pairs_of_the_file_are_its law (two (0x8001 ∷ []) (0x8001 ∷ [])));
+}
+
+-- ---- last lines
+-- nothing is known of the port
+pub unread_tables_do_not_follow : UnreadTablesDoNotFollow
+unread_tables_do_not_follow law =
+    let port : AuditedPort = port_with None (0x0001 ∷ []) None in
+    let right : HasKeys None (0x0001 ∷ []) = ((law (port ∷ [])).follow.0 refl 0 port refl).keys in
+    unread right.held right.read
+
+-- the switch port drops packets, and lacks the base
+pub switch_ports_count : SwitchPortsCount
+switch_ports_count law =
+    let on : Enforcement = record { inbound = true; outbound = true } in
+    lacks_none on refl ((law (lacking on ∷ [])).follow.0 refl 0 (lacking on) refl)

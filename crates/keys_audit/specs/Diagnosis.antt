@@ -31,7 +31,10 @@ has_default_port port = has_default_alone port.table
 abbrev pub fell_open : List AuditedPort → Bool
 fell_open ports = list_any is_read ports && list_all has_default_port ports
 
--- ---- every table that was read is what OpenSM makes of the file
+unfoldable pub open_line : List AuditedPort → List ℕ
+open_line ports = line_if (fell_open ports) (codes "every port that was read has 0xffff alone: OpenSM dropped its file, or had none")
+
+-- ---- every table that was read has the keys that OpenSM reads in the file
 abbrev pub is_as_opensm : Option HeldKeys → (opensms : List ℕ) → Bool
 is_as_opensm (Some table) opensms = have_same_keys table.keys opensms
 is_as_opensm None opensms = true
@@ -60,14 +63,18 @@ unfoldable pub manager_line : List Node → AuditedPort → List ℕ
 manager_line nodes port = if is_cut_off port then limited_line nodes port.port else []
 
 -- ---- all of them, where tables differ from the file; `others` says whether they follow another file
+unfoldable pub opensms_line : List AuditedPort → List ℕ
+opensms_line ports = line_if (all_as_opensm ports) (codes "OpenSM reads this file so: if several words name a port, it takes the last")
+
+unfoldable pub another_line : (others : Bool) → List ℕ
+another_line others = line_if others (codes "the tables follow another file, or another program wrote them: see stray and absent")
+
 unfoldable pub other_causes : List AuditedPort → (others : Bool) → List ℕ
-other_causes ports others =
-    line_if (all_as_opensm ports) (codes "the tables are what OpenSM makes of this file: the last word that names a port counts")
-    ++ line_if others (codes "the tables follow another file, or another program wrote them: see stray and absent")
+other_causes ports others = opensms_line ports ++ another_line others
 
 unfoldable pub cause_lines : List AuditedPort → (others : Bool) → List ℕ
 cause_lines ports others =
-    if fell_open ports then line_if true (codes "every port that was read has 0xffff alone: OpenSM dropped its file, or had none")
+    if fell_open ports then open_line ports
     else other_causes ports others
 
 unfoldable pub causes_if : List AuditedPort → (differs others : Bool) → List ℕ

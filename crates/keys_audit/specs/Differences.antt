@@ -1,6 +1,6 @@
 -- How the tables of end ports differ from the partition file, and those of the switch ports that face them from theirs.
 use Rattle.std.specs.Prelude.{ℕ, Bool, true, false, not, ◌==◌, ◌&&◌, ◌||◌, length, List, [], ◌∷◌, ◌++◌, map, Option, Some, None, if◌then◌else◌}
-use Rattle.std.specs.List.{list_all, list_any}
+use Rattle.std.specs.List.{list_all}
 use Rattle.fabric_parts.specs.declared.cable.PortRef.{PortRef}
 use Rattle.pkey_rules.specs.KeyTable.{has_base, holds}
 use Rattle.pkey_rules.specs.PKey.{base_of}
@@ -126,6 +126,26 @@ are_clean ports = list_all is_clean ports
 abbrev pub is_of_key : Difference → Bool
 is_of_key difference = not (difference.key == 0)
 
--- nothing that was read differs in a way that counts for the status
-abbrev pub none_differs : (keys switches : List Difference) → Bool
-none_differs keys switches = not (list_any is_of_key keys) && not (list_any is_of_key switches)
+-- ---- the verdict, if not all was read: each table that was read has the keys of the file, and each table of a switch port that
+-- enforces has the bases of the adapter port, if both were read
+abbrev pub keys_follow_if_read : Option HeldKeys → List ℕ → Bool
+keys_follow_if_read (Some table) file = have_same_keys table.keys file
+keys_follow_if_read None file = true
+
+abbrev pub tables_fit_if_read : Option HeldKeys → Option HeldKeys → Bool
+tables_fit_if_read (Some table) (Some adapter) = have_same_bases table.keys adapter.keys
+tables_fit_if_read _ _ = true
+
+abbrev pub fits_if_read : Option Enforcement → Option HeldKeys → Option HeldKeys → Bool
+fits_if_read (Some enforcement) table adapter = not (enforces enforcement) || tables_fit_if_read table adapter
+fits_if_read None table adapter = true
+
+abbrev pub facing_fits_if_read : Option FacingPort → Option HeldKeys → Bool
+facing_fits_if_read (Some facing) adapter = fits_if_read facing.enforcement facing.table adapter
+facing_fits_if_read None adapter = true
+
+abbrev pub agrees : AuditedPort → Bool
+agrees port = keys_follow_if_read port.table port.file && facing_fits_if_read port.facing port.table
+
+abbrev pub all_agree : List AuditedPort → Bool
+all_agree ports = list_all agrees ports

@@ -1,9 +1,12 @@
--- What the status of an audit means.
-use Rattle.std.specs.Prelude.{ℕ, ◌≡◌, ◌<◌, ◌↔◌, Bool, true, List, ◌++◌, replicate, slice_get, is_some, Some, IfSome, Option}
-use Rattle.std.specs.List.{list_all, list_any}
+-- What the status of an audit means, its pairs and its last line.
+use Rattle.std.specs.Prelude.{ℕ, ◌≡◌, ◌↔◌, Bool, true, false, not, ◌&&◌, List, ◌++◌, codes, replicate, slice_get, is_some, Some, IfSome, Option}
+use Rattle.std.specs.List.{count_by, list_all}
 use Rattle.pair_changes.specs.declared.pairs.Pair.{Pair}
+use Rattle.pair_changes.specs.Laws.{count_of_two}
+use Rattle.partition_file.specs.declared.partition.Partition.{Partition}
 use Rattle.pkey_rules.specs.KeyTable.{has_base, holds, shares_base}
 use Rattle.pkey_rules.specs.PKey.{is_base}
+use Rattle.topo_file.specs.declared.node.Node.{Node}
 use Rattle.keys_audit.specs.declared.port.AuditedPort.{AuditedPort}
 use Rattle.keys_audit.specs.declared.port.Enforcement.{Enforcement}
 use Rattle.keys_audit.specs.declared.port.FacingPort.{FacingPort}
@@ -11,6 +14,7 @@ use Rattle.keys_audit.specs.declared.port.HeldKeys.{HeldKeys}
 use Rattle.keys_audit.specs.Differences.{are_clean, enforces}
 use Rattle.keys_audit.specs.Held.{have_same_keys, held, is_key}
 use Rattle.keys_audit.specs.Standing.{only_by_file, only_by_tables}
+use Rattle.keys_audit.specs.Text.{audit_of, verdict}
 
 -- every key is in both lists or in none
 abbrev pub HaveSameKeys : List ℕ → List ℕ → Type 0
@@ -49,51 +53,85 @@ pub record IsRight (port : AuditedPort) : Type 0 where
 abbrev pub PassesTheRight : (AuditedPort → Bool) → Type 0
 PassesTheRight rule = (port : AuditedPort) → (rule port ≡ true) ↔ IsRight port
 
+-- this holds of each port
+abbrev pub OfEach : (AuditedPort → Type 0) → List AuditedPort → Type 0
+OfEach Is ports = (place : ℕ) (port : AuditedPort) → slice_get ports place ≡ Some port → Is port
+
 -- the status is 0 if and only if every port is right
 abbrev pub TheStatusIsThatOfEachPort : Type 0
-TheStatusIsThatOfEachPort =
-    (ports : List AuditedPort)
-    → (are_clean ports ≡ true) ↔ ((place : ℕ) (port : AuditedPort) → slice_get ports place ≡ Some port → IsRight port)
+TheStatusIsThatOfEachPort = (ports : List AuditedPort) → (are_clean ports ≡ true) ↔ OfEach IsRight ports
 
 -- ---- pairs that may talk by the tables alone, or by the file alone
 -- both tables were read, and some key of one matches some key of the other in the partition of this base
-pub record TalkByTables (base : ℕ) (p q : AuditedPort) : Type 0 where
-  pub held : HeldKeys
-  pub other : HeldKeys
-  pub read : p.table ≡ Some held
-  pub other_read : q.table ≡ Some other
-  pub match : shares_base base held.keys other.keys ≡ true
+abbrev pub match_if_read : ℕ → Option HeldKeys → Option HeldKeys → Bool
+match_if_read base (Some held) (Some other) = shares_base base held.keys other.keys
+match_if_read base _ _ = false
 
--- both tables were read, and the file gives them keys that match
-pub record TalkByFile (base : ℕ) (p q : AuditedPort) : Type 0 where
-  pub read : is_some p.table ≡ true
-  pub other_read : is_some q.table ≡ true
-  pub match : shares_base base p.file q.file ≡ true
+abbrev pub talk_by_tables : ℕ → AuditedPort → AuditedPort → Bool
+talk_by_tables base p q = match_if_read base p.table q.table
 
--- two ports of the list, one behind the other, of which this is so and that is not, and whose pair passes the test
-pub record TalkAlone (ports : List AuditedPort) (so other : AuditedPort → AuditedPort → Type 0) (test : Pair → Bool) : Type 0 where
-  pub place : ℕ
-  pub behind : ℕ
-  pub order : place < behind
-  pub p : AuditedPort
-  pub q : AuditedPort
-  pub first : slice_get ports place ≡ Some p
-  pub second : slice_get ports behind ≡ Some q
-  pub talk : so p q
-  pub alone : other p q → ⊥
-  pub passes : test (record { first = p.port; second = q.port }) ≡ true
+-- both tables were read, and the file gives the two ports keys that match
+abbrev pub talk_by_file : ℕ → AuditedPort → AuditedPort → Bool
+talk_by_file base p q = (is_some p.table && is_some q.table) && shares_base base p.file q.file
 
--- a list of pairs, by base, has exactly those of which this is so and that is not
-abbrev pub HasThoseAlone : (ℕ → List AuditedPort → List Pair) → (so other : ℕ → AuditedPort → AuditedPort → Type 0) → Type 0
+-- this is so of two ports and that is not, and their pair passes a test
+abbrev pub talk_alone : (so other : AuditedPort → AuditedPort → Bool) → (Pair → Bool) → AuditedPort → AuditedPort → Bool
+talk_alone so other test p q = (so p q && not (other p q)) && test (record { first = p.port; second = q.port })
+
+-- of each two ports, one behind the other, of which this is so and that is not, a list has one pair, and no other: as many pairs pass
+-- any test as such ports
+abbrev pub HasThoseAlone : (ℕ → List AuditedPort → List Pair) → (so other : ℕ → AuditedPort → AuditedPort → Bool) → Type 0
 HasThoseAlone pairs so other =
     (base : ℕ) (ports : List AuditedPort) (test : Pair → Bool) → is_base base ≡ true
-    → (list_any test (pairs base ports) ≡ true) ↔ TalkAlone ports (so base) (other base) test
+    → count_by test (pairs base ports) ≡ count_of_two (talk_alone (so base) (other base) test) ports
 
 abbrev pub PairsOfTablesAreTheirs : Type 0
-PairsOfTablesAreTheirs = HasThoseAlone only_by_tables TalkByTables TalkByFile
+PairsOfTablesAreTheirs = HasThoseAlone only_by_tables talk_by_tables talk_by_file
 
 abbrev pub PairsOfTheFileAreIts : Type 0
-PairsOfTheFileAreIts = HasThoseAlone only_by_file TalkByFile TalkByTables
+PairsOfTheFileAreIts = HasThoseAlone only_by_file talk_by_file talk_by_tables
+
+-- ---- the last line
+-- what the switch port enforces was read, and if it drops packets, its table
+pub record FacingWasRead (facing : FacingPort) : Type 0 where
+  pub enforcement : Enforcement
+  pub read : facing.enforcement ≡ Some enforcement
+  pub table : enforces enforcement ≡ true → is_some facing.table ≡ true
+
+pub record WasRead (port : AuditedPort) : Type 0 where
+  pub table : is_some port.table ≡ true
+  pub facing : IfSome port.facing FacingWasRead
+
+-- if the switch port drops packets, and both tables were read, they have the same bases
+abbrev pub FitsAsRead : FacingPort → Option HeldKeys → Type 0
+FitsAsRead facing adapter =
+    (enforcement : Enforcement) (held other : HeldKeys) → facing.enforcement ≡ Some enforcement → enforces enforcement ≡ true
+    → facing.table ≡ Some held → adapter ≡ Some other → HaveSameBases held.keys other.keys
+
+-- what was read of the port and of the switch port that faces it is as the file
+pub record IsRightAsRead (port : AuditedPort) : Type 0 where
+  pub keys : IfSome port.table (λ (held : HeldKeys). HaveSameKeys held.keys port.file)
+  pub bases : IfSome port.facing (λ (facing : FacingPort). FitsAsRead facing port.table)
+
+-- each of the three lines is printed if and only if it is true
+pub record SaysWhatWasRead (line : List AuditedPort → List ℕ) (ports : List AuditedPort) : Type 0 where
+  pub follow : (line ports ≡ codes "verdict: the tables follow the file\n") ↔ OfEach IsRight ports
+  pub some_unread : (line ports ≡ codes "verdict: not all tables were read; those that were follow the file\n")
+      ↔ ((OfEach WasRead ports → ⊥) × OfEach IsRightAsRead ports)
+  pub differ : (line ports ≡ codes "verdict: the tables do not follow the file\n") ↔ (OfEach IsRightAsRead ports → ⊥)
+
+abbrev pub IsTrueVerdict : (List AuditedPort → List ℕ) → Type 0
+IsTrueVerdict line = (ports : List AuditedPort) → SaysWhatWasRead line ports
+
+-- the text ends with it
+pub record TheTextEndsWith (line : List AuditedPort → List ℕ) (text : List ℕ) (ports : List AuditedPort) : Type 0 where
+  pub before : List ℕ
+  pub is : text ≡ before ++ line ports
+
+pub record TheVerdictIsTrue : Type 0 where
+  pub is : IsTrueVerdict verdict
+  pub last : (nodes : List Node) (all : Bool) (ports : List AuditedPort) (partitions : List Partition)
+      → TheTextEndsWith verdict (audit_of nodes all ports partitions).text ports
 
 -- ---- a table that has the keys of the file, with empty places before and behind them, follows it
 abbrev pub TablesThatFollowAreClean : Type 0

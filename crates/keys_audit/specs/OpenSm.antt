@@ -20,7 +20,8 @@ is_all Routers = false
 is_all Manager = false
 is_all (Guid guid) = false
 
--- as it is read where the file has no definition of it. One that says `ALL=limited` alone is read as if there were none
+-- as it is read if the file has no definition of it. One that says `ALL=limited` alone makes the same items, so it is taken for none.
+-- OpenSM then leaves the manager's port limited, and of that port nothing here is noted as OpenSM's reading
 abbrev pub is_built_in : List Item → Bool
 is_built_in (first ∷ second ∷ []) = is_all first.ports && not first.full
 is_built_in items = false

@@ -4,6 +4,7 @@ use Rattle.std.specs.List.{list_any}
 use Rattle.fabric_parts.specs.declared.cable.PortRef.{PortRef}
 use Rattle.netdiscover_file.specs.Discovery.{DiscoveryState}
 use Rattle.partition_file.specs.declared.partition.Partition.{Partition}
+use Rattle.partition_file.specs.Members.{no_file}
 use Rattle.pkeys_file.specs.declared.answer.Answer.{Answer}
 use Rattle.text_parts.specs.Parts.{guid_text}
 use Rattle.topo_file.specs.declared.node.Node.{Node}
@@ -13,8 +14,8 @@ use Rattle.keys_audit.specs.declared.differences.DifferenceKind.{DifferenceKind}
 use Rattle.keys_audit.specs.declared.differences.DifferenceKind.TheVariants.{Extra, Missing, Membership, Full, Off, Half, Lacks, More, UnreadSwitchPort}
 use Rattle.keys_audit.specs.declared.port.AuditedPort.{AuditedPort}
 use Rattle.keys_audit.specs.Cuts.{cut_lines}
-use Rattle.keys_audit.specs.Diagnosis.{diagnosis, is_another}
-use Rattle.keys_audit.specs.Differences.{are_clean, facing_differences, follows_file, is_of_key, none_differs, port_differences}
+use Rattle.keys_audit.specs.Diagnosis.{diagnosis, is_another, open_line}
+use Rattle.keys_audit.specs.Differences.{all_agree, are_clean, facing_differences, follows_file, is_of_key, port_differences}
 use Rattle.keys_audit.specs.Gathered.{ports_of_files}
 use Rattle.keys_audit.specs.Names.{key_word, port_text}
 use Rattle.keys_audit.specs.Standing.{pair_changes, strays}
@@ -135,6 +136,9 @@ verdict_line true agrees = codes "verdict: the tables follow the file\n"
 verdict_line false true = codes "verdict: not all tables were read; those that were follow the file\n"
 verdict_line false false = codes "verdict: the tables do not follow the file\n"
 
+abbrev pub verdict : List AuditedPort → List ℕ
+verdict ports = verdict_line (are_clean ports) (all_agree ports)
+
 -- ---- switch ports; where none drops anything, one line says so
 abbrev pub are_off : (faced off : ℕ) → Bool
 are_off faced off = not (faced == 0) && (off == faced)
@@ -164,7 +168,7 @@ counts_of ports keys switches = ports_line ports ++ keys_line keys ++ switch_por
 unfoldable pub text_by : List Node → (all : Bool) → List AuditedPort → List Partition → List Difference → List Difference → List ℕ
 text_by nodes all ports partitions keys switches =
     first_lines nodes all ports keys ++ later_lines nodes ports partitions switches ++ counts_of ports keys switches
-    ++ verdict_line (are_clean ports) (none_differs keys switches)
+    ++ verdict ports
 
 -- over any ports; `all` asks for each pair of end ports
 unfoldable pub audit_of : List Node → (all : Bool) → List AuditedPort → List Partition → KeysAuditState
@@ -177,3 +181,8 @@ audit_of nodes all ports partitions = record {
 abbrev pub keys_audit : TopologyState → DiscoveryState → List Answer → List Partition → (all : Bool) → KeysAuditState
 keys_audit plan discovery answers partitions all =
     audit_of plan.nodes all (ports_of_files plan discovery answers partitions) partitions
+
+-- of the files, if the partition file is refused: whether every port that was read has 0xffff alone. Their tables do not depend on
+-- the partitions
+abbrev pub audit_without_partitions : TopologyState → DiscoveryState → List Answer → List ℕ
+audit_without_partitions plan discovery answers = open_line (ports_of_files plan discovery answers no_file)

@@ -1,12 +1,21 @@
--- Wrong rules for the status, and the law that each breaks.
-use Rattle.std.specs.Prelude.{ℕ, Bool, true, false, not, ◌&&◌, ◌||◌, List, Option, Some, None, is_none}
+-- Wrong rules for the status, the pairs and the last line, and the law that each breaks.
+use Rattle.std.specs.Prelude.{ℕ, Bool, true, false, not, ◌&&◌, ◌||◌, List, map, Option, Some, None, is_none}
+use Rattle.std.specs.List.{list_all}
+use Rattle.pair_changes.specs.declared.membership.Membership.{Membership}
+use Rattle.pair_changes.specs.declared.membership.Membership.TheVariants.{Outside, Limited, Full}
+use Rattle.pair_changes.specs.declared.pairs.Member.{Member}
+use Rattle.pair_changes.specs.declared.pairs.Pair.{Pair}
+use Rattle.pair_changes.specs.Pairs.{new_pairs}
+use Rattle.pair_changes.specs.WrongRules.{talking_pairs}
 use Rattle.keys_audit.specs.declared.port.AuditedPort.{AuditedPort}
 use Rattle.keys_audit.specs.declared.port.Enforcement.{Enforcement}
 use Rattle.keys_audit.specs.declared.port.FacingPort.{FacingPort}
 use Rattle.keys_audit.specs.declared.port.HeldKeys.{HeldKeys}
-use Rattle.keys_audit.specs.Differences.{enforces_both, facing_fits, fits_if_enforced, follows_file, is_clean, tables_fit}
+use Rattle.keys_audit.specs.Differences.{all_agree, enforces_both, facing_fits, fits_if_enforced, follows_file, is_clean, keys_follow_if_read, tables_fit}
 use Rattle.keys_audit.specs.Held.{all_held, have_same_bases}
-use Rattle.keys_audit.specs.Laws.{PassesTheRight}
+use Rattle.keys_audit.specs.Laws.{HasThoseAlone, IsTrueVerdict, PassesTheRight, talk_by_file, talk_by_tables}
+use Rattle.keys_audit.specs.Standing.{standing, turned}
+use Rattle.keys_audit.specs.Text.{verdict_line}
 
 -- ---- membership is ignored: bases are compared
 abbrev pub same_bases_stand : Option HeldKeys → List ℕ → Bool
@@ -66,3 +75,50 @@ OneDirectionCounts = PassesTheRight with_both → ⊥
 -- ---- switch ports are not looked at
 abbrev pub OwnTablesAreNotEnough : Type 0
 OwnTablesAreNotEnough = PassesTheRight follows_file → ⊥
+
+-- ---- two limited members may talk
+abbrev pub as_full : Membership → Membership
+as_full Outside = Outside
+as_full Limited = Full
+as_full Full = Full
+
+abbrev pub full_member : Member → Member
+full_member member = record { port = member.port; after = as_full member.after; before = as_full member.before }
+
+abbrev pub members_by_tables : ℕ → List AuditedPort → List Pair
+members_by_tables base ports = new_pairs (map (λ port. full_member (standing base port)) ports)
+
+abbrev pub members_by_file : ℕ → List AuditedPort → List Pair
+members_by_file base ports = new_pairs (map (λ port. full_member (turned base port)) ports)
+
+pub record LimitedMembersDoNotTalk : Type 0 where
+  pub tables : HasThoseAlone members_by_tables talk_by_tables talk_by_file → ⊥
+  pub file : HasThoseAlone members_by_file talk_by_file talk_by_tables → ⊥
+
+-- ---- who may talk by the tables is listed, whatever the file says; and the other way round
+abbrev pub all_by_tables : ℕ → List AuditedPort → List Pair
+all_by_tables base ports = talking_pairs (map (standing base) ports)
+
+abbrev pub all_by_file : ℕ → List AuditedPort → List Pair
+all_by_file base ports = talking_pairs (map (turned base) ports)
+
+pub record BothMayTalk : Type 0 where
+  pub tables : HasThoseAlone all_by_tables talk_by_tables talk_by_file → ⊥
+  pub file : HasThoseAlone all_by_file talk_by_file talk_by_tables → ⊥
+
+-- ---- what was not read follows the file
+abbrev pub verdict_of_read : List AuditedPort → List ℕ
+verdict_of_read ports = verdict_line (all_agree ports) (all_agree ports)
+
+abbrev pub UnreadTablesDoNotFollow : Type 0
+UnreadTablesDoNotFollow = IsTrueVerdict verdict_of_read → ⊥
+
+-- ---- a switch port that drops packets is left out of the last line
+abbrev pub end_agrees : AuditedPort → Bool
+end_agrees port = keys_follow_if_read port.table port.file
+
+abbrev pub verdict_of_ends : List AuditedPort → List ℕ
+verdict_of_ends ports = verdict_line (list_all follows_file ports) (list_all end_agrees ports)
+
+abbrev pub SwitchPortsCount : Type 0
+SwitchPortsCount = IsTrueVerdict verdict_of_ends → ⊥

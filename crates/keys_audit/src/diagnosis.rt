@@ -2,8 +2,8 @@
 
 ghost use Rattle.std.specs.Prelude.{◌≡◌, ◌++◌, ◌==◌, not, OnOk};
 ghost use Rattle.std.specs.List.{flat_map, list_all, list_any};
-ghost use Rattle.keys_audit.specs.Diagnosis.{all_as_opensm, cause_lines, causes_if, diagnosis, fell_open, full_line, has_default_alone, has_default_port, is_as_opensm, is_cut_off};
-ghost use Rattle.keys_audit.specs.Diagnosis.{is_another, is_default, is_limited, is_read, limited_line, limited_words, line_if, manager_line, manager_words, other_causes};
+ghost use Rattle.keys_audit.specs.Diagnosis.{all_as_opensm, another_line, cause_lines, causes_if, diagnosis, fell_open, full_line, has_default_alone, has_default_port, is_as_opensm, is_cut_off};
+ghost use Rattle.keys_audit.specs.Diagnosis.{is_another, is_default, is_limited, is_read, limited_line, limited_words, line_if, manager_line, manager_words, open_line, opensms_line, other_causes};
 
 use crate::held::have_same_keys;
 use crate::parts::push_port;
@@ -65,6 +65,18 @@ fn fell_open(ports: &[AuditedPort]) -> bool
     ensures { result ≡ fell_open ports.now }
 {
     some_read(ports) && all_default(ports)
+}
+
+/// Adds a line if every port that was read has the full key of the default partition alone.
+#[tactic(auto, unfolding(crate::specs::Diagnosis::open_line))]
+pub(crate) fn push_open_line(text: &mut Vec<u8>, ports: &[AuditedPort]) -> Result<(), AllocError>
+    ensures { OnOk result (text.new.items ≡ text.old.items ++ open_line ports.now) }
+{
+    push_line_if(
+        text,
+        fell_open(ports),
+        b"every port that was read has 0xffff alone: OpenSM dropped its file, or had none",
+    )
 }
 
 fn is_as_opensm(port: &AuditedPort) -> bool
@@ -146,6 +158,28 @@ fn push_managers(
     Ok(())
 }
 
+#[tactic(auto, unfolding(crate::specs::Diagnosis::opensms_line))]
+fn push_opensms_line(text: &mut Vec<u8>, ports: &[AuditedPort]) -> Result<(), AllocError>
+    ensures { OnOk result (text.new.items ≡ text.old.items ++ opensms_line ports.now) }
+{
+    push_line_if(
+        text,
+        all_as_opensm(ports),
+        b"OpenSM reads this file so: if several words name a port, it takes the last",
+    )
+}
+
+#[tactic(auto, unfolding(crate::specs::Diagnosis::another_line))]
+fn push_another_line(text: &mut Vec<u8>, others: bool) -> Result<(), AllocError>
+    ensures { OnOk result (text.new.items ≡ text.old.items ++ another_line others) }
+{
+    push_line_if(
+        text,
+        others,
+        b"the tables follow another file, or another program wrote them: see stray and absent",
+    )
+}
+
 #[tactic(auto, unfolding(crate::specs::Diagnosis::other_causes))]
 fn push_other_causes(
     text: &mut Vec<u8>,
@@ -154,16 +188,8 @@ fn push_other_causes(
 ) -> Result<(), AllocError>
     ensures { OnOk result (text.new.items ≡ text.old.items ++ other_causes ports.now others) }
 {
-    push_line_if(
-        text,
-        all_as_opensm(ports),
-        b"the tables are what OpenSM makes of this file: the last word that names a port counts",
-    )?;
-    push_line_if(
-        text,
-        others,
-        b"the tables follow another file, or another program wrote them: see stray and absent",
-    )
+    push_opensms_line(text, ports)?;
+    push_another_line(text, others)
 }
 
 #[tactic(auto, unfolding(crate::specs::Diagnosis::cause_lines))]
@@ -171,11 +197,7 @@ fn push_causes(text: &mut Vec<u8>, ports: &[AuditedPort], others: bool) -> Resul
     ensures { OnOk result (text.new.items ≡ text.old.items ++ cause_lines ports.now others) }
 {
     if fell_open(ports) {
-        return push_line_if(
-            text,
-            true,
-            b"every port that was read has 0xffff alone: OpenSM dropped its file, or had none",
-        );
+        return push_open_line(text, ports);
     }
     push_other_causes(text, ports, others)
 }

@@ -3,7 +3,8 @@
 ghost use Rattle.std.specs.Prelude.{◌≡◌, ◌++◌, Some, map, IfOk, OnOk};
 ghost use Rattle.pkey_rules.specs.PKey.{base_of};
 ghost use Rattle.std.specs.List.{flat_map, list_any};
-ghost use Rattle.keys_audit.specs.Differences.{are_clean, bases_by, bases_with, differences_by, differences_with, each, enforced_by, enforces, enforces_both, is_by_opensm, is_of_key, none_differs};
+ghost use Rattle.keys_audit.specs.Differences.{agrees, all_agree, facing_fits_if_read, fits_if_read, keys_follow_if_read, tables_fit_if_read};
+ghost use Rattle.keys_audit.specs.Differences.{are_clean, bases_by, bases_with, differences_by, differences_with, each, enforced_by, enforces, enforces_both, is_by_opensm, is_of_key};
 ghost use Rattle.keys_audit.specs.Differences.{facing_differences, facing_fits, fits_if_enforced, follows_file, is_clean, lacks_room, noted, noted_if, port_differences, tables_fit};
 
 use crate::held::{
@@ -348,13 +349,6 @@ fn is_clean(port: &AuditedPort) -> bool
     follows_file(port) && facing_fits(port)
 }
 
-/// Whether none of these differences, of end ports and of switch ports, is of a key or of a base.
-pub(crate) fn none_differs(keys: &[Difference], switches: &[Difference]) -> bool
-    ensures { result ≡ none_differs keys.now switches.now }
-{
-    !has_key(keys) && !has_key(switches)
-}
-
 /// Whether one of these differences is of a key or of a base.
 pub(crate) fn has_key(list: &[Difference]) -> bool
     ensures { result ≡ list_any is_of_key list.now }
@@ -367,4 +361,55 @@ pub(crate) fn are_clean(ports: &[AuditedPort]) -> bool
     ensures { result ≡ are_clean ports.now }
 {
     ports.iter().all(|port| is_clean(port))
+}
+
+fn keys_follow_if_read(table: &Option<HeldKeys>, file: &[u16]) -> bool
+    ensures { result ≡ keys_follow_if_read table.now file.now }
+{
+    match table {
+        Some(table) => have_same_keys(table.keys.as_slice(), file),
+        None => true,
+    }
+}
+
+fn tables_fit_if_read(table: &Option<HeldKeys>, adapter: &Option<HeldKeys>) -> bool
+    ensures { result ≡ tables_fit_if_read table.now adapter.now }
+{
+    match (table, adapter) {
+        (Some(table), Some(adapter)) => {
+            have_same_bases(table.keys.as_slice(), adapter.keys.as_slice())
+        }
+        _ => true,
+    }
+}
+
+fn fits_if_read(facing: &FacingPort, adapter: &Option<HeldKeys>) -> bool
+    ensures { result ≡ fits_if_read facing.now.enforcement facing.now.table adapter.now }
+{
+    match facing.enforcement {
+        Some(enforcement) => !enforcement.enforces() || tables_fit_if_read(&facing.table, adapter),
+        None => true,
+    }
+}
+
+fn facing_fits_if_read(port: &AuditedPort) -> bool
+    ensures { result ≡ facing_fits_if_read port.now.facing port.now.table }
+{
+    match &port.facing {
+        Some(facing) => fits_if_read(facing, &port.table),
+        None => true,
+    }
+}
+
+fn agrees(port: &AuditedPort) -> bool
+    ensures { result ≡ agrees port.now }
+{
+    keys_follow_if_read(&port.table, port.file.as_slice()) && facing_fits_if_read(port)
+}
+
+/// Whether all that was read is as the file, whatever was not read.
+pub(crate) fn all_agree(ports: &[AuditedPort]) -> bool
+    ensures { result ≡ all_agree ports.now }
+{
+    ports.iter().all(|port| agrees(port))
 }

@@ -1,7 +1,7 @@
 //! What the status means. The functions do nothing: their contracts are the laws.
 
 ghost use Rattle.keys_audit.specs.Differences.{is_clean};
-ghost use Rattle.keys_audit.specs.Laws.{PairsOfTablesAreTheirs, PairsOfTheFileAreIts, PassesTheRight, TablesThatFollowAreClean, TheStatusIsThatOfEachPort};
+ghost use Rattle.keys_audit.specs.Laws.{PairsOfTablesAreTheirs, PairsOfTheFileAreIts, PassesTheRight, TablesThatFollowAreClean, TheStatusIsThatOfEachPort, TheVerdictIsTrue};
 
 /// A port passes if and only if it was read and has exactly the keys of the file, and the switch port that faces it was read and,
 /// if it enforces, has exactly its bases.
@@ -14,16 +14,22 @@ pub fn the_status_is_that_of_each_port()
     ensures { TheStatusIsThatOfEachPort }
 {}
 
-/// A pair is one of those by the tables alone if and only if both tables were read and have keys that match, and the keys of the
-/// file do not.
+/// The pairs by the tables alone are those of which both tables were read and have keys that match, and the keys of the file do
+/// not: of each two such ports, one behind the other, there is one pair, and no other.
 pub fn pairs_of_tables_are_theirs()
     ensures { PairsOfTablesAreTheirs }
 {}
 
-/// A pair is one of those by the file alone if and only if both tables were read and the file gives keys that match, and the keys
-/// of the tables do not.
+/// The pairs by the file alone are those of which both tables were read and the file gives keys that match, and the keys of the
+/// tables do not: of each two such ports, one behind the other, there is one pair, and no other.
 pub fn pairs_of_the_file_are_its()
     ensures { PairsOfTheFileAreIts }
+{}
+
+/// The text ends with a verdict, and each verdict is printed if and only if it is true: the tables follow the file if every port
+/// is right; not all were read, and all that was read is as the file; or something that was read differs.
+pub fn the_verdict_is_true()
+    ensures { TheVerdictIsTrue }
 {}
 
 /// Tables that hold the keys of the file follow it, wherever empty places stand before or behind them.

@@ -2,17 +2,17 @@
 
 ghost use Rattle.std.specs.Prelude.{◌≡◌, ◌++◌, [], ◌==◌, if◌then◌else◌, count_by, not, IfOk, OnOk};
 ghost use Rattle.std.specs.List.{flat_map};
-ghost use Rattle.keys_audit.specs.Text.{audit_of, bases_line, code_of_kind, count_of, counts_of, difference_line, is_as_file, is_faced, is_moved, is_of, is_unread};
+ghost use Rattle.keys_audit.specs.Text.{audit_of, audit_without_partitions, bases_line, code_of_kind, count_of, counts_of, difference_line, is_as_file, is_faced, is_moved, is_of, is_unread};
 ghost use Rattle.keys_audit.specs.Names.{key_word};
 ghost use Rattle.keys_audit.specs.Text.{first_lines, half_part, keys_audit, keys_line, kind_word, later_lines, moved_lines, off_part, opensm_words, ports_line, read_part};
 ghost use Rattle.keys_audit.specs.Text.{switch_lines, switch_ports_line, unread_lines, unread_part, verdict_line};
 ghost use Rattle.keys_audit.specs.declared.differences.DifferenceKind.TheVariants.{Full};
 
 use crate::cuts::push_cuts;
-use crate::diagnosis::{is_another, push_diagnosis};
+use crate::diagnosis::{is_another, push_diagnosis, push_open_line};
 use crate::differences::{
-    Difference, DifferenceKind, are_clean, differences, facing_differences, follows_file, has_key,
-    none_differs,
+    Difference, DifferenceKind, all_agree, are_clean, differences, facing_differences,
+    follows_file, has_key,
 };
 use crate::gathering::ports_of_files;
 use crate::outcome::KeysAudit;
@@ -21,7 +21,7 @@ use crate::port::AuditedPort;
 use crate::standing::{Listing, push_pair_changes, rising_bases, strays};
 use crate::strangers::push_strangers;
 use netdiscover_file::Discovery;
-use partition_file::Partitions;
+use partition_file::{Partitions, no_file};
 use pkeys_file::Answers;
 use std::alloc::{AllocError, Global};
 use text_parts::{push_decimal, push_guid};
@@ -399,7 +399,7 @@ fn audit_of(
     push_first_lines(alloc, &mut text, listing, &keys)?;
     push_later_lines(alloc, &mut text, listing, partitions, &switches)?;
     push_counts(&mut text, ports, &keys, &switches)?;
-    text.extend_from_slice(verdict_line(is_clean, none_differs(&keys, &switches)))?;
+    text.extend_from_slice(verdict_line(is_clean, all_agree(ports)))?;
     Ok(KeysAudit { text, is_clean })
 }
 
@@ -428,4 +428,21 @@ pub fn audit_keys(
         all,
     };
     audit_of(alloc, listing, partitions)
+}
+
+/// What can be said of the tables if the partition file is refused: a line if every port that was read has 0xffff alone, else
+/// nothing. OpenSM sets such tables if it drops its file because of an error. It can only run out of memory.
+pub fn audit_without_partitions(
+    alloc: Global,
+    plan: &LargeTopology,
+    discovery: &Discovery,
+    answers: &Answers,
+) -> Result<Vec<u8>, AllocError>
+    ensures { IfOk result (λ text. text.items ≡ audit_without_partitions plan.now discovery.now answers.now) }
+{
+    let partitions = no_file(alloc)?;
+    let ports = ports_of_files(alloc, plan, discovery, answers, &partitions)?;
+    let mut text = Vec::new(alloc);
+    push_open_line(&mut text, &ports)?;
+    Ok(text)
 }

@@ -1,7 +1,8 @@
-//! Wrong rules for the status, each refused by the law of the right ports. The functions do nothing: each contract says that
+//! Wrong rules for the status, the pairs and the last line, each refused by a law. The functions do nothing: each contract says that
 //! with this rule the law is false.
 
 ghost use Rattle.keys_audit.specs.WrongRules.{BasesAreNotEnough, MissingKeysCount, OneDirectionCounts, OwnTablesAreNotEnough, UnreadPortsDoNotPass, UnreadSwitchPortsDoNotPass};
+ghost use Rattle.keys_audit.specs.WrongRules.{BothMayTalk, LimitedMembersDoNotTalk, SwitchPortsCount, UnreadTablesDoNotFollow};
 
 /// Membership is ignored.
 pub fn bases_are_not_enough()
@@ -31,4 +32,24 @@ pub fn one_direction_counts()
 /// Switch ports are ignored.
 pub fn own_tables_are_not_enough()
     ensures { OwnTablesAreNotEnough }
+{}
+
+/// Two limited members may talk.
+pub fn limited_members_do_not_talk()
+    ensures { LimitedMembersDoNotTalk }
+{}
+
+/// Pairs that may talk by the tables and by the file are listed.
+pub fn both_may_talk()
+    ensures { BothMayTalk }
+{}
+
+/// The last line takes what was not read for what follows the file.
+pub fn unread_tables_do_not_follow()
+    ensures { UnreadTablesDoNotFollow }
+{}
+
+/// The last line leaves out switch ports that drop packets.
+pub fn switch_ports_count()
+    ensures { SwitchPortsCount }
 {}

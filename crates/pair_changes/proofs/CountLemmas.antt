@@ -3,7 +3,6 @@ use Rattle.std.proofs.Common.{◌≡◌, ℕ, zero, suc, ◌+◌, ◌-◌, ◌*�
 use Rattle.std.specs.List.{flat_map}
 use Rattle.std.proofs.lemmas.Bool.{cases_Bool, false≢true}
 use Rattle.std.proofs.lemmas.List.{length-append}
-use Rattle.std.proofs.lemmas.List.Sums.{sum_by-cons}
 use Rattle.std.proofs.lemmas.Nat.{div-mul-add}
 use Rattle.port_shares.specs.Pairs.{pair_count}
 use Rattle.port_shares.proofs.SumLemmas.{full_more, limited_more, nothing_added, one_if, picked, twice_all}
@@ -12,15 +11,9 @@ use Rattle.pair_changes.specs.declared.pairs.Pair.{Pair}
 use Rattle.pair_changes.specs.Counts.{is_full_in_any, is_full_in_both_before, is_full_in_both_now, is_full_now, is_in_both, is_now, kept_count}
 use Rattle.pair_changes.specs.Membership.{is_full_member, is_member, may_talk}
 use Rattle.pair_changes.specs.Pairs.{gains, new_pairs, pair_if}
+use Rattle.pair_changes.proofs.TwoLemmas.{count_more, count_pairs}
 
--- ---- pairs under a relation: each with each behind it
-abbrev pub count_pairs : {X : Type 0} → (X → X → Bool) → List X → ℕ
-count_pairs r [] = 0
-count_pairs r (x ∷ xs) = count_by (r x) xs + count_pairs r xs
-
-count_more : {X : Type 0} (p : X → Bool) (x : X) (xs : List X) → count_by p (x ∷ xs) ≡ one_if (p x) + count_by p xs
-count_more p x xs = sum_by-cons (λ y. one_if (p y)) x xs
-
+-- ---- counts that are nothing
 count_none : {X : Type 0} (xs : List X) → count_by (λ x. false) xs ≡ 0
 count_none [] = refl
 count_none (x ∷ xs) = count_more (λ y. false) x xs ∙ nothing_added (count_by (λ y. false) xs) ∙ count_none xs

@@ -1,20 +1,20 @@
--- What the pairs say of P_Keys.
-use Rattle.std.proofs.Common.{◌≡◌, ℕ, zero, suc, ◌<◌, ◌+◌, nat_le, Bool, true, false, ◌==◌, ◌&&◌, ◌||◌, if◌then◌else◌, List, [], ◌∷◌, ◌++◌, Option, Some, None, filter, slice_get, refl, sym, ap, ap₂, ◌∙◌, inl, inr, arith}
-use Rattle.std.specs.List.{flat_map, list_any}
-use Rattle.std.proofs.lemmas.Bool.{and_parts, cases_Bool, false≢true, leb-true, or_cases}
+-- What the pairs say of P_Keys, and which are listed.
+use Rattle.std.proofs.Common.{◌≡◌, ℕ, ◌+◌, nat_le, Bool, true, false, not, ◌==◌, ◌&&◌, if◌then◌else◌, List, [], ◌∷◌, ◌++◌, count_by, filter, refl, sym, ap, ap₂, ◌∙◌, inl, inr, arith}
+use Rattle.std.specs.List.{flat_map}
+use Rattle.std.proofs.lemmas.Bool.{and_parts, cases_Bool, false≢true, leb-true}
 use Rattle.std.proofs.lemmas.Bool.Decides.{nat_tests}
-use Rattle.std.proofs.lemmas.List.Folds.{list_any-append}
-use Rattle.std.proofs.lemmas.Option.{same_Some}
+use Rattle.std.proofs.lemmas.List.Sums.{sum_by-append}
 use Rattle.pkey_rules.specs.KeyTable.{has_base}
-use Rattle.port_shares.proofs.SumLemmas.{full_is_member, talk_by}
+use Rattle.port_shares.proofs.SumLemmas.{full_is_member, one_if, talk_by}
 use Rattle.pair_changes.specs.declared.membership.Membership.{Membership}
 use Rattle.pair_changes.specs.declared.membership.Membership.TheVariants.{Outside, Limited, Full}
 use Rattle.pair_changes.specs.declared.pairs.Member.{Member}
 use Rattle.pair_changes.specs.declared.pairs.Pair.{Pair}
-use Rattle.pair_changes.specs.Counts.{is_now}
-use Rattle.pair_changes.specs.Laws.{Gained, PairsAreListed, TalkingIsMatching}
+use Rattle.pair_changes.specs.Counts.{are_alike, changed_behind, is_changed, is_now}
+use Rattle.pair_changes.specs.Laws.{PairsAreListed, TalkingIsMatching, gain_and_pass}
 use Rattle.pair_changes.specs.Membership.{has_full, is_full_member, is_member, may_talk, membership_of}
 use Rattle.pair_changes.specs.Pairs.{gains, new_pairs, pair_if}
+use Rattle.pair_changes.proofs.TwoLemmas.{count_more, count_pairs, two_places}
 
 -- ---- talking is matching
 member_by : (base : ℕ) (keys : List ℕ) → is_member (membership_of base keys) ≡ has_base base keys
@@ -41,83 +41,47 @@ talking_is_matching base ps qs is =
     let some : (base == 0) ≡ false = grind (arith, nat_tests, low) in
     rw (member_by base ps, member_by base qs, full_by base ps, full_by base qs) (sym (talk_by base ps qs some))
 
--- ---- pairs are listed
-pair_any : (test : Pair → Bool) (p q : Member) → list_any test (pair_if p q) ≡ (gains p q && test (record { first = p.port; second = q.port }))
-pair_any test p q = by (gains p q)
-  where
-    or_nothing : (a : Bool) → (a || false) ≡ a
-    or_nothing true = refl
-    or_nothing false = refl
+-- ---- pairs are listed, each once
+module _ (test : Pair → Bool) where
+  one_passes : (gained : Bool) (pair : Pair) → count_by test (if gained then pair ∷ [] else []) ≡ one_if (gained && test pair)
+  one_passes true pair =
+      let more = count_more test pair [] in
+      let none : count_by test [] ≡ 0 = refl in
+      omega (arith, more, none)
+  one_passes false pair = refl
 
-    by : (b : Bool) → list_any test (if b then record { first = p.port; second = q.port } ∷ [] else []) ≡ (b && test (record { first = p.port; second = q.port }))
-    by true = or_nothing (test (record { first = p.port; second = q.port }))
-    by false = refl
+  row_passes : (p : Member) (qs : List Member) → count_by test (flat_map (pair_if p) qs) ≡ count_by (gain_and_pass test p) qs
+  row_passes p [] = refl
+  row_passes p (q ∷ qs) =
+      sum_by-append (λ pair. one_if (test pair)) (pair_if p q) (flat_map (pair_if p) qs)
+      ∙ ap₂ (λ (m n : ℕ). m + n) (one_passes (gains p q) (record { first = p.port; second = q.port })) (row_passes p qs)
+      ∙ sym (count_more (gain_and_pass test p) q qs)
 
--- a member of the rest that gains with this one
-record GainedWith (p : Member) (members : List Member) (test : Pair → Bool) : Type 0 where
-  other : ℕ
-  q : Member
-  second : slice_get members other ≡ Some q
-  gained : gains p q ≡ true
-  passes : test (record { first = p.port; second = q.port }) ≡ true
-
-row_means : (test : Pair → Bool) (p : Member) (members : List Member) → list_any test (flat_map (pair_if p) members) ≡ true → GainedWith p members test
-row_means test p [] is = absurd (false≢true is)
-row_means test p (q ∷ members) is =
-    elim (or_cases (list_any test (pair_if p q)) (list_any test (flat_map (pair_if p) members)) (sym (list_any-append test (pair_if p q) (flat_map (pair_if p) members)) ∙ is)) [
-      | inl here ↦
-          let both = and_parts (gains p q) (test (record { first = p.port; second = q.port })) (sym (pair_any test p q) ∙ here) in
-          record { other = 0; q = q; second = refl; gained = both.0; passes = both.1 }
-      | inr later ↦
-          let found = row_means test p members later in
-          record { other = suc found.other; q = found.q; second = found.second; gained = found.gained; passes = found.passes }
-    ]
-
-or_true : (a : Bool) → (a || true) ≡ true
-or_true true = refl
-or_true false = refl
-
-means_row : (test : Pair → Bool) (p q : Member) (members : List Member) (other : ℕ) → slice_get members other ≡ Some q
-    → gains p q ≡ true → test (record { first = p.port; second = q.port }) ≡ true → list_any test (flat_map (pair_if p) members) ≡ true
-means_row test p q [] other there gained passes = absurd (cc)
-means_row test p q (first ∷ members) zero there gained passes =
-    list_any-append test (pair_if p first) (flat_map (pair_if p) members)
-    ∙ ap (λ one. list_any test (pair_if p one) || list_any test (flat_map (pair_if p) members)) (same_Some first q there)
-    ∙ rw (pair_any test p q, gained, passes) refl
-means_row test p q (first ∷ members) (suc other) there gained passes =
-    list_any-append test (pair_if p first) (flat_map (pair_if p) members)
-    ∙ rw (means_row test p q members other there gained passes) (or_true (list_any test (pair_if p first)))
-
-pairs_mean : (members : List Member) (test : Pair → Bool) → list_any test (new_pairs members) ≡ true → Gained members test
-pairs_mean [] test is = absurd (false≢true is)
-pairs_mean (p ∷ members) test is =
-    elim (or_cases (list_any test (flat_map (pair_if p) members)) (list_any test (new_pairs members)) (sym (list_any-append test (flat_map (pair_if p) members) (new_pairs members)) ∙ is)) [
-      | inl here ↦
-          let found = row_means test p members here in
-          record { place = 0; other = suc found.other; behind = omega arith; p = p; q = found.q; first = refl; second = found.second; gained = found.gained; passes = found.passes }
-      | inr later ↦
-          let found = pairs_mean members test later in
-          record { place = suc found.place; other = suc found.other; behind = omega (arith, found.behind); p = found.p; q = found.q; first = found.first; second = found.second; gained = found.gained; passes = found.passes }
-    ]
-
-means_pairs : (members : List Member) (test : Pair → Bool) (place other : ℕ) (p q : Member) → place < other → slice_get members place ≡ Some p
-    → slice_get members other ≡ Some q → gains p q ≡ true → test (record { first = p.port; second = q.port }) ≡ true → list_any test (new_pairs members) ≡ true
-means_pairs [] test place other p q behind first second gained passes = absurd (cc)
-means_pairs (here ∷ members) test zero zero p q behind first second gained passes = absurd (omega (arith, behind))
-means_pairs (here ∷ members) test zero (suc other) p q behind first second gained passes =
-    list_any-append test (flat_map (pair_if here) members) (new_pairs members)
-    ∙ ap (λ one. list_any test (flat_map (pair_if one) members) || list_any test (new_pairs members)) (same_Some here p first)
-    ∙ rw (means_row test p q members other second gained passes) refl
-means_pairs (here ∷ members) test (suc place) zero p q behind first second gained passes = absurd (omega (arith, behind))
-means_pairs (here ∷ members) test (suc place) (suc other) p q behind first second gained passes =
-    list_any-append test (flat_map (pair_if here) members) (new_pairs members)
-    ∙ rw (means_pairs members test place other p q (omega (arith, behind)) first second gained passes) (or_true (list_any test (flat_map (pair_if here) members)))
+  all_pass : (members : List Member) → count_by test (new_pairs members) ≡ count_pairs (gain_and_pass test) members
+  all_pass [] = refl
+  all_pass (p ∷ members) =
+      sum_by-append (λ pair. one_if (test pair)) (flat_map (pair_if p) members) (new_pairs members)
+      ∙ ap₂ (λ (m n : ℕ). m + n) (row_passes p members) (all_pass members)
 
 pub pairs_are_listed : PairsAreListed
-pairs_are_listed members test = (
-  pairs_mean members test,
-  λ found. means_pairs members test found.place found.other found.p found.q found.behind found.first found.second found.gained found.passes,
-)
+pairs_are_listed members test = all_pass test members ∙ sym (two_places (gain_and_pass test) members)
+
+-- ---- members that are in no pair with this one may be left out
+kept_first : (f : Member → Bool) (q : Member) (qs : List Member) → f q ≡ true → filter f (q ∷ qs) ≡ q ∷ filter f qs
+kept_first f q qs is = rw is refl
+
+left_out : (f : Member → Bool) (q : Member) (qs : List Member) → f q ≡ false → filter f (q ∷ qs) ≡ filter f qs
+left_out f q qs is = rw is refl
+
+row_of_some : (f : Member → Bool) (p : Member) → ((q : Member) → f q ≡ false → pair_if p q ≡ [])
+    → (qs : List Member) → flat_map (pair_if p) (filter f qs) ≡ flat_map (pair_if p) qs
+row_of_some f p none [] = refl
+row_of_some f p none (q ∷ qs) = elim (cases_Bool (f q)) [
+  | inl stays ↦ ap (flat_map (pair_if p)) (kept_first f q qs stays) ∙ ap (λ rest. pair_if p q ++ rest) (row_of_some f p none qs)
+  | inr goes ↦
+      ap (flat_map (pair_if p)) (left_out f q qs goes) ∙ row_of_some f p none qs
+      ∙ sym (ap (λ made. made ++ flat_map (pair_if p) qs) (none q goes))
+]
 
 -- ---- who is no member now is in no pair
 and_false : (a : Bool) → (a && false) ≡ false
@@ -128,26 +92,52 @@ no_row : (p : Member) (qs : List Member) → is_now p ≡ false → flat_map (pa
 no_row p [] is = refl
 no_row p (q ∷ qs) is = rw is (no_row p qs is)
 
-kept_first : (q : Member) (qs : List Member) → is_now q ≡ true → filter is_now (q ∷ qs) ≡ q ∷ filter is_now qs
-kept_first q qs is = rw is refl
-
-left_out : (q : Member) (qs : List Member) → is_now q ≡ false → filter is_now (q ∷ qs) ≡ filter is_now qs
-left_out q qs is = rw is refl
-
 row_of_members : (p : Member) (qs : List Member) → flat_map (pair_if p) (filter is_now qs) ≡ flat_map (pair_if p) qs
-row_of_members p [] = refl
-row_of_members p (q ∷ qs) = elim (cases_Bool (is_now q)) [
-  | inl member ↦ ap (flat_map (pair_if p)) (kept_first q qs member) ∙ ap (λ rest. pair_if p q ++ rest) (row_of_members p qs)
-  | inr outside ↦
-      let none : pair_if p q ≡ [] = rw (outside, and_false (is_member p.after)) refl in
-      ap (flat_map (pair_if p)) (left_out q qs outside) ∙ row_of_members p qs ∙ sym (ap (λ made. made ++ flat_map (pair_if p) qs) none)
-]
+row_of_members p qs = row_of_some is_now p (λ q outside. rw (outside, and_false (is_member p.after)) refl) qs
 
 pub pairs_of_members : (members : List Member) → new_pairs (filter is_now members) ≡ new_pairs members
 pairs_of_members [] = refl
 pairs_of_members (p ∷ members) = elim (cases_Bool (is_now p)) [
   | inl member ↦
-      ap new_pairs (kept_first p members member) ∙ ap₂ (λ row rest. row ++ rest) (row_of_members p members) (pairs_of_members members)
+      ap new_pairs (kept_first is_now p members member) ∙ ap₂ (λ row rest. row ++ rest) (row_of_members p members) (pairs_of_members members)
   | inr outside ↦
-      ap new_pairs (left_out p members outside) ∙ pairs_of_members members ∙ sym (ap (λ row. row ++ new_pairs members) (no_row p members outside))
+      ap new_pairs (left_out is_now p members outside) ∙ pairs_of_members members ∙ sym (ap (λ row. row ++ new_pairs members) (no_row p members outside))
+]
+
+-- ---- two members of whom neither changed are no pair
+are_same : (a b : Membership) → are_alike a b ≡ true → a ≡ b
+are_same Outside Outside is = refl
+are_same Outside Limited is = absurd (false≢true is)
+are_same Outside Full is = absurd (false≢true is)
+are_same Limited Outside is = absurd (false≢true is)
+are_same Limited Limited is = refl
+are_same Limited Full is = absurd (false≢true is)
+are_same Full Outside is = absurd (false≢true is)
+are_same Full Limited is = absurd (false≢true is)
+are_same Full Full is = refl
+
+stays_same : (p : Member) → is_changed p ≡ false → p.after ≡ p.before
+stays_same p is = are_same p.after p.before (turned (are_alike p.after p.before) is)
+  where
+    turned : (b : Bool) → not b ≡ false → b ≡ true
+    turned true is = refl
+    turned false is = absurd (false≢true (sym is))
+
+none_gained : (p q : Member) → is_changed p ≡ false → is_changed q ≡ false → pair_if p q ≡ []
+none_gained p q one other =
+    let same : may_talk p.after q.after ≡ may_talk p.before q.before = ap₂ may_talk (stays_same p one) (stays_same q other) in
+    let none : gains p q ≡ false = ap (λ talk. talk && not (may_talk p.before q.before)) same ∙ never (may_talk p.before q.before) in
+    rw none refl
+  where
+    never : (b : Bool) → (b && not b) ≡ false
+    never true = refl
+    never false = refl
+
+pub row_of_changed : (p : Member) (qs : List Member) → is_changed p ≡ false → flat_map (pair_if p) (filter is_changed qs) ≡ flat_map (pair_if p) qs
+row_of_changed p qs same = row_of_some is_changed p (λ q also. none_gained p q same also) qs
+
+pub changed_go_on : (p : Member) (members : List Member) → changed_behind p (filter is_changed (p ∷ members)) ≡ filter is_changed members
+changed_go_on p members = elim (cases_Bool (is_changed p)) [
+  | inl changed ↦ rw (kept_first is_changed p members changed, changed) refl
+  | inr same ↦ rw (left_out is_changed p members same, same) refl
 ]

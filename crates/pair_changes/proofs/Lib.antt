@@ -1,3 +1,4 @@
+pub mod TwoLemmas
 mod CountLemmas
 pub mod LawLemmas
-mod WrongLemmas
+pub mod WrongLemmas

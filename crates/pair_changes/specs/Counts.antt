@@ -1,9 +1,26 @@
--- Members counted. No definition of what is printed stands on this one.
-use Rattle.std.specs.Prelude.{ℕ, ◌+◌, ◌-◌, Bool, ◌&&◌, ◌||◌, List, count_by}
+-- Members counted and sorted out. No definition of what is printed stands on this one.
+use Rattle.std.specs.Prelude.{ℕ, ◌+◌, ◌-◌, Bool, true, false, not, ◌&&◌, ◌||◌, List, count_by, drop, if◌then◌else◌}
 use Rattle.port_shares.specs.Pairs.{pair_count}
+use Rattle.pair_changes.specs.declared.membership.Membership.{Membership}
+use Rattle.pair_changes.specs.declared.membership.Membership.TheVariants.{Outside, Limited, Full}
 use Rattle.pair_changes.specs.declared.pairs.Member.{Member}
 use Rattle.pair_changes.specs.Membership.{is_full_member, is_member}
 
+-- ---- two members of whom neither changed gain nothing
+abbrev pub are_alike : Membership → Membership → Bool
+are_alike Outside Outside = true
+are_alike Limited Limited = true
+are_alike Full Full = true
+are_alike _ _ = false
+
+abbrev pub is_changed : Member → Bool
+is_changed member = not (are_alike member.after member.before)
+
+-- the changed members behind this one, of those from it on
+abbrev pub changed_behind : Member → List Member → List Member
+changed_behind member changed = if is_changed member then drop 1 changed else changed
+
+-- ---- counts
 abbrev pub is_now : Member → Bool
 is_now member = is_member member.after
 

@@ -4,7 +4,9 @@ use Rattle.pair_changes.specs.declared.membership.Membership.{Membership}
 use Rattle.pair_changes.specs.declared.pairs.Member.{Member}
 use Rattle.pair_changes.specs.declared.pairs.Pair.{Pair}
 use Rattle.pair_changes.specs.Laws.{IsMatching, ListsTheGained}
+use Rattle.pair_changes.specs.Counts.{is_changed}
 use Rattle.pair_changes.specs.Membership.{is_member, may_talk, membership_of}
+use Rattle.pair_changes.specs.Pairs.{new_pairs, pair_if}
 
 -- ---- two limited members may talk
 abbrev pub members_talk : Membership → Membership → Bool
@@ -23,3 +25,39 @@ talking_pairs (p ∷ members) = flat_map (pair_now p) members ++ talking_pairs m
 
 abbrev pub WhatWasBeforeCounts : Type 0
 WhatWasBeforeCounts = ListsTheGained talking_pairs → ⊥
+
+-- ---- each pair is listed twice
+abbrev pub pairs_twice : List Member → List Pair
+pairs_twice members = flat_map (λ pair. pair ∷ pair ∷ []) (new_pairs members)
+
+abbrev pub PairsAreNotListedTwice : Type 0
+PairsAreNotListedTwice = ListsTheGained pairs_twice → ⊥
+
+-- ---- the same two ports are listed again in the other order
+abbrev pub turned : Pair → Pair
+turned pair = record { first = pair.second; second = pair.first }
+
+abbrev pub pairs_both_ways : List Member → List Pair
+pairs_both_ways members = flat_map (λ pair. pair ∷ turned pair ∷ []) (new_pairs members)
+
+abbrev pub TheReverseIsTheSamePair : Type 0
+TheReverseIsTheSamePair = ListsTheGained pairs_both_ways → ⊥
+
+-- ---- a port is listed with itself
+abbrev pub pairs_with_itself : List Member → List Pair
+pairs_with_itself [] = []
+pairs_with_itself (p ∷ members) = flat_map (pair_if p) (p ∷ members) ++ pairs_with_itself members
+
+abbrev pub NoPortIsItsOwnPair : Type 0
+NoPortIsItsOwnPair = ListsTheGained pairs_with_itself → ⊥
+
+-- ---- a port that is what it was before is listed with none of those behind it
+abbrev pub row_of_changed : Member → List Member → List Pair
+row_of_changed p members = if is_changed p then flat_map (pair_if p) members else []
+
+abbrev pub pairs_of_changed : List Member → List Pair
+pairs_of_changed [] = []
+pairs_of_changed (p ∷ members) = row_of_changed p members ++ pairs_of_changed members
+
+abbrev pub UnchangedPortsGainToo : Type 0
+UnchangedPortsGainToo = ListsTheGained pairs_of_changed → ⊥

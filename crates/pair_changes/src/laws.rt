@@ -7,7 +7,7 @@ pub fn talking_is_matching()
     ensures { TalkingIsMatching }
 {}
 
-/// The list has exactly the pairs of a port and one behind it that may talk now and might not before.
+/// Of each two ports, one behind the other, that may talk now and might not before the list has one pair, and no other.
 pub fn pairs_are_listed()
     ensures { PairsAreListed }
 {}

@@ -19,6 +19,7 @@ pub enum Membership {
 
 impl Membership {
     ghost use Rattle.std.specs.Prelude.{◌≡◌};
+    ghost use Rattle.pair_changes.specs.Counts.{are_alike};
     ghost use Rattle.pair_changes.specs.Membership.{is_full_member, is_member, may_talk};
 
     /// Whether it is a member.
@@ -39,6 +40,18 @@ impl Membership {
             Membership::Outside | Membership::Limited => false,
             Membership::Full => true,
         }
+    }
+
+    /// Whether it is the same as the other.
+    pub(crate) fn is_like(self, other: Membership) -> bool
+        ensures { result ≡ are_alike self other }
+    {
+        matches!(
+            (self, other),
+            (Membership::Outside, Membership::Outside)
+                | (Membership::Limited, Membership::Limited)
+                | (Membership::Full, Membership::Full)
+        )
     }
 
     /// Whether ports of these two memberships may talk.

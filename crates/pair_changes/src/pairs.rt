@@ -2,7 +2,7 @@
 
 ghost use Rattle.std.specs.Prelude.{◌≡◌, ◌++◌, filter, IfOk, OnOk};
 ghost use Rattle.std.specs.List.{flat_map};
-ghost use Rattle.pair_changes.specs.Counts.{is_now};
+ghost use Rattle.pair_changes.specs.Counts.{changed_behind, is_changed, is_now};
 ghost use Rattle.pair_changes.specs.Pairs.{gains, new_pairs, pair_if};
 
 use crate::counting::new_pair_count;
@@ -57,13 +57,65 @@ fn push_others(pairs: &mut Vec<Pair>, member: &Member, others: &[Member]) -> Res
     Ok(())
 }
 
-fn all_pairs(alloc: Global, members: &[Member]) -> Result<Vec<Pair>, AllocError>
+/// Whether it is another member now than before. Two members of whom neither changed gain nothing.
+fn is_changed(member: &Member) -> bool
+    ensures { result ≡ is_changed member.now }
+{
+    !member.after.is_like(member.before)
+}
+
+fn all_changed(alloc: Global, members: &[Member]) -> Result<Vec<Member>, AllocError>
+    ensures { IfOk result (λ found. found.items ≡ filter is_changed members.now) }
+{
+    members
+        .iter()
+        .copied()
+        .filter(|member| is_changed(member))
+        .collect(alloc)
+}
+
+/// The changed members behind this one, of the changed ones from it on.
+fn changed_behind<'a>(member: &Member, changed: &'a [Member]) -> &'a [Member]
+    ensures { result.now ≡ changed_behind member.now changed.now }
+{
+    if !is_changed(member) {
+        return changed;
+    }
+    match changed.split_first() {
+        Some((_, behind)) => behind,
+        None => changed,
+    }
+}
+
+/// Adds the pairs of a member with those behind it, of whom these have changed.
+#[tactic(auto, using(crate::proofs::LawLemmas::row_of_changed))]
+fn push_row(
+    pairs: &mut Vec<Pair>,
+    member: &Member,
+    others: &[Member],
+    changed: &[Member],
+) -> Result<(), AllocError>
+    requires changed { changed.now ≡ filter is_changed others.now }
+    ensures { OnOk result (pairs.new.items ≡ pairs.old.items ++ flat_map (pair_if member.now) others.now) }
+{
+    if is_changed(member) {
+        push_others(pairs, member, others)
+    } else {
+        push_others(pairs, member, changed)
+    }
+}
+
+#[tactic(auto, using(crate::proofs::LawLemmas::changed_go_on))]
+fn all_pairs(alloc: Global, members: &[Member], changed: &[Member]) -> Result<Vec<Pair>, AllocError>
+    requires changed { changed.now ≡ filter is_changed members.now }
     ensures { IfOk result (λ pairs. pairs.items ≡ new_pairs members.now) }
 {
     let mut pairs = Vec::new(alloc);
     let mut rest = members;
+    let mut changed_rest = changed;
     while let Some((member, others)) = rest.split_first() {
-        push_others(&mut pairs, member, others)?;
+        changed_rest = changed_behind(member, changed_rest);
+        push_row(&mut pairs, member, others, changed_rest)?;
         rest = others;
     }
     Ok(pairs)
@@ -80,7 +132,7 @@ fn current(alloc: Global, members: &[Member]) -> Result<Vec<Member>, AllocError>
 }
 
 /// The pairs that may talk now and might not before: each port with each behind it. It can only run out of memory. Time is
-/// quadratic in the ports that are members now, and linear if there is no such pair.
+/// linear in the ports if there is no such pair, and else linear in the ports times those that are another member now than before.
 pub fn new_pairs(alloc: Global, members: &[Member]) -> Result<Vec<Pair>, AllocError>
     ensures { IfOk result (λ pairs. pairs.items ≡ new_pairs members.now) }
 {
@@ -88,6 +140,7 @@ pub fn new_pairs(alloc: Global, members: &[Member]) -> Result<Vec<Pair>, AllocEr
         return Ok(Vec::new(alloc));
     }
     let found = current(alloc, members)?;
-    let pairs = all_pairs(alloc, &found)?;
+    let changed = all_changed(alloc, &found)?;
+    let pairs = all_pairs(alloc, &found, &changed)?;
     Ok(pairs)
 }
