@@ -36,12 +36,12 @@ fn a_cabled_adapter_port_at_power_up(rt: HostRuntime) {
     let info = port_info_at_power_up(NodeType::ChannelAdapter, 1, PortLink::Cabled);
     let mut written = [0xff; 64];
     info.write(&mut written);
-    assert_eq!(rt; written.as_slice(), bytes.as_slice());
+    assert!(rt; written == bytes);
     let read = PortInfo::read(&bytes);
-    assert_eq!(rt; read, info);
-    assert_eq!(rt; read.port_state(), Some(PortState::Initialize));
-    assert_eq!(rt; read.port_physical_state(), Some(PortPhysicalState::LinkUp));
-    assert_eq!(rt; read.neighbor_mtu(), Some(Mtu::Bytes2048));
+    assert!(rt; read == info);
+    assert!(rt; read.port_state() == Some(PortState::Initialize));
+    assert!(rt; read.port_physical_state() == Some(PortPhysicalState::LinkUp));
+    assert!(rt; read.neighbor_mtu() == Some(Mtu::Bytes2048));
 }
 
 /// SwitchInfo of a switch at power-up.
@@ -65,8 +65,8 @@ fn a_switch_at_power_up(rt: HostRuntime) {
     let info = switch_info_at_power_up();
     let mut written = [0xff; 64];
     info.write(&mut written);
-    assert_eq!(rt; written.as_slice(), bytes.as_slice());
-    assert_eq!(rt; SwitchInfo::read(&bytes), info);
+    assert!(rt; written == bytes);
+    assert!(rt; SwitchInfo::read(&bytes) == info);
 }
 
 /// NodeInfo, its type, number of ports, GUID, the GUID of the port and its number; and the name.
@@ -116,11 +116,11 @@ fn nodes_say_what_they_are(rt: HostRuntime) {
     for (bytes, (node_type, num_ports, node_guid, port_guid, port), _) in NODES {
         let attribute = filled(&bytes);
         let info = node_info_of(node_type, num_ports, node_guid, port_guid, port);
-        assert_eq!(rt; NodeInfo::read(&attribute), info);
-        assert_eq!(rt; info.node_type(), Some(node_type));
+        assert!(rt; NodeInfo::read(&attribute) == info);
+        assert!(rt; info.node_type() == Some(node_type));
         let mut written = [0xff; 64];
         info.write(&mut written);
-        assert_eq!(rt; written.as_slice(), attribute.as_slice());
+        assert!(rt; written == attribute);
     }
 }
 
@@ -129,10 +129,10 @@ fn nodes_have_names(rt: HostRuntime) {
     for (_, _, name) in NODES {
         let attribute = filled(&name);
         let description = NodeDescription::of_text(&name);
-        assert_eq!(rt; NodeDescription::read(&attribute), description);
+        assert!(rt; NodeDescription::read(&attribute) == description);
         let mut written = [0xff; 64];
         description.write(&mut written);
-        assert_eq!(rt; written.as_slice(), attribute.as_slice());
+        assert!(rt; written == attribute);
     }
 }
 
@@ -153,10 +153,10 @@ fn blocks_of_keys_and_masks_read_and_write(rt: HostRuntime) {
         words[0] = first;
         words[1] = second;
         let block = WordBlock::read(&attribute);
-        assert_eq!(rt; block, WordBlock { words });
+        assert!(rt; block == WordBlock { words });
         let mut written = [0xff; 64];
         block.write(&mut written);
-        assert_eq!(rt; written.as_slice(), attribute.as_slice());
+        assert!(rt; written == attribute);
     }
 }
 
@@ -171,25 +171,25 @@ const ENTRIES: [u8; 64] = [
 #[test]
 fn a_block_of_ports_reads_and_writes(rt: HostRuntime) {
     let block = PortBlock::read(&ENTRIES);
-    assert_eq!(rt; (block.ports[0], block.ports[1]), (0xff, 1));
-    assert_eq!(rt; (block.ports[2], block.ports[3]), (0, 3));
+    assert!(rt; (block.ports[0], block.ports[1]) == (0xff, 1));
+    assert!(rt; (block.ports[2], block.ports[3]) == (0, 3));
     let mut written = [0; 64];
     block.write(&mut written);
-    assert_eq!(rt; written.as_slice(), ENTRIES.as_slice());
+    assert!(rt; written == ENTRIES);
 }
 
 #[test]
 fn tables_are_cut_into_blocks(rt: HostRuntime) {
-    assert_eq!(rt; block_count::<64>(512), 8);
-    assert_eq!(rt; block_count::<32>(4096), 128);
-    assert_eq!(rt; block_count::<32>(33), 2);
-    assert_eq!(rt;
-        block_place::<64>(511),
-        BlockPlace {
-            block: 7,
-            place: 63
-        }
+    assert!(rt; block_count::<64>(512) == 8);
+    assert!(rt; block_count::<32>(4096) == 128);
+    assert!(rt; block_count::<32>(33) == 2);
+    assert!(rt;
+        block_place::<64>(511)
+            == BlockPlace {
+                block: 7,
+                place: 63
+            }
     );
     // the mask of LID 0xc020
-    assert_eq!(rt; block_place::<32>(0x20), BlockPlace { block: 1, place: 0 });
+    assert!(rt; block_place::<32>(0x20) == BlockPlace { block: 1, place: 0 });
 }

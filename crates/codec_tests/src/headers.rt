@@ -97,13 +97,13 @@ fn mad_headers_read_and_write(rt: HostRuntime) {
     for (bytes, header, method, status) in MAD_HEADERS {
         let mad = filled(&bytes);
         let read = Header::read(&mad);
-        assert_eq!(rt; read, header);
-        assert_eq!(rt; read.method(), method);
-        assert_eq!(rt; read.status(), status);
+        assert!(rt; read == header);
+        assert!(rt; read.method() == method);
+        assert!(rt; read.status() == status);
         assert!(rt; read.is_response());
         let mut written = [0; 256];
         read.write(&mut written);
-        assert_eq!(rt; written.as_slice(), mad.as_slice());
+        assert!(rt; written == mad);
     }
 }
 
@@ -152,18 +152,15 @@ fn rmpp_headers_read_and_write(rt: HostRuntime) {
             segment_number,
             payload_length_or_new_window_last: payload_length,
         };
-        assert_eq!(rt; read, header);
-        assert_eq!(rt; read.kind() == Some(RmppKind::Data), kind == 1);
-        assert_eq!(rt; read.kind() == Some(RmppKind::Abort), kind == 4);
+        assert!(rt; read == header);
+        assert!(rt; (read.kind() == Some(RmppKind::Data)) == (kind == 1));
+        assert!(rt; (read.kind() == Some(RmppKind::Abort)) == (kind == 4));
         assert!(rt; read.flags().contains(RmppFlags::ACTIVE));
-        assert_eq!(rt;
-            read.flags().contains(RmppFlags::FIRST),
-            segment_number == 1
-        );
-        assert_eq!(rt; read.flags().contains(RmppFlags::LAST), flags >= 4);
+        assert!(rt; read.flags().contains(RmppFlags::FIRST) == (segment_number == 1));
+        assert!(rt; read.flags().contains(RmppFlags::LAST) == (flags >= 4));
         let mut written = [0; 256];
         read.write(&mut written);
-        assert_eq!(rt; written.as_slice(), mad.as_slice());
+        assert!(rt; written == mad);
     }
 }
 
@@ -205,11 +202,11 @@ fn administration_fields_read_and_write(rt: HostRuntime) {
     for (bytes, attribute_offset, component_mask) in ADMINISTRATION_FIELDS {
         let mad = bytes_from(36, &bytes);
         let read = SaMad::read(&mad);
-        assert_eq!(rt; read.sm_key, 0);
-        assert_eq!(rt; read.data.as_slice(), [0; 200].as_slice());
-        assert_eq!(rt; read.attribute_offset, attribute_offset);
-        assert_eq!(rt; read.component_mask, component_mask);
-        assert_eq!(rt; written(&read).as_slice(), mad.as_slice());
+        assert!(rt; read.sm_key == 0);
+        assert!(rt; read.data == [0; 200]);
+        assert!(rt; read.attribute_offset == attribute_offset);
+        assert!(rt; read.component_mask == component_mask);
+        assert!(rt; written(&read) == mad);
     }
 }
 
@@ -254,10 +251,10 @@ fn refused_bytes() -> Mad {
 
 #[test]
 fn directed_route_fields_stand_in_their_bytes(rt: HostRuntime) {
-    assert_eq!(rt; Header::read(&refused_bytes()).status, 0x801c);
+    assert!(rt; Header::read(&refused_bytes()).status == 0x801c);
     let smp = DrSmp::read(&refused_bytes());
-    assert_eq!(rt; smp, refused_smp());
+    assert!(rt; smp == refused_smp());
     let mut written = [0; 256];
     smp.write(&mut written);
-    assert_eq!(rt; written.as_slice(), refused_bytes().as_slice());
+    assert!(rt; written == refused_bytes());
 }

@@ -146,11 +146,11 @@ fn a_table_is_cut_into_segments_of_200_bytes(rt: HostRuntime) -> Result<(), Fail
     let bytes = table();
     for (size, count, number, rmpp, (first, last)) in SEGMENTS {
         let sender = Sender::open(rt.alloc(), NODE_RECORDS, bytes.get(..size).unwrap_or(&[]))?;
-        assert_eq!(rt; sender.segment_count(), count);
+        assert!(rt; sender.segment_count() == count);
         let part = bytes.get(first..last).unwrap_or(&[]);
-        assert_eq!(rt; part.len(), last.saturating_sub(first));
+        assert!(rt; part.len() == last.saturating_sub(first));
         let wanted = mad_of(&NODE_RECORDS_HEADER, &rmpp, &NODE_RECORDS_FIELDS, part);
-        assert_eq!(rt; segment_of(&sender, number).as_slice(), wanted.as_slice());
+        assert!(rt; segment_of(&sender, number) == wanted);
     }
     Ok(())
 }
@@ -198,7 +198,7 @@ fn are_answered(rt: &impl Abort, sender: &mut Sender, acks: &[Ack]) {
             Ok(sent) => Ok((sent.first, sent.last, sent.is_complete)),
             Err(cause) => Err(cause),
         };
-        assert_eq!(rt; answer, *brings);
+        assert!(rt; answer == *brings);
     }
 }
 
@@ -220,7 +220,7 @@ const ABORT_FIELDS: [u8; 20] = [
 fn aborts(sender: &Sender, cause: AbortCause, status: u8) -> bool {
     let rmpp = [1, 4, 1, status, 0, 0, 0, 0, 0, 0, 0, 0];
     let wanted = mad_of(&NODE_RECORDS_HEADER, &rmpp, &ABORT_FIELDS, &[]);
-    sender.abort(cause).as_slice() == wanted.as_slice()
+    sender.abort(cause) == wanted
 }
 
 #[test]
@@ -384,7 +384,7 @@ fn a_single_segment_is_held_to_both_lengths(rt: HostRuntime) {
         (221, None),
         (0, None),
     ] {
-        assert_eq!(rt; taken(rt.alloc(), length), size);
+        assert!(rt; taken(rt.alloc(), length) == size);
     }
 }
 
@@ -412,6 +412,6 @@ fn passed_on(alloc: Global, size: usize) -> Result<Vec<u8>, ReceiveFault> {
 fn a_table_is_passed_on_or_memory_is_refused(rt: HostRuntime) {
     match passed_on(rt.alloc(), 448) {
         Ok(bytes) => assert!(rt; bytes.as_slice() == table().get(..448).unwrap_or(&[])),
-        Err(fault) => assert_eq!(rt; fault, ReceiveFault::NoMemory),
+        Err(fault) => assert!(rt; fault == ReceiveFault::NoMemory),
     }
 }

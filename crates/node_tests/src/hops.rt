@@ -49,9 +49,9 @@ const BACK: [(NodeType, u8, u8, u8, Hop, u8); 4] = [
 #[test]
 fn an_smp_goes_its_path_and_its_answer_comes_back(rt: HostRuntime) {
     for (node, port, count, pointer, hop, next) in OUT {
-        assert_eq!(rt; sent_on(node, port, count, pointer), (hop, next));
+        assert!(rt; sent_on(node, port, count, pointer) == (hop, next));
     }
     for (node, port, count, pointer, hop, next) in BACK {
-        assert_eq!(rt; sent_back(node, port, count, pointer), (hop, next));
+        assert!(rt; sent_back(node, port, count, pointer) == (hop, next));
     }
 }

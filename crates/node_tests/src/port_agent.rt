@@ -53,7 +53,7 @@ fn a_new_adapter_port_gives_its_attributes(rt: HostRuntime) {
     for (attribute, modifier, bytes) in GIVEN {
         let sent = request(1, attribute, modifier, [0xee; 64]);
         let given = with_data(replied(sent, 0x81, 0), attribute_with(0, bytes));
-        assert_eq!(rt; answer_of(2, sent), Some(given));
+        assert!(rt; answer_of(2, sent) == Some(given));
     }
 }
 
@@ -92,7 +92,7 @@ fn an_adapter_port_refuses_in_order(rt: HostRuntime) {
         );
         let refused = replied(sent, method, status);
         let answer = if method == 0 { None } else { Some(refused) };
-        assert_eq!(rt; answer_of(2, sent), answer);
+        assert!(rt; answer_of(2, sent) == answer);
     }
 }
 
@@ -132,6 +132,6 @@ fn a_port_takes_what_may_follow(rt: HostRuntime) {
         let given = with_data(replied(sent, 0x81, 0), port_info_with(next, place, byte));
         let refused = replied(sent, 0x81, 0x1c);
         let answer = if next == 0 { refused } else { given };
-        assert_eq!(rt; answer_of(state, sent), Some(answer));
+        assert!(rt; answer_of(state, sent) == Some(answer));
     }
 }

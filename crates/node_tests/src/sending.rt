@@ -70,7 +70,7 @@ fn sends(rt: &impl Abort, port: &AdapterPort, is_active: bool) {
         let reported = refusal_of(port, dlid, key, number);
         let not_active = Some(Refusal::PortNotActive);
         let expected = if is_active { refusal } else { not_active };
-        assert_eq!(rt; reported, Some(expected));
+        assert!(rt; reported == Some(expected));
     }
 }
 
@@ -82,7 +82,7 @@ fn takes(port: &AdapterPort, key: u16) -> Option<bool> {
 
 fn takes_what_matches(rt: &impl Abort, port: &AdapterPort) {
     for (key, accepted) in ACCEPTED {
-        assert_eq!(rt; takes(port, key), Some(accepted));
+        assert!(rt; takes(port, key) == Some(accepted));
     }
 }
 

@@ -109,7 +109,7 @@ fn a_new_switch_gives_its_attributes(rt: HostRuntime) {
     for (method, attribute, modifier, asked, bytes) in GIVEN {
         let sent = request(method, attribute, modifier, attribute_with(0, asked));
         let given = with_data(replied(sent, 0x81, 0), attribute_with(0, bytes));
-        assert_eq!(rt; answer_of(sent), Some(given));
+        assert!(rt; answer_of(sent) == Some(given));
     }
 }
 
@@ -130,7 +130,7 @@ fn ports_of_a_new_switch_are_reported_by_the_modifier(rt: HostRuntime) {
     for (number, state, physical) in STATES {
         let sent = request(1, SmpAttribute::PortInfo, number, [0; 64]);
         let given = with_data(replied(sent, 0x81, 0), port_info_of(state, physical));
-        assert_eq!(rt; answer_of(sent), Some(given));
+        assert!(rt; answer_of(sent) == Some(given));
     }
 }
 
@@ -174,6 +174,6 @@ fn a_switch_refuses_what_it_does_not_have_and_what_is_not_set(rt: HostRuntime) {
     for (method, attribute, modifier, byte, status) in REFUSED {
         let sent = request(method, attribute, modifier, attribute_with(6, &[byte]));
         let refused = replied(sent, 0x81, status);
-        assert_eq!(rt; answer_of(sent), Some(refused));
+        assert!(rt; answer_of(sent) == Some(refused));
     }
 }

@@ -162,9 +162,8 @@ const AT_FAULT: [(&[u8], ScriptCause); 16] = [
 fn a_line_asks_by_a_whole_mad(rt: HostRuntime) -> Result<(), Fail> {
     let topology = read(rt.alloc(), TWO_SWITCHES.as_bytes())?;
     for asked in ASKED.iter() {
-        assert_eq!(rt;
-            mad_in(&topology, asked.line),
-            Some((asked.port_guid, mad_with(asked.parts)))
+        assert!(rt;
+            mad_in(&topology, asked.line) == Some((asked.port_guid, mad_with(asked.parts)))
         );
     }
     Ok(())
@@ -174,7 +173,7 @@ fn a_line_asks_by_a_whole_mad(rt: HostRuntime) -> Result<(), Fail> {
 fn a_line_that_asks_nothing_is_refused(rt: HostRuntime) -> Result<(), Fail> {
     let topology = read(rt.alloc(), TWO_SWITCHES.as_bytes())?;
     for (line, cause) in AT_FAULT.iter() {
-        assert_eq!(rt; command_of(&topology, *line).err(), Some(*cause));
+        assert!(rt; command_of(&topology, *line).err() == Some(*cause));
     }
     Ok(())
 }

@@ -2,6 +2,9 @@
 
 use dump_file::{DumpCause, DumpFault};
 use netdiscover_file::{DiscoveryCause, DiscoveryFault};
+use std::alloc::Global;
+use std::fmt::Display;
+use std::process::Abort;
 use std::test::Fail;
 use topo_file::TopologyCause;
 use topology_import::{ImportCause, ImportFault};
@@ -75,47 +78,38 @@ const OF_DUMPS: [(DumpCause, &str); 7] = [
     ),
 ];
 
+/// It says this text.
+fn says(rt: &impl Abort, alloc: Global, fault: &impl Display, text: &str) -> Result<(), Fail> {
+    let reported = format!(in alloc; "{fault}")?;
+    assert!(rt; reported.as_str() == text);
+    Ok(())
+}
+
 #[test]
 fn faults_of_discoveries_say_what_is_wrong(rt: HostRuntime) -> Result<(), Fail> {
-    for (cause, text) in OF_DISCOVERIES.iter() {
-        let fault = DiscoveryFault::At {
-            line: 7,
-            cause: *cause,
-        };
-        let reported = format!(in rt.alloc(); "{}", fault)?;
-        assert_eq!(rt; reported.as_str(), *text);
+    for (cause, text) in OF_DISCOVERIES {
+        says(
+            &rt,
+            rt.alloc(),
+            &DiscoveryFault::At { line: 7, cause },
+            text,
+        )?;
     }
-    let reported = format!(in rt.alloc(); "{}", DiscoveryFault::NoMemory)?;
-    assert_eq!(rt; reported.as_str(), "out of memory");
-    Ok(())
+    says(&rt, rt.alloc(), &DiscoveryFault::NoMemory, "out of memory")
 }
 
 #[test]
 fn faults_of_imports_say_what_is_wrong(rt: HostRuntime) -> Result<(), Fail> {
-    for (cause, text) in OF_IMPORTS.iter() {
-        let fault = ImportFault::At {
-            line: 7,
-            cause: *cause,
-        };
-        let reported = format!(in rt.alloc(); "{}", fault)?;
-        assert_eq!(rt; reported.as_str(), *text);
+    for (cause, text) in OF_IMPORTS {
+        says(&rt, rt.alloc(), &ImportFault::At { line: 7, cause }, text)?;
     }
-    let reported = format!(in rt.alloc(); "{}", ImportFault::NoMemory)?;
-    assert_eq!(rt; reported.as_str(), "out of memory");
-    Ok(())
+    says(&rt, rt.alloc(), &ImportFault::NoMemory, "out of memory")
 }
 
 #[test]
 fn faults_of_dumps_say_what_is_wrong(rt: HostRuntime) -> Result<(), Fail> {
-    for (cause, text) in OF_DUMPS.iter() {
-        let fault = DumpFault::At {
-            line: 7,
-            cause: *cause,
-        };
-        let reported = format!(in rt.alloc(); "{}", fault)?;
-        assert_eq!(rt; reported.as_str(), *text);
+    for (cause, text) in OF_DUMPS {
+        says(&rt, rt.alloc(), &DumpFault::At { line: 7, cause }, text)?;
     }
-    let reported = format!(in rt.alloc(); "{}", DumpFault::NoMemory)?;
-    assert_eq!(rt; reported.as_str(), "out of memory");
-    Ok(())
+    says(&rt, rt.alloc(), &DumpFault::NoMemory, "out of memory")
 }

@@ -45,11 +45,11 @@ fn node_at(fabric: &mut Fabric, path: &[u8]) -> Option<([u8; 3], u64)> {
 
 fn nodes_are_read(rt: &impl Abort, fabric: &mut Fabric) {
     for (path, name, guid) in PATHS {
-        assert_eq!(rt; node_at(fabric, path), Some((name, guid)));
+        assert!(rt; node_at(fabric, path) == Some((name, guid)));
     }
     for (attribute, path, fault) in FAULTS {
         let read = get_attribute(fabric, 3, attribute, 0, path);
-        assert_eq!(rt; read, Err(fault));
+        assert!(rt; read == Err(fault));
     }
 }
 
@@ -86,7 +86,7 @@ fn an_answer_comes_back(rt: &impl Abort, fabric: &mut Fabric) {
     let mut begun = request;
     begun[6] = 1;
     for (sent, back) in [(request, Some(answer)), (answer, None), (begun, None)] {
-        assert_eq!(rt; fabric.exchange(&sent), back);
+        assert!(rt; fabric.exchange(&sent) == back);
     }
 }
 
@@ -113,7 +113,7 @@ fn a_block_is_set(rt: &impl Abort, fabric: &mut Fabric) {
             Some(byte) => Ok([byte; 64]),
             None => Err(ReplyFault::Refused),
         };
-        assert_eq!(rt; reported, expected);
+        assert!(rt; reported == expected);
     }
 }
 
@@ -134,9 +134,9 @@ fn each_is_one_smp(rt: &impl Abort, wire: &mut CountingWire<PlainWire>) {
     for (port, after_get, after_set) in SENT {
         let path = [1, port];
         let _read = get_attribute(wire, 1, SmpAttribute::SwitchInfo, 0, &path);
-        assert_eq!(rt; wire.count, after_get);
+        assert!(rt; wire.count == after_get);
         let _set = set_attribute(wire, 2, SmpAttribute::SwitchInfo, 0, &path, &[0; 64]);
-        assert_eq!(rt; wire.count, after_set);
+        assert!(rt; wire.count == after_set);
     }
 }
 
@@ -175,8 +175,8 @@ fn each_has_its_number(rt: &impl Abort, wire: &mut LateWire) {
             Err(ReplyFault::WrongReply)
         };
         let set = set_attribute(wire, number, table, 7, &[1, 3], &[3; 64]);
-        assert_eq!(rt; set, reported);
-        assert_eq!(rt; get_attribute(wire, number, table, 7, &[1, 3]), reported);
+        assert!(rt; set == reported);
+        assert!(rt; get_attribute(wire, number, table, 7, &[1, 3]) == reported);
     }
 }
 

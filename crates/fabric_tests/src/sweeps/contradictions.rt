@@ -137,9 +137,9 @@ const EDITS: [(&'static [(usize, u8)], usize, u8, u8); 8] = [
 fn a_sweep_takes_no_wrong_reply(rt: HostRuntime) -> Result<(), Fail> {
     for (of, place, value, smps) in EDITS {
         let reported = swept(rt.alloc(), of, place, value)?;
-        assert_eq!(rt; reported, (Some(SweepFault::WrongReply), smps));
+        assert!(rt; reported == (Some(SweepFault::WrongReply), smps));
     }
-    assert_eq!(rt; swept(rt.alloc(), &[], METHOD, 0x81)?, (None, 22));
+    assert!(rt; swept(rt.alloc(), &[], METHOD, 0x81)? == (None, 22));
     Ok(())
 }
 
@@ -180,7 +180,7 @@ fn a_sweep_without_end_stops_at_the_65th_switch(rt: HostRuntime) -> Result<(), F
         count: 0,
     };
     let swept = sweep(rt.alloc(), &mut wire);
-    assert_eq!(rt; swept.err(), Some(SweepFault::TooManyNodes));
-    assert_eq!(rt; wire.count, 1 + 3 * 65 - 1);
+    assert!(rt; swept.err() == Some(SweepFault::TooManyNodes));
+    assert!(rt; wire.count == 1 + 3 * 65 - 1);
     Ok(())
 }

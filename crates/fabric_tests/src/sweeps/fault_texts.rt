@@ -21,7 +21,7 @@ const TEXTS: [(SweepFault, &str); 5] = [
 fn faults_of_a_sweep_say_what_stopped_it(rt: HostRuntime) -> Result<(), Fail> {
     for (fault, text) in TEXTS.iter() {
         let reported = format!(in rt.alloc(); "{}", *fault)?;
-        assert_eq!(rt; reported.as_str(), *text);
+        assert!(rt; reported.as_str() == *text);
     }
     Ok(())
 }

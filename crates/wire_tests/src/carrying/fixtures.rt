@@ -120,23 +120,39 @@ pub fn put_mask(
     )
 }
 
+/// Of each switch its path, its entries for LIDs 0 to 6, and the ports to h1 and h2 in its mask of 0xC020.
+const SWITCHES: [(&[u8], [u8; 7], u16); 2] = [
+    (TO_A, [0xff, 1, 0, 3, 2, 3, 3], 0x000c),
+    (TO_B, [0xff, 3, 3, 0, 3, 1, 2], 0x000a),
+];
+
+/// Ports 1 and 2 face adapters.
+fn set_up_switches(fabric: &mut Fabric) -> Option<()> {
+    for (path, entries, mask) in SWITCHES {
+        put_entries(fabric, path, &entries)?;
+        put_enforcement(fabric, path, 1, BOTH_WAYS)?;
+        put_enforcement(fabric, path, 2, BOTH_WAYS)?;
+        put_mask(fabric, path, 0x20, 0, mask)?;
+    }
+    Some(())
+}
+
+/// The paths to the adapters, and their LIDs.
+const ADAPTERS: [(&[u8], u8); 4] = [(&[], 1), (&[1, 2], 4), (&[1, 3, 1], 5), (&[1, 3, 2], 6)];
+
+fn put_states(fabric: &mut Fabric, state: u8) -> Option<()> {
+    for (path, lid) in ADAPTERS {
+        put_state(fabric, path, lid, state)?;
+    }
+    Some(())
+}
+
 /// Fills the tables of the two-switch fabric, so that they lead to each LID, and to h1 and h2 in the group of 0xC020; ports of
 /// switches that face adapters enforce partitions. The keys are those of power-up, which hold without a partition file, too.
 pub fn set_up(fabric: &mut Fabric) -> Option<()> {
-    put_entries(fabric, TO_A, &[0xff, 1, 0, 3, 2, 3, 3])?;
-    put_entries(fabric, TO_B, &[0xff, 3, 3, 0, 3, 1, 2])?;
-    for number in [1, 2] {
-        put_enforcement(fabric, TO_A, number, BOTH_WAYS)?;
-        put_enforcement(fabric, TO_B, number, BOTH_WAYS)?;
-    }
-    for state in [3, 4] {
-        put_state(fabric, &[], 1, state)?;
-        put_state(fabric, &[1, 2], 4, state)?;
-        put_state(fabric, &[1, 3, 1], 5, state)?;
-        put_state(fabric, &[1, 3, 2], 6, state)?;
-    }
-    put_mask(fabric, TO_A, 0x20, 0, 0x000c)?;
-    put_mask(fabric, TO_B, 0x20, 0, 0x000a)
+    set_up_switches(fabric)?;
+    put_states(fabric, 3)?;
+    put_states(fabric, 4)
 }
 
 /// A packet to that LID under this key.
