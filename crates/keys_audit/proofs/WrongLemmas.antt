@@ -13,7 +13,7 @@ use Rattle.keys_audit.specs.declared.port.HeldKeys.{HeldKeys}
 use Rattle.keys_audit.specs.Differences.{enforces}
 use Rattle.keys_audit.specs.Laws.{FitsIfEnforced, HasKeys, HasThoseAlone, HaveBases, IsRight, talk_by_file, talk_by_tables}
 use Rattle.keys_audit.specs.Standing.{only_by_file, only_by_tables}
-use Rattle.keys_audit.specs.WrongRules.{BasesAreNotEnough, BothMayTalk, LimitedMembersDoNotTalk, MissingKeysCount, OneDirectionCounts, OwnTablesAreNotEnough, SwitchPortsCount, UnreadPortsDoNotPass, UnreadSwitchPortsDoNotPass, UnreadTablesDoNotFollow, all_by_file, all_by_tables, members_by_file, members_by_tables}
+use Rattle.keys_audit.specs.WrongRules.{BasesAreNotEnough, BothMayTalk, EmptyPlacesAreNoKeys, GapsDoNotEndTheTable, LimitedMembersDoNotTalk, MissingKeysCount, OneDirectionCounts, OwnTablesAreNotEnough, SwitchPortsCount, UnreadPortsDoNotPass, UnreadSwitchPortsDoNotPass, UnreadTablesDoNotFollow, all_by_file, all_by_tables, members_by_file, members_by_tables}
 use Rattle.keys_audit.proofs.PairLemmas.{pairs_of_tables_are_theirs, pairs_of_the_file_are_its}
 
 abbrev at : PortRef
@@ -142,3 +142,10 @@ pub switch_ports_count : SwitchPortsCount
 switch_ports_count law =
     let on : Enforcement = record { inbound = true; outbound = true } in
     lacks_none on refl ((law (lacking on ∷ [])).follow.0 refl 0 (lacking on) refl)
+
+-- ---- keys behind an empty place, and empty places
+pub gaps_do_not_end_the_table : GapsDoNotEndTheTable
+gaps_do_not_end_the_table law = false≢true (law (32769 ∷ []) 1 0 refl)
+
+pub empty_places_are_no_keys : EmptyPlacesAreNoKeys
+empty_places_are_no_keys law = false≢true (law (32769 ∷ []) 1 0 refl)

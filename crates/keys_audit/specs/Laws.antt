@@ -133,8 +133,11 @@ pub record TheVerdictIsTrue : Type 0 where
   pub last : (nodes : List Node) (all : Bool) (ports : List AuditedPort) (partitions : List Partition)
       → TheTextEndsWith verdict (audit_of nodes all ports partitions).text ports
 
--- ---- a table that has the keys of the file, with empty places before and behind them, follows it
-abbrev pub TablesThatFollowAreClean : Type 0
-TablesThatFollowAreClean =
+-- ---- a table that has the keys of the file, with empty places before and behind them, follows it, if its keys are taken so
+abbrev pub FindsTheKeys : (List ℕ → List ℕ) → Type 0
+FindsTheKeys keys =
     (file : List ℕ) (before behind : ℕ) → list_all is_key file ≡ true
-    → have_same_keys (held (replicate before 0 ++ file ++ replicate behind 0)).keys file ≡ true
+    → have_same_keys (keys (replicate before 0 ++ file ++ replicate behind 0)) file ≡ true
+
+abbrev pub TablesThatFollowAreClean : Type 0
+TablesThatFollowAreClean = FindsTheKeys (λ words. (held words).keys)

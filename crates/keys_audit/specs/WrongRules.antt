@@ -1,5 +1,5 @@
 -- Wrong rules for the status, the pairs and the last line, and the law that each breaks.
-use Rattle.std.specs.Prelude.{ℕ, Bool, true, false, not, ◌&&◌, ◌||◌, List, map, Option, Some, None, is_none}
+use Rattle.std.specs.Prelude.{ℕ, Bool, true, false, not, ◌&&◌, ◌||◌, List, [], ◌∷◌, map, if◌then◌else◌, Option, Some, None, is_none}
 use Rattle.std.specs.List.{list_all}
 use Rattle.pair_changes.specs.declared.membership.Membership.{Membership}
 use Rattle.pair_changes.specs.declared.membership.Membership.TheVariants.{Outside, Limited, Full}
@@ -12,8 +12,8 @@ use Rattle.keys_audit.specs.declared.port.Enforcement.{Enforcement}
 use Rattle.keys_audit.specs.declared.port.FacingPort.{FacingPort}
 use Rattle.keys_audit.specs.declared.port.HeldKeys.{HeldKeys}
 use Rattle.keys_audit.specs.Differences.{all_agree, enforces_both, facing_fits, fits_if_enforced, follows_file, is_clean, keys_follow_if_read, tables_fit}
-use Rattle.keys_audit.specs.Held.{all_held, have_same_bases}
-use Rattle.keys_audit.specs.Laws.{HasThoseAlone, IsTrueVerdict, PassesTheRight, talk_by_file, talk_by_tables}
+use Rattle.keys_audit.specs.Held.{all_held, have_same_bases, is_key}
+use Rattle.keys_audit.specs.Laws.{FindsTheKeys, HasThoseAlone, IsTrueVerdict, PassesTheRight, talk_by_file, talk_by_tables}
 use Rattle.keys_audit.specs.Standing.{standing, turned}
 use Rattle.keys_audit.specs.Text.{verdict_line}
 
@@ -122,3 +122,15 @@ verdict_of_ends ports = verdict_line (list_all follows_file ports) (list_all end
 
 abbrev pub SwitchPortsCount : Type 0
 SwitchPortsCount = IsTrueVerdict verdict_of_ends → ⊥
+
+-- ---- the first empty place ends the table
+abbrev pub up_to_a_gap : List ℕ → List ℕ
+up_to_a_gap [] = []
+up_to_a_gap (word ∷ words) = if is_key word then word ∷ up_to_a_gap words else []
+
+abbrev pub GapsDoNotEndTheTable : Type 0
+GapsDoNotEndTheTable = FindsTheKeys up_to_a_gap → ⊥
+
+-- ---- empty places are keys too
+abbrev pub EmptyPlacesAreNoKeys : Type 0
+EmptyPlacesAreNoKeys = FindsTheKeys (λ words. words) → ⊥

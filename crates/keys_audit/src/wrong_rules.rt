@@ -2,7 +2,7 @@
 //! with this rule the law is false.
 
 ghost use Rattle.keys_audit.specs.WrongRules.{BasesAreNotEnough, MissingKeysCount, OneDirectionCounts, OwnTablesAreNotEnough, UnreadPortsDoNotPass, UnreadSwitchPortsDoNotPass};
-ghost use Rattle.keys_audit.specs.WrongRules.{BothMayTalk, LimitedMembersDoNotTalk, SwitchPortsCount, UnreadTablesDoNotFollow};
+ghost use Rattle.keys_audit.specs.WrongRules.{BothMayTalk, EmptyPlacesAreNoKeys, GapsDoNotEndTheTable, LimitedMembersDoNotTalk, SwitchPortsCount, UnreadTablesDoNotFollow};
 
 /// Membership is ignored.
 pub fn bases_are_not_enough()
@@ -52,4 +52,14 @@ pub fn unread_tables_do_not_follow()
 /// The last line leaves out switch ports that drop packets.
 pub fn switch_ports_count()
     ensures { SwitchPortsCount }
+{}
+
+/// The first empty place ends a table.
+pub fn gaps_do_not_end_the_table()
+    ensures { GapsDoNotEndTheTable }
+{}
+
+/// Empty places are taken for keys.
+pub fn empty_places_are_no_keys()
+    ensures { EmptyPlacesAreNoKeys }
 {}
