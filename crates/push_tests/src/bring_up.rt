@@ -28,8 +28,8 @@ fn ends_stand<W: SmpWire>(rt: &impl Abort, wire: &mut W) -> Result<(), Fail> {
     for (path, lid) in ENDS {
         let info = get_attribute(wire, 1, SmpAttribute::PortInfo, 0, path).or(Err("a Get"))?;
         let wanted = [0xfe, 0x80, 0, 0, 0, 0, 0, 0, 0, lid, 0, 1];
-        assert_eq!(rt; &info[GID_PREFIX..GID_PREFIX + 12], wanted.as_slice());
-        assert_eq!(rt; info[STATE] & 0x0f, 4);
+        assert!(rt; &info[GID_PREFIX..GID_PREFIX + 12] == wanted.as_slice());
+        assert!(rt; (info[STATE] & 0x0f) == 4);
     }
     Ok(())
 }

@@ -61,7 +61,7 @@ fn is_pushed(rt: &impl Abort, alloc: Global, leaves: u16, push: &Push) -> Result
     let mut fabric = fat_tree_of(alloc, leaves)?;
     let routes = routed(alloc, &mut fabric, leaves)?;
     let count = count_of(alloc, fabric, &routes, leaves, push)?;
-    assert_eq!(rt; count, smps_of(push, leaves));
+    assert!(rt; count == smps_of(push, leaves));
     Ok(())
 }
 

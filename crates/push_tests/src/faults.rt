@@ -135,10 +135,10 @@ fn stops(
     let (spoil, fault) = spoiled;
     for left in 0..count {
         let reported = pushed(alloc, push, is_numbered, left, spoil)?;
-        assert_eq!(rt; reported, Err(fault));
+        assert!(rt; reported == Err(fault));
     }
     let reported = pushed(alloc, push, is_numbered, count, spoil)?;
-    assert_eq!(rt; reported, Ok(()));
+    assert!(rt; reported == Ok(()));
     Ok(())
 }
 
@@ -166,7 +166,7 @@ const NO_STATE_ASKED: [u64; 2] = [0, 3];
 fn a_state_that_was_not_asked_is_not_compared(rt: HostRuntime) -> Result<(), Fail> {
     for left in 0..24 {
         let reported = pushed(rt.alloc(), &Push::Ports, true, left, (SET, STATE, 1))?;
-        assert_eq!(rt; reported.is_ok(), NO_STATE_ASKED.contains(&left));
+        assert!(rt; reported.is_ok() == NO_STATE_ASKED.contains(&left));
     }
     Ok(())
 }

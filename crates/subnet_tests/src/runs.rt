@@ -35,7 +35,7 @@ const STEPS: [(&[u8], u64); 3] = [
 fn a_step_reports_its_events(rt: HostRuntime) -> Result<(), Fail> {
     let mut subnet = two_switch_subnet(rt.alloc())?;
     for (line, port) in STEPS {
-        assert_eq!(rt; heard(&mut subnet, line)?, (1, Some(port)));
+        assert!(rt; heard(&mut subnet, line)? == (1, Some(port)));
     }
     Ok(())
 }
@@ -62,7 +62,7 @@ fn answers(rt: &impl Abort, alloc: Global) -> Option<Vec<u8>> {
     ) {
         Ok(report) => report.text().ok(),
         Err(fault) => {
-            assert_eq!(rt; fault, RunFault::NoMemory);
+            assert!(rt; fault == RunFault::NoMemory);
             None
         }
     }
@@ -76,8 +76,8 @@ fn a_run_that_asks_is_reported_or_memory_is_refused(rt: HostRuntime) -> Result<(
     let second = answers(&rt, rt.alloc());
     assert!(rt; first.is_some() || second.is_some());
     if let (Some(one), Some(other)) = (first, second) {
-        assert_eq!(rt; one.as_slice(), other.as_slice());
-        assert_eq!(rt; one.iter().filter(|byte| **byte == b'\n').count(), 7);
+        assert!(rt; one.as_slice() == other.as_slice());
+        assert!(rt; one.iter().filter(|byte| **byte == b'\n').count() == 7);
     }
     Ok(())
 }
@@ -134,7 +134,7 @@ fn only_blocks_that_change_are_set(rt: HostRuntime) -> Result<(), Fail> {
         Some(PARTITIONS.as_bytes()),
     )?;
     for (line, smps) in COSTS {
-        assert_eq!(rt; cost(&mut subnet, line)?, smps);
+        assert!(rt; cost(&mut subnet, line)? == smps);
     }
     Ok(())
 }
@@ -148,32 +148,37 @@ fn near_h3(rt: &impl Abort, alloc: Global) -> Option<Vec<u64>> {
     match bring_up(alloc, TWO_SWITCHES.as_bytes(), Some(PARTITIONS.as_bytes())) {
         Ok(subnet) => subnet.near(0x131).ok(),
         Err(fault) => {
-            assert_eq!(rt; fault, RunFault::NoMemory);
+            assert!(rt; fault == RunFault::NoMemory);
             None
         }
+    }
+}
+
+/// Whether they are listed: an allocation may fail.
+fn are_listed(rt: &impl Abort, alloc: Global) -> bool {
+    match near_h3(rt, alloc) {
+        Some(guids) => {
+            assert!(rt; guids.as_slice() == NEAR_H3.as_slice());
+            true
+        }
+        None => false,
     }
 }
 
 /// Of two lists at most one is refused memory.
 #[test]
 fn near_ports_are_listed_or_memory_is_refused(rt: HostRuntime) -> Result<(), Fail> {
-    let first = near_h3(&rt, rt.alloc());
-    let second = near_h3(&rt, rt.alloc());
-    assert!(rt; first.is_some() || second.is_some());
-    if let Some(guids) = first {
-        assert_eq!(rt; guids.as_slice(), NEAR_H3.as_slice());
-    }
-    if let Some(guids) = second {
-        assert_eq!(rt; guids.as_slice(), NEAR_H3.as_slice());
-    }
+    let first = are_listed(&rt, rt.alloc());
+    let second = are_listed(&rt, rt.alloc());
+    assert!(rt; first || second);
     Ok(())
 }
 
 fn is_carried_out(rt: &impl Abort, subnet: &mut Subnet, command: &Command) {
     match subnet.step(command) {
-        Ok(events) => assert_eq!(rt; events.len(), 1),
+        Ok(events) => assert!(rt; events.len() == 1),
         Err(fault) => {
-            assert_eq!(rt; fault, StepFault::NoMemory);
+            assert!(rt; fault == StepFault::NoMemory);
             assert!(rt; matches!(subnet.step(command), Err(StepFault::Broken)));
             assert!(rt; matches!(subnet.step(command), Err(StepFault::Broken)));
         }
@@ -185,7 +190,7 @@ fn steps_or_breaks(rt: &impl Abort, subnet: &mut Subnet) -> Result<(), Fail> {
     assert!(rt; matches!(subnet.parse(7, b"# nothing\n"), Ok(None)));
     match subnet.parse(8, b"send h1/1 5 0xffff 7 2:beef\n") {
         Ok(command) => is_carried_out(rt, subnet, &command.ok_or("a command")?),
-        Err(fault) => assert_eq!(rt; fault, RunFault::NoMemory),
+        Err(fault) => assert!(rt; fault == RunFault::NoMemory),
     }
     Ok(())
 }
@@ -195,7 +200,7 @@ fn a_subnet_that_ran_out_of_memory_is_broken(rt: HostRuntime) -> Result<(), Fail
     match two_switch_subnet(rt.alloc()) {
         Ok(mut subnet) => steps_or_breaks(&rt, &mut subnet),
         Err(fault) => {
-            assert_eq!(rt; fault, RunFault::NoMemory);
+            assert!(rt; fault == RunFault::NoMemory);
             Ok(())
         }
     }

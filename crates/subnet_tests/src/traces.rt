@@ -261,7 +261,7 @@ fn what_is_written_into_tables_and_masks_shows_in_the_way_of_a_packet(
     for way in &WAYS {
         let fabric = written(rt.alloc(), way.0, way.1)?;
         let reported = traced(rt.alloc(), &fabric, way)?;
-        assert_eq!(rt; reported.as_slice(), way.4.as_bytes());
+        assert!(rt; reported.as_slice() == way.4.as_bytes());
     }
     Ok(())
 }
