@@ -22,15 +22,15 @@ def read_topology(file):
     return nodes, [[(places[name], port) for name, port in cable] for cable in topology.cables]
 
 
-HEADER = re.compile(r'(Switch|Ca|Rt)\s+(\d+) "[SHR]-([0-9a-f]+)"\s+# "(.*)"')
-LINE = re.compile(r'\[(\d+)\](?:\[ext \d+\])?(?:\(([0-9a-f]+)\))?\s+"[SHR]-([0-9a-f]+)"\[(\d+)\]')
+HEADER = re.compile(r'(Switch|Ca|Rt)\s+(\d+) "[SHR]-([0-9a-f]+)"\s+# "(.*)"(?: \w+ port 0 lid (\d+))?')
+LINE = re.compile(r'\[(\d+)\](?:\[ext \d+\])?(?:\(([0-9a-f]+)\))?\s+"[SHR]-([0-9a-f]+)"\[(\d+)\](?:[^"#]*#\s+lid (\d+))?')
 
 
 class Found:
-    """What ibnetdiscover printed: nodes, the cables that join a switch and those that do not, and end ports by GUID."""
+    """What ibnetdiscover printed: nodes, the cables that join a switch and those that do not, end ports by GUID, and their LIDs."""
 
     def __init__(self, text):
-        self.nodes, ends, own, names = [], [], [], []
+        self.nodes, ends, own, names, lids = [], [], [], [], []
         port_0 = None
         for line in text.splitlines():
             if found := re.match(r"switchguid=0x[0-9a-f]+\(([0-9a-f]+)\)", line):
@@ -41,13 +41,17 @@ class Found:
                 self.nodes.append(Node(is_switch, found[4], guid, int(found[2]), not is_switch and found[4].endswith("Aggregation Node")))
                 if is_switch:
                     own.append((port_0 or guid, (place, 0)))
+                    lids.append((0, int(found[5] or 0), port_0 or guid))
                 port_0 = None
             elif found := LINE.match(line):
                 here = len(self.nodes) - 1, int(found[1])
                 if found[2]:
                     own.append((int(found[2], 16), here))
+                    lids.append((1, int(found[5] or 0), int(found[2], 16)))
                 ends.append((here, (int(found[3], 16), int(found[4]))))
         own.sort(key=lambda end: end[1][1] != 0)  # those of switches first
+        lids.sort(key=lambda lid: lid[0])
+        self.lids = [(lid, guid) for _, lid, guid in lids if 0 < lid < 0xC000]
         self.ports = {}
         for guid, at in own:
             self.ports.setdefault(guid, at)
@@ -97,12 +101,19 @@ class Net:
         for place, node in enumerate([] if found else self.nodes):
             for number in [0] if node.is_switch else range(1, node.ports + 1):
                 ports.setdefault(node.guid + number, (place, number))
-        self.lids = sorted({lid for _, rows in self.tables.values() for lid in rows})
         self.guids = {}
         for _, rows in self.tables.values():
             for lid, row in rows.items():
                 if row.guid is not None:
                     self.guids.setdefault(lid, row.guid)
+        # what a port reports counts if no row gives it a LID, and no row says whose that LID is
+        told = set(self.guids.values())
+        reported = {}
+        for lid, guid in found.lids if found else []:
+            if guid not in told:
+                reported.setdefault(lid, guid)
+        self.guids = {**reported, **self.guids}
+        self.lids = sorted({lid for _, rows in self.tables.values() for lid in rows} | set(reported))
         # a row that calls a LID a channel adapter's or a switch's is believed: then its port is one of that kind
         self.ends = {lid: ports[guid] for lid, guid in self.guids.items() if guid in ports and self.fits(lid, ports[guid])}
         self.attached = [place for place in self.switches if any(at[0] == place and self.is_host(end[0]) for at, end in self.far.items())]
@@ -198,7 +209,7 @@ class Net:
             for end in cable:
                 if not self.nodes[end[0]].is_switch and end not in self.ends.values():
                     yield f"no-lid {self.port(end)}"
-        for top in sorted({top for top, rows in self.tables.values() if top % 64 == 0 and top not in rows}):
+        for top in sorted({top for top, rows in self.tables.values() if top % 64 == 0 and top not in rows} - set(self.lids)):
             yield f"untold {top}"
 
     def trouble(self, place, lid):
@@ -210,7 +221,7 @@ class Net:
                 yield f"stray {self.name(place)} {lid}"
         elif kind == "hole":
             yield f"hole {self.name(place)} {self.whose(lid)}"
-        elif kind == "unknown" and self.nodes[place].guid in self.tables and self.nodes[place].ports >= 128:
+        elif kind == "unknown" and self.nodes[place].guid in self.tables:
             yield f"left-out {self.name(place)} {self.whose(lid)}"
         if lid in self.ends and kind == "nowhere":
             yield f"nowhere {self.name(place)} {self.whose(lid)} port {what}"

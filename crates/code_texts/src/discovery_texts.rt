@@ -32,7 +32,8 @@ pub const ND2: &str = "\
 ND2: the node has no such port, or the port has a line already
 
 A line of a port is below the header of its node, its number is from 1 to the number of ports in
-that header, and no two lines of a node are of one port.
+that header, and no two lines of a node are of one port. ibnetdiscover prints no such text: the file
+was edited, or two runs are in it. Run ibnetdiscover again.
 
 For this input the program prints `fault ND2 netdiscover line 4`:
 
@@ -57,7 +58,9 @@ pub const ND3: &str = "\
 ND3: the GUID is used already, or the line switchguid has another
 
 No two nodes have the same GUID, and no two ports, port 0 of a switch included; a port may have the
-GUID of its node. A line `switchguid` has the GUID of the switch whose header is below it.
+GUID of its node. A line `switchguid` has the GUID of the switch whose header is below it. If two
+runs are in the file, keep one of them. Else two devices have one GUID: look for both, and set one of
+them right.
 
 For this input the program prints `fault ND3 netdiscover line 8`, since i's port has the GUID
 of h's:
@@ -89,7 +92,8 @@ ND4: the two ends of the cable disagree
 
 Each cable has a line at both its ends: the node and the port that a line leads to have a line that
 leads back, and both have the same GUID of the CA's port. The first line for which that is not so is
-reported, after the last line.
+reported, after the last line. A link that came up, went down or was moved while ibnetdiscover ran
+has that effect: run it again. If the line is reported again, look at this cable.
 
 For this input the program prints `fault ND4 netdiscover line 4`:
 
@@ -115,7 +119,9 @@ ND5: the GUID that the CA would get is 0, or that of a switch
 
 In a topology, port p of a CA of GUID g has the GUID g + p. So that ports keep their GUIDs, those of
 consecutive GUIDs become one CA, whose GUID is one less than that of the first. No switch has that
-GUID, and it is not 0. The line of the first port is reported, with its GUID and that of the CA.
+GUID, and it is not 0. The line of the first port is reported, with its GUID and that of the CA. Such
+a fabric cannot be imported. `fabric audit` and `fabric audit-keys` take what ibnetdiscover printed
+of it.
 
 For this input the program prints
 `fault ND5 netdiscover line 6 0x0000000000000011 0x0000000000000010`:
@@ -142,7 +148,7 @@ ND6: the SM port is not named, or not in the fabric
 
 The option `--sm GUID`, or else the comment `Initiated from node NODE port PORT` that ibnetdiscover
 prints, has the GUID of the SM port. A CA has a port of that GUID, with a cable to a switch or a CA.
-Line 0 is reported.
+Line 0 is reported. `sminfo` prints the GUID of the port at which the subnet manager runs.
 
 For this input the program prints `fault ND6 netdiscover line 0`, since nothing names a port:
 

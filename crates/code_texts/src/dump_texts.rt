@@ -81,7 +81,8 @@ pub const FT3: &str = with_tables!(
     "\
 FT3: the switch has a table already
 
-No two tables are of one switch, which the GUID of the heading names.
+No two tables are of one switch, which the GUID of the heading names. If ibroute printed the second
+one, to add rows that dump_fts leaves out, keep that of ibroute alone: it has all rows.
 ",
     "fault FT3 dump line 8",
     "    Unicast lids [0x0-0x3] of switch Lid 2 guid 0x0000000000000010 (A):
@@ -106,7 +107,7 @@ pub const FT4: &str = with_tables!(
 FT4: the LID does not rise, or is above the top of its table
 
 In a table the LIDs rise from row to row, and none is above the top, which is the second number of
-the heading.
+the heading. The tools print no such table: the file was edited, or lines of two runs are mixed.
 ",
     "fault FT4 dump line 6",
     "    Unicast lids [0x0-0x3] of switch Lid 2 guid 0x0000000000000010 (A):
@@ -124,7 +125,7 @@ pub const FT5: &str = with_tables!(
 FT5: the table has another number of rows
 
 The last line of a table counts its rows: `N valid lids dumped` those with another port than 255,
-`N lids dumped` all of them.
+`N lids dumped` all of them. Rows that are lacking were lost on their way into the file: dump again.
 ",
     "fault FT5 dump line 6",
     "    Unicast lids [0x0-0x3] of switch Lid 2 guid 0x0000000000000010 (A):
@@ -140,7 +141,8 @@ pub const FT6: &str = with_tables!(
     "\
 FT6: the file ends within a table, or has none
 
-There is a table, and each table ends with its count. Line 0 is reported.
+There is a table, and each table ends with its count. Line 0 is reported. dump_fts was stopped before
+its end, or found no switch: what it wrote on standard error says why.
 ",
     "fault FT6 dump line 0",
     "    Unicast lids [0x0-0x3] of switch Lid 2 guid 0x0000000000000010 (A):
@@ -157,7 +159,7 @@ pub const FT7: &str = with_tables!(
 FT7: an earlier row has the LID for another end port
 
 All rows of a LID that have a GUID have the same one, in all tables. Tables that were dumped at
-different times may disagree.
+different times may disagree: dump all of them in one run.
 ",
     "fault FT7 dump line 12",
     "    Unicast lids [0x0-0x3] of switch Lid 2 guid 0x0000000000000010 (A):

@@ -13,7 +13,7 @@ use Rattle.fabric_parts.specs.declared.cable.PortRef.{PortRef}
 use Rattle.lid_assign.specs.Lids.{guid_in}
 use Rattle.step_results.proofs.ListLemmas.{list_all_weaker}
 use Rattle.route_audit.specs.Laws.{end_port_of}
-use Rattle.route_audit.specs.Lids.{end_by, if_of_kind, is_of_kind, says_kind}
+use Rattle.route_audit.specs.Lids.{end_by, if_of_kind, is_of_kind, reported_end, says_kind}
 use Rattle.route_audit.specs.Net.{NetState, row_at, row_of}
 use Rattle.route_audit.specs.Plan.{ends_of, port_of}
 use Rattle.smp_wire.specs.FabricState.{FabricState}
@@ -162,5 +162,5 @@ module _ (plan : TopologyState) (sound : IsSound plan) where
     pub with_end_set : (lid guid : ℕ) (end : PortRef) → end_of lid (rows_of net.dump.tables) ≡ Some guid → guid_in routes.lids lid ≡ Some guid
         → port_of (ends_of plan.nodes) guid ≡ Some end → end_port_of net lid ≡ Some end
     with_end_set lid guid end said named found =
-        ap (end_by net lid) said ∙ ap (option_and_then (if_of_kind net lid)) found
+        ap (λ (o : Option ℕ). end_by net lid (option_or o (reported_end net lid))) said ∙ ap (option_and_then (if_of_kind net lid)) found
         ∙ ap (λ (b : Bool). if b then Some end else None) (all_say_kind lid guid end named found)

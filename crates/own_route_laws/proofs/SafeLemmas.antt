@@ -2,7 +2,7 @@
 use Rattle.std.proofs.Common.{ℕ, suc, ◌≡◌, ◌≢◌, ◌==◌, ◌&&◌, ◌∙◌, not, ap, refl, sym, subst, Bool, true, false, if◌then◌else◌, List, [], ◌∷◌, flat_map, map, slice_get, is_some, Option, Some, None}
 use Rattle.std.specs.List.{list_all}
 use Rattle.std.specs.Option.{option_and_then}
-use Rattle.std.proofs.lemmas.Bool.{and_from, and_parts, eq-eqb, eqb-false, eqb-true, leb-true, not-true}
+use Rattle.std.proofs.lemmas.Bool.{and_from, and_parts, eq-eqb, eqb-false, eqb-true, false≢true, leb-true, not-true}
 use Rattle.std.proofs.lemmas.Option.{none-some, same_Some}
 use Rattle.dump_file.specs.declared.destination.Destination.TheVariants as destinations
 use Rattle.dump_file.specs.declared.row.Row.{Row}
@@ -22,10 +22,10 @@ use Rattle.route_audit.proofs.PlanLemmas.{host_is_no_switch}
 use Rattle.route_audit.proofs.SafeLemmas.{comes_there}
 use Rattle.route_audit.proofs.ReportedLemmas.{safe_routes_are_reported}
 use Rattle.route_audit.specs.Audit.{audit_of}
-use Rattle.route_audit.specs.Laws.{AreSafe, GoesTo, IsAdaptersEnd, IsOfKind, IsUnknownAt, NameTheSame, end_port_of, other_lids}
+use Rattle.route_audit.specs.Laws.{AreSafe, GoesTo, IsOfKind, IsUnknownAt, NameTheSame, end_port_of, other_lids}
 use Rattle.route_audit.specs.Plan.{ends_of, plan_of, port_of}
 use Rattle.route_audit.specs.Lines.{has_switch}
-use Rattle.route_audit.specs.Net.{NetState, row_at, row_of, table_at}
+use Rattle.route_audit.specs.Net.{NetState, row_at, row_of, table_at, table_of}
 use Rattle.smp_wire.specs.FabricState.{FabricState}
 use Rattle.smp_wire.specs.declared.node.Node.{Node}
 use Rattle.smp_wire.specs.declared.node.Node.TheVariants.{Switch, Adapter}
@@ -204,8 +204,17 @@ module _ (plan : TopologyState) (sound : IsSound plan) (keys : List (List ℕ)) 
       (led plan sound keys routes fabric up (dump_of plan routes.lids fabric) (a_dump_shows_what_is_held plan keys routes fabric sound up) lid end.0 end.1
       place out.0 switch out.1)) goes unknown
 
+  -- some switch has a table, so there is one
+  no_table : (place : ℕ) → net.dump.tables ≡ [] → is_some (table_at net place) ≡ true → ⊥
+  no_table place none some = false≢true (sym (ap is_some (nowhere (slice_get plan.nodes place))) ∙ some)
+    where
+      nowhere : (o : Option PlannedNode) → option_and_then (λ (node : PlannedNode). table_of node.guid net.dump.tables) o ≡ None
+      nowhere None = refl
+      nowhere (Some node) = ap (table_of node.guid) none
+
   same : NameTheSame net
   same = record {
+    some = λ none. no_table (some_carries plan net.dump sound).0 none (has_its_table (some_carries plan net.dump sound).0 (some_carries plan net.dump sound).1.switch);
     tables = has_its_table;
     switches = λ k table there.
         all_there (λ (one : Table). has_switch one.guid plan.nodes) net.dump.tables k table (all_known fabric.nodes of_switch) there;
@@ -226,16 +235,9 @@ module _ (plan : TopologyState) (sound : IsSound plan) (keys : List (List ℕ)) 
     known = λ place lid next switch there goes unknown. known place lid next switch goes unknown;
   }
 
-  pub manager_ends : IsAdaptersEnd net plan.sm
-  manager_ends = (
-    not-true (is_switch_at plan.nodes plan.sm.node) (and_parts (not (is_switch_at plan.nodes plan.sm.node)) _ sound.manager_port).0,
-    sound.manager_cabled,
-  )
-
 pub own_routes_are_safe : OwnRoutesAreSafe
 own_routes_are_safe plan keys routes fabric sound up =
-    safe_routes_are_reported.reported (over plan (dump_of plan routes.lids fabric)) plan.sm (manager_ends plan sound keys routes fabric up)
-    (are_safe plan sound keys routes fabric up)
+    safe_routes_are_reported.reported (over plan (dump_of plan routes.lids fabric)) (are_safe plan sound keys routes fabric up)
 
 -- ---- while cables are down the fabric is that of the topology without them, but for masks, which the dump does not show
 same_tables : (plan : TopologyState) (lids : List ℕ) (nodes : List Node)

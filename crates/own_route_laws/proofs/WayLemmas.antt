@@ -1,6 +1,6 @@
 -- What comes of a packet: along next hops to where its LID's end port is attached, and there out to it.
 use Rattle.std.proofs.Common.{ℕ, ◌≡◌, ◌≤◌, ◌<◌, ◌∙◌, inl, inr, ap, refl, subst, sym, true, List, [], ◌∷◌, length, slice_get, Option, Some, None, arith}
-use Rattle.std.specs.Option.{option_and_then}
+use Rattle.std.specs.Option.{option_and_then, option_or}
 use Rattle.std.proofs.lemmas.Bool.{eqb-true}
 use Rattle.std.proofs.lemmas.Option.{none-some, same_Some}
 use Rattle.dump_file.specs.Dump.{DumpState}
@@ -12,7 +12,8 @@ use Rattle.route_audit.proofs.EndlessLemmas.{ways_are_followed}
 use Rattle.route_audit.specs.Channels.{leaves_by}
 use Rattle.route_audit.specs.Following.{end_from, turn}
 use Rattle.route_audit.specs.Laws.{IsWay, end_port_of}
-use Rattle.route_audit.specs.Plan.{port_of}
+use Rattle.route_audit.specs.Lids.{owner_of}
+use Rattle.route_audit.specs.Plan.{ends_of, port_of}
 use Rattle.route_audit.specs.Net.{NetState}
 use Rattle.smp_wire.specs.FabricState.{FabricState}
 use Rattle.subnet_fabric.specs.BringUp.{IsBroughtUpBy}
@@ -40,10 +41,11 @@ pub record IsEndOf (net : NetState) (lid : ℕ) (end : PortRef) : Type 0 where
   pub said : end_of lid (rows_of net.dump.tables) ≡ Some guid
   pub is : port_of net.plan.ends guid ≡ Some end
 
-pub end_is : (net : NetState) (lid : ℕ) (end : PortRef) → end_port_of net lid ≡ Some end → IsEndOf net lid end
-end_is net lid end is = by (end_of lid (rows_of net.dump.tables)) refl (end_kind net lid (end_of lid (rows_of net.dump.tables)) end is).0
+pub end_is : (plan : TopologyState) (dump : DumpState) (lid : ℕ) (end : PortRef) → end_port_of (over plan dump) lid ≡ Some end → IsEndOf (over plan dump) lid end
+end_is plan dump lid end is = by (end_of lid (rows_of dump.tables)) refl (end_kind (over plan dump) lid (owner_of (over plan dump) lid) end is).0
   where
-    by : (o : Option ℕ) → end_of lid (rows_of net.dump.tables) ≡ o → option_and_then (port_of net.plan.ends) o ≡ Some end → IsEndOf net lid end
+    -- a topology reports no LIDs
+    by : (o : Option ℕ) → end_of lid (rows_of dump.tables) ≡ o → option_and_then (port_of (ends_of plan.nodes)) (option_or o None) ≡ Some end → IsEndOf (over plan dump) lid end
     by None said is = absurd (none-some end is)
     by (Some guid) said is = record { guid = guid; said = said; is = is }
 
@@ -82,7 +84,7 @@ module _ (plan : TopologyState) (sound : IsSound plan) (keys : List (List ℕ)) 
   -- ---- along the route
   module _ (lid : ℕ) (end : PortRef) (is : end_port_of net lid ≡ Some end) where
     pub attached : Attached plan sound keys routes fabric up lid end
-    attached = let one = end_is net lid end is in is_attached_at plan sound keys routes fabric up lid one.guid end (shows.ends lid one.guid one.said) one.is
+    attached = let one = end_is plan dump lid end is in is_attached_at plan sound keys routes fabric up lid one.guid end (shows.ends lid one.guid one.said) one.is
 
     row_there : next_hop routes.between attached.place lid ≡ Some attached.number → HasRow net attached.node lid attached.number
     row_there out =

@@ -32,7 +32,7 @@ ports_are_found = record {
 
 pub troubles_are_reported : TroublesAreReported
 unfolding digits
-troubles_are_reported = record { hole = refl; loop = refl; wrong = refl; nowhere = refl; none = refl; stray = refl; closed_stray = refl; hole_to_a_router = refl; loop_to_a_router = refl; last_hop_to_a_router = refl }
+troubles_are_reported = record { hole = refl; loop = refl; wrong = refl; nowhere = refl; none = refl; stray = refl; closed_stray = refl; hole_to_a_router = refl; loop_to_a_router = refl; last_hop_to_a_router = refl; left_out = refl }
 
 pub deadlocks_are_reported : DeadlocksAreReported
 unfolding digits
@@ -40,7 +40,7 @@ deadlocks_are_reported = record { to_the_adapter = refl; none = refl }
 
 pub lacks_are_reported : LacksAreReported
 unfolding digits
-lacks_are_reported = record { table = refl; has_table = refl; switch = refl; has_switch = refl; end_port = refl; lid = refl; has_lid = refl }
+lacks_are_reported = record { table = refl; has_table = refl; switch = refl; has_switch = refl; end_port = refl; lid = refl; untold = refl; told = refl; has_lid = refl }
 
 pub kinds_are_reported : KindsAreReported
 kinds_are_reported = record { switch = refl; further = refl; adapter = refl; router = refl; lacking = refl; not_lacking = refl; router_lacking = refl }

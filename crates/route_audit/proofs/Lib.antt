@@ -4,6 +4,7 @@ pub mod PlanLemmas
 pub mod LookupLemmas
 pub mod FollowingLemmas
 pub mod LidLemmas
+pub mod LidIndexLemmas
 pub mod KindLemmas
 pub mod ChannelLemmas
 pub mod WaitLemmas
@@ -16,6 +17,7 @@ pub mod CycleLawLemmas
 pub mod ClosingLemmas
 pub mod WrongLemmas
 pub mod SafeLemmas
+pub mod LidLawLemmas
 pub mod ReportedLemmas
 pub mod ExampleLemmas
 pub mod ChannelLawLemmas

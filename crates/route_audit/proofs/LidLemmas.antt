@@ -11,7 +11,7 @@ use Rattle.step_results.proofs.RangeLemmas.{flat_more}
 use Rattle.dump_file.specs.declared.row.Row.{Row}
 use Rattle.dump_file.specs.declared.table.Table.{Table}
 use Rattle.dump_file.specs.Table.{rows_of}
-use Rattle.route_audit.specs.Lids.{aim_if, aim_of, aims, aims_below, all_lids, is_named}
+use Rattle.route_audit.specs.Lids.{aim_if, aim_of, aims, aims_below, all_lids, is_known_lid, is_named}
 use Rattle.route_audit.specs.Marks.{is_marked}
 use Rattle.route_audit.specs.Net.{NetState}
 
@@ -80,16 +80,16 @@ aims_by net test (lid ∷ lids) = elim (cases_Bool (test lid)) [
   | inr other ↦ rw (other, aims_by net test lids) refl
 ]
 
-filter_alike : (p q : ℕ → Bool) → ((x : ℕ) → p x ≡ q x) → (xs : List ℕ) → filter p xs ≡ filter q xs
+pub filter_alike : (p q : ℕ → Bool) → ((x : ℕ) → p x ≡ q x) → (xs : List ℕ) → filter p xs ≡ filter q xs
 filter_alike p q same [] = refl
 filter_alike p q same (x ∷ xs) = elim (cases_Bool (q x)) [
   | inl here ↦ let there : p x ≡ true = same x ∙ here in rw (here, there, filter_alike p q same xs) refl
   | inr other ↦ let there : p x ≡ false = same x ∙ other in rw (other, there, filter_alike p q same xs) refl
 ]
 
-pub aims_are : (net : NetState) (test : ℕ → Bool) → ((lid : ℕ) → test lid ≡ is_named (rows_of net.dump.tables) lid) → aims_below net test 65536 ≡ aims net
+pub aims_are : (net : NetState) → aims_below net (is_known_lid net) 65536 ≡ aims net
 unfolding all_lids
-aims_are net test same = aims_by net test (range_with_len 0 65536) ∙ ap (map (aim_of net)) (filter_alike test (is_named (rows_of net.dump.tables)) same (range_with_len 0 65536))
+aims_are net = aims_by net (is_known_lid net) (range_with_len 0 65536)
 
 pub aims_more : (net : NetState) (test : ℕ → Bool) (lid : ℕ) (so_far after : List _) → so_far ≡ aims_below net test lid → after ≡ so_far ++ aim_if net test lid → after ≡ aims_below net test (lid + 1)
 aims_more net test lid so_far after is more =

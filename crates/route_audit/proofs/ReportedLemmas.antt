@@ -6,7 +6,6 @@ use Rattle.std.specs.Option.{option_map_or}
 use Rattle.std.proofs.lemmas.Bool.{and_from, cases_Bool, eq-eqb, false≢true, or_left, or_right}
 use Rattle.std.proofs.lemmas.Bool.Decides.{nat_tests}
 use Rattle.std.proofs.lemmas.Option.{none-some}
-use Rattle.dump_file.specs.Table.{rows_of}
 use Rattle.dump_file.specs.declared.destination.Destination.{Destination}
 use Rattle.dump_file.specs.declared.destination.Destination.TheVariants.{ChannelAdapter, Switch, Router, FurtherLid, Nobody, NotReported}
 use Rattle.dump_file.specs.declared.row.Row.{Row}
@@ -25,12 +24,12 @@ use Rattle.route_audit.specs.Attached.{carries_host, leads_to_host}
 use Rattle.route_audit.specs.Audit.{audit_of, credit_loop}
 use Rattle.route_audit.specs.Channels.{deadlock}
 use Rattle.route_audit.specs.Following.{end_from, fate_by, turn}
-use Rattle.route_audit.specs.Laws.{AreSafe, CarriesAHost, IsAdaptersEnd, IsOfKind, NameTheSame, SafeRoutesAreReported, end_port_of, other_lids, says_safe}
-use Rattle.route_audit.specs.Lids.{aim_of, aims, all_lids, has_lid, have_lids, is_lacking, is_named, is_of, is_of_fabric, named_lids, says_of_fabric}
-use Rattle.route_audit.specs.Net.{NetState, row_at}
+use Rattle.route_audit.specs.Laws.{AreSafe, CarriesAHost, IsOfKind, NameTheSame, SafeRoutesAreReported, end_port_of, other_lids, says_safe}
+use Rattle.route_audit.specs.Lids.{aim_of, aims, all_lids, has_lid, have_lids, is_known_lid, is_lacking, is_of, is_of_fabric, known_lids, says_of_fabric}
+use Rattle.route_audit.specs.Net.{NetState, has_table, row_at}
 use Rattle.route_audit.specs.Plan.{is_host}
 use Rattle.route_audit.specs.Pairs.{all_reached, between_hosts, is_between_hosts, is_fate, pair_at, pair_to, pairs_at, pairs_by}
-use Rattle.route_audit.specs.Verdict.{goes_on_known, has_table, have_tables, is_known, is_unknown, knows_all, knows_entries, knows_next, name_the_same}
+use Rattle.route_audit.specs.Verdict.{goes_on_known, have_tables, is_known, is_unknown, knows_all, knows_entries, knows_next, name_the_same}
 use Rattle.route_audit.proofs.CycleLawLemmas.{reported_loops_wait}
 use Rattle.route_audit.proofs.EndlessLemmas.{in_kept, ways_are_followed}
 use Rattle.route_audit.proofs.SafeLemmas.{flat_mapped, has_end, in_lids, reported_is_safe}
@@ -49,14 +48,11 @@ all_kept p test (x ∷ xs) each = elim (cases_Bool (test x)) [
   | inr left ↦ rw left (all_kept p test xs each)
 ]
 
-some_table : (net : NetState) (lid : ℕ) (end : PortRef) → end_port_of net lid ≡ Some end → not (length net.dump.tables == 0) ≡ true
-some_table net lid end is = by net.dump.tables refl
-  where
-    by : (tables : List Table) → net.dump.tables ≡ tables → not (length net.dump.tables == 0) ≡ true
-    by [] none = let e : None ≡ Some end = rw none at is in cc
-    by (table ∷ tables) some =
-        let more : (suc (length tables) == 0) ≡ false = grind (arith, nat_tests) in
-        rw some (ap not more)
+some_table : (tables : List Table) → (tables ≡ [] → ⊥) → not (length tables == 0) ≡ true
+some_table [] some = absurd (some refl)
+some_table (table ∷ tables) some =
+    let more : (suc (length tables) == 0) ≡ false = grind (arith, nat_tests) in
+    ap not more
 
 all_tables : (net : NetState) → NameTheSame net → list_all (has_table net) (switches net.plan.nodes) ≡ true
 all_tables net same = all_kept (has_table net) (is_switch_at net.plan.nodes) (range_with_len 0 (length net.plan.nodes)) same.tables
@@ -113,11 +109,11 @@ not_lacking net lid below same = by (end_port_of net lid) refl
 none_lacks : (net : NetState) → NameTheSame net → not (list_any (is_lacking net) (aims net)) ≡ true
 unfolding all_lids
 none_lacks net same =
-    ap not (none_kept (is_lacking net) (aim_of net) (is_named (rows_of net.dump.tables)) 0 65536 (λ lid below. not_lacking net lid below same))
+    ap not (none_kept (is_lacking net) (aim_of net) (is_known_lid net) 0 65536 (λ lid below. not_lacking net lid below same))
 
-all_same : (net : NetState) (lid : ℕ) (end : PortRef) → end_port_of net lid ≡ Some end → NameTheSame net → name_the_same net (aims net) ≡ true
-all_same net lid end is same =
-    and_from (have_tables net) _ (and_from (list_all (has_table net) (switches net.plan.nodes)) _ (all_tables net same) (some_table net lid end is))
+all_same : (net : NetState) → NameTheSame net → name_the_same net (aims net) ≡ true
+all_same net same =
+    and_from (have_tables net) _ (and_from (list_all (has_table net) (switches net.plan.nodes)) _ (all_tables net same) (some_table net.dump.tables same.some))
     (and_from (list_all (is_known net) net.dump.tables) _ (each_table (is_known net) net.dump.tables same.switches) (none_lacks net same))
 
 -- ---- each port of an adapter that has a cable has a LID
@@ -136,9 +132,9 @@ port_has net at safe cabled = elim (cases_Bool (is_switch_at net.plan.nodes at.n
       let named = safe.named at (adapter, cabled) in
       let has : is_of at (aim_of net named.0) ≡ true =
       ap (λ (o : Option PortRef). option_map_or (λ end. is_same_port end at) o false) named.2 ∙ itself at in
-      let listed : list_any (λ n. n == named.0) (named_lids net.dump) ≡ true =
-      in_kept (is_named (rows_of net.dump.tables)) named.0 all_lids (has_end net named.0 at named.2) (in_lids named.0 named.1) in
-      rw adapter (in_mapped net at named.0 (named_lids net.dump) listed has)
+      let listed : list_any (λ n. n == named.0) (known_lids net) ≡ true =
+      in_kept (is_known_lid net) named.0 all_lids (has_end net named.0 at named.2) (in_lids named.0 named.1) in
+      rw adapter (in_mapped net at named.0 (known_lids net) listed has)
 ]
 
 all_cables : (p : Cable → Bool) (whole cables : List Cable) → ((at : PortRef) → is_cabled cables at ≡ true → is_cabled whole at ≡ true)
@@ -228,8 +224,8 @@ unfolding all_lids
 all_pairs net safe =
     each_in_range (pairs_at net (aims net)) (is_switch_at net.plan.nodes) 0 (length net.plan.nodes)
     (λ place within switch.
-    ap (λ (pairs : List Pair). all_reached (between_hosts pairs)) (flat_mapped (pair_at net place) (aim_of net) (named_lids net.dump))
-    ∙ each_in_range (λ n. pair_at net place (aim_of net n)) (is_named (rows_of net.dump.tables)) 0 65536
+    ap (λ (pairs : List Pair). all_reached (between_hosts pairs)) (flat_mapped (pair_at net place) (aim_of net) (known_lids net))
+    ∙ each_in_range (λ n. pair_at net place (aim_of net n)) (is_known_lid net) 0 65536
     (λ lid below named. pair_fine net place lid (aim_of net lid).end
     (λ end is host carrying. ways_are_followed.reported net lid place (turns.Arrives end) switch
     (safe.reached place lid end (carried net place switch carrying) below is host))))
@@ -278,14 +274,13 @@ knows_each net safe =
     (λ place switch.
     all_listed (knows_next net place) (other_lids net) (other_lids net) (λ lid there. there) (λ lid there. knows_one net safe place lid switch there))
 
-safe_is_reported : (net : NetState) (end : PortRef) → IsAdaptersEnd net end → AreSafe net → says_safe net ≡ true
+safe_is_reported : (net : NetState) → AreSafe net → says_safe net ≡ true
 unfolding audit_of
-safe_is_reported net end is safe =
-    let named = safe.named end is in
+safe_is_reported net safe =
     and_from (list_all (have_lids net (aims net)) net.plan.cables) _ (cables_have net safe)
     (and_from (all_reached (between_hosts (pairs_by net (aims net)))) _ (all_pairs net safe)
     (and_from (is_none (credit_loop net (aims net))) _ (no_ring net safe)
-    (and_from (name_the_same net (aims net)) _ (all_same net named.0 end named.2 safe.same) (knows_each net safe))))
+    (and_from (name_the_same net (aims net)) _ (all_same net safe.same) (knows_each net safe))))
 
 pub safe_routes_are_reported : SafeRoutesAreReported
 safe_routes_are_reported = record { safe = reported_is_safe; reported = safe_is_reported }

@@ -1,8 +1,8 @@
 -- What is reported to be safe is.
-use Rattle.std.proofs.Common.{◌≡◌, ◌∙◌, inl, inr, ap, ap₂, refl, subst, sym, ℕ, zero, suc, ◌+◌, ◌<◌, ◌≤◌, nat_lt, Bool, true, false, not, ◌==◌, if◌then◌else◌, List, [], ◌∷◌, ◌++◌, filter, map, flat_map, slice_get, arith}
-use Rattle.std.proofs.Common.{Option, Some, None, is_none}
+use Rattle.std.proofs.Common.{◌≡◌, ◌∙◌, inl, inr, ap, ap₂, refl, subst, sym, ℕ, zero, suc, ◌+◌, ◌<◌, ◌≤◌, nat_lt, Bool, true, false, not, ◌==◌, if◌then◌else◌, List, [], ◌∷◌, ◌++◌, filter, length, map, flat_map, slice_get, arith}
+use Rattle.std.proofs.Common.{Option, Some, None, is_none, is_some}
 use Rattle.std.specs.List.{list_all, list_any, range_with_len}
-use Rattle.std.specs.Option.{option_and_then, option_map_or}
+use Rattle.std.specs.Option.{option_and_then, option_map_or, option_or}
 use Rattle.std.proofs.lemmas.Bool.{and_from, and_parts, cases_Bool, eqb-true, false≢true, not-true, or_left, or_right}
 use Rattle.std.proofs.lemmas.Bool.Decides.{nat_tests}
 use Rattle.std.proofs.lemmas.List.Folds.{list_any-append}
@@ -29,11 +29,11 @@ use Rattle.route_audit.specs.Attached.{carries_host, leads_to_host}
 use Rattle.route_audit.specs.Audit.{audit_of, credit_loop}
 use Rattle.route_audit.specs.Following.{end_from, fate_by, switch_total, turn}
 use Rattle.route_audit.specs.Laws.{AreSafe, CarriesAHost, EndsBy, IsAdaptersEnd, IsOfKind, NameTheSame, end_port_of, other_lids, says_safe}
-use Rattle.route_audit.specs.Lids.{aim_of, aims, all_lids, end_by, has_lid, have_lids, if_of_kind, is_lacking, is_named, is_of, is_of_fabric, is_of_kind, named_lids, says_kind, says_of_fabric}
+use Rattle.route_audit.specs.Lids.{aim_of, aims, all_lids, end_by, has_lid, have_lids, if_of_kind, is_known_lid, is_lacking, is_named, is_of, is_of_fabric, is_of_kind, known_lids, owner_of, reported_end, says_kind, says_of_fabric}
 use Rattle.route_audit.specs.Plan.{is_host, port_of}
-use Rattle.route_audit.specs.Net.{NetState, row_at, row_of, table_of}
+use Rattle.route_audit.specs.Net.{NetState, has_table, row_at, row_of, table_of}
 use Rattle.route_audit.specs.Pairs.{all_reached, between_hosts, is_between_hosts, is_fate, pair_at, pair_to, pairs_at, pairs_by}
-use Rattle.route_audit.specs.Verdict.{goes_on_known, has_table, have_tables, is_known, is_unknown, knows_all, knows_entries, knows_next, name_the_same}
+use Rattle.route_audit.specs.Verdict.{goes_on_known, have_tables, is_known, is_unknown, knows_all, knows_entries, knows_next, name_the_same}
 use Rattle.route_audit.proofs.CycleLawLemmas.{no_cycle_is_missed}
 use Rattle.route_audit.proofs.EndlessLemmas.{in_kept, in_range, is_listed, way_there}
 
@@ -66,7 +66,7 @@ pub flat_mapped : (f : Aim → List Pair) (g : ℕ → Aim) (xs : List ℕ) → 
 flat_mapped f g [] = refl
 flat_mapped f g (x ∷ xs) = ap (λ (rest : List Pair). f (g x) ++ rest) (flat_mapped f g xs)
 
--- ---- a LID that has an end port is named
+-- ---- a LID that has an end port is named or reported
 said_named : (lid : ℕ) (rows : List Row) (guid : ℕ) → end_of lid rows ≡ Some guid → is_named rows lid ≡ true
 said_named lid [] guid said = cc
 said_named lid (row ∷ rows) guid said = elim (cases_Bool (row.lid == lid)) [
@@ -74,12 +74,19 @@ said_named lid (row ∷ rows) guid said = elim (cases_Bool (row.lid == lid)) [
   | inr other ↦ let later : end_of lid rows ≡ Some guid = rw other at said in or_right (row.lid == lid) _ (said_named lid rows guid later)
 ]
 
-pub has_end : (net : NetState) (lid : ℕ) (end : PortRef) → (aim_of net lid).end ≡ Some end → is_named (rows_of net.dump.tables) lid ≡ true
-has_end net lid end is = by (end_of lid (rows_of net.dump.tables)) refl is
+owner_known : (net : NetState) (lid guid : ℕ) → owner_of net lid ≡ Some guid → is_known_lid net lid ≡ true
+owner_known net lid guid is = by (end_of lid (rows_of net.dump.tables)) refl is
   where
-    by : (o : Option ℕ) → end_of lid (rows_of net.dump.tables) ≡ o → end_by net lid o ≡ Some end → is_named (rows_of net.dump.tables) lid ≡ true
-    by (Some guid) said found = said_named lid (rows_of net.dump.tables) guid said
-    by None said found = cc
+    by : (o : Option ℕ) → end_of lid (rows_of net.dump.tables) ≡ o → option_or o (reported_end net lid) ≡ Some guid → is_known_lid net lid ≡ true
+    by (Some other) said found = or_left (is_named (rows_of net.dump.tables) lid) _ (said_named lid (rows_of net.dump.tables) other said)
+    by None said found = or_right (is_named (rows_of net.dump.tables) lid) _ (ap (λ (o : Option ℕ). is_some o) found)
+
+pub has_end : (net : NetState) (lid : ℕ) (end : PortRef) → (aim_of net lid).end ≡ Some end → is_known_lid net lid ≡ true
+has_end net lid end is = by (owner_of net lid) refl is
+  where
+    by : (o : Option ℕ) → owner_of net lid ≡ o → end_by net lid o ≡ Some end → is_known_lid net lid ≡ true
+    by (Some guid) owner found = owner_known net lid guid owner
+    by None owner found = cc
 
 pub in_lids : (lid : ℕ) → lid < 65536 → list_any (λ n. n == lid) all_lids ≡ true
 unfolding all_lids
@@ -142,9 +149,9 @@ kept_below test first (suc count) most = elim (cases_Bool (test first)) [
   | inr left ↦ rw left (kept_below test (first + 1) count (omega (arith, most)))
 ]
 
-names_below : (net : NetState) → list_all (λ n. nat_lt n 65536) (named_lids net.dump) ≡ true
+names_below : (net : NetState) → list_all (λ n. nat_lt n 65536) (known_lids net) ≡ true
 unfolding all_lids
-names_below net = kept_below (is_named (rows_of net.dump.tables)) 0 65536 (omega arith)
+names_below net = kept_below (is_known_lid net) 0 65536 (omega arith)
 
 -- the ends of a cable have LIDs, and so has the port at which one of these cables ends
 of_cable : (net : NetState) (all : List Aim) (end : PortRef) (cable : Cable) → ends_at end cable ≡ true → have_lids net all cable ≡ true → has_lid net all end ≡ true
@@ -167,7 +174,7 @@ of_cables net all end (cable ∷ cables) is have =
 names : (net : NetState) (end : PortRef) → list_all (have_lids net (aims net)) net.plan.cables ≡ true → IsAdaptersEnd net end → (lid : ℕ) × (lid < 65536) × (end_port_of net lid ≡ Some end)
 names net end have is =
     let has = of_cables net (aims net) end net.plan.cables is.1 have in
-    lid_of_port net end (named_lids net.dump) (names_below net) (rw is.0 at has)
+    lid_of_port net end (known_lids net) (names_below net) (rw is.0 at has)
 
 -- ---- what carries a host
 pub carries : (net : NetState) (place : ℕ) → CarriesAHost net place → carries_host net place ≡ true
@@ -227,8 +234,8 @@ row_named net place lid row is = by (slice_get net.plan.nodes place) is
     by None found = cc
     by (Some node) found = table_named lid row net.dump.tables (place_of node.guid net.dump.tables) found
 
-pub is_named_lid : (net : NetState) (lid : ℕ) → lid < 65536 → is_named (rows_of net.dump.tables) lid ≡ true → list_any (λ n. n == lid) (named_lids net.dump) ≡ true
-is_named_lid net lid below named = in_kept (is_named (rows_of net.dump.tables)) lid all_lids named (in_lids lid below)
+pub is_listed_lid : (net : NetState) (lid : ℕ) → lid < 65536 → is_known_lid net lid ≡ true → list_any (λ n. n == lid) (known_lids net) ≡ true
+is_listed_lid net lid below known = in_kept (is_known_lid net) lid all_lids known (in_lids lid below)
 
 -- the end port that a LID has is of the kind that each row says
 kept_end : (b : Bool) (end other : PortRef) → (if b then Some end else None) ≡ Some other → (b ≡ true) × (end ≡ other)
@@ -280,7 +287,7 @@ ends_are : (net : NetState) → not (list_any (is_lacking net) (aims net)) ≡ t
 ends_are net none place lid row switch below is = by (end_port_of net lid) refl
   where
     lacks : is_lacking net (aim_of net lid) ≡ false
-    lacks = not_lacking (is_lacking net) (aim_of net) (named_lids net.dump) lid (is_named_lid net lid below (row_named net place lid row is)) none
+    lacks = not_lacking (is_lacking net) (aim_of net) (known_lids net) lid (is_listed_lid net lid below (or_left (is_named (rows_of net.dump.tables) lid) _ (row_named net place lid row is))) none
 
     by : (o : Option PortRef) → end_port_of net lid ≡ o → IsOfKind net lid row.destination
     by (Some end) has =
@@ -298,12 +305,16 @@ ends_are net none place lid row switch below is = by (end_port_of net lid) refl
           absurd (false≢true (sym lacks ∙ lacking))
     ]
 
+no_tables : (tables : List Table) → tables ≡ [] → not (length tables == 0) ≡ true → ⊥
+no_tables tables none some = false≢true (sym (ap (λ (all : List Table). not (length all == 0)) none) ∙ some)
+
 names_same : (net : NetState) → name_the_same net (aims net) ≡ true → NameTheSame net
 names_same net same =
     let parts = and_parts (have_tables net) _ same in
     let tables = and_parts (list_all (has_table net) (switches net.plan.nodes)) _ parts.0 in
     let known = and_parts (list_all (is_known net) net.dump.tables) _ parts.1 in
     record {
+      some = λ none. no_tables net.dump.tables none tables.1;
       tables = λ place switch. each_listed (has_table net) (switches net.plan.nodes) place (is_listed net.plan.nodes place switch) tables.0;
       switches = λ k table there. all_there (is_known net) net.dump.tables k table known.0 there;
       ends = ends_are net known.1;
@@ -314,9 +325,9 @@ reaches : (net : NetState) → all_reached (between_hosts (pairs_by net (aims ne
     → end_port_of net lid ≡ Some end → is_host net.plan end.node ≡ true → EndsBy net lid place (turns.Arrives end)
 reaches net all place lid end carrying below has_port host =
     let here = each_reached (pairs_at net (aims net)) (switches net.plan.nodes) place (is_listed net.plan.nodes place carrying.switch) all in
-    let named = is_named_lid net lid below (has_end net lid end has_port) in
-    let pair = each_reached (λ n. pair_at net place (aim_of net n)) (named_lids net.dump) lid named
-    (ap (λ (pairs : List Pair). all_reached (between_hosts pairs)) (sym (flat_mapped (pair_at net place) (aim_of net) (named_lids net.dump))) ∙ here) in
+    let named = is_listed_lid net lid below (has_end net lid end has_port) in
+    let pair = each_reached (λ n. pair_at net place (aim_of net n)) (known_lids net) lid named
+    (ap (λ (pairs : List Pair). all_reached (between_hosts pairs)) (sym (flat_mapped (pair_at net place) (aim_of net) (known_lids net))) ∙ here) in
     way_there net lid (switch_total net) place (turns.Arrives end)
     (pair_reached net place lid (aim_of net lid).end end has_port host (carries net place carrying) pair)
 

@@ -1,6 +1,6 @@
 -- What is wrong has its line.
-use Rattle.std.proofs.Common.{◌≡◌, ◌∙◌, ◌⊎◌, inl, inr, ap, refl, subst, sym, ℕ, zero, suc, ◌+◌, ◌-◌, ◌<◌, ◌≤◌, Bool, true, false, ◌==◌, nat_le, List, [], ◌∷◌, length, ◌++◌, codes, decimal, flat_map, arith}
-use Rattle.std.proofs.Common.{Option, Some, None, option_map}
+use Rattle.std.proofs.Common.{◌≡◌, ◌∙◌, ◌⊎◌, inl, inr, ap, refl, subst, sym, ℕ, zero, suc, ◌+◌, ◌-◌, ◌<◌, ◌≤◌, Bool, true, false, ◌==◌, nat_le, List, [], ◌∷◌, length, ◌++◌, codes, flat_map, arith}
+use Rattle.std.proofs.Common.{Option, Some, None, is_some, option_map}
 use Rattle.std.specs.List.{list_any}
 use Rattle.std.proofs.lemmas.Bool.{and_from, cases_Bool, cases_lt, false≢true}
 use Rattle.std.proofs.lemmas.Bool.Decides.{nat_tests}
@@ -17,8 +17,8 @@ use Rattle.route_audit.specs.declared.following.Fate.TheVariants as fates
 use Rattle.route_audit.specs.Following.{back, end_from, end_within, fate_by, if_goes, loop_from, switch_total, then_end, turn}
 use Rattle.route_audit.specs.Laws.{ComesBy, EndsBy, HasItsLine, IsWay, NeverEnds, EachTroubleHasALine}
 use Rattle.route_audit.specs.Lids.{aim_of}
-use Rattle.route_audit.specs.Lines.{is_least, lid_text, line_by, loop_line, name_word, nobodys_line, stray_line, trouble_line, trouble_to, unplaced_line}
-use Rattle.route_audit.specs.Net.{NetState}
+use Rattle.route_audit.specs.Lines.{is_least, left_out_line, lid_text, line_by, loop_line, name_text, name_word, nobodys_line, stray_line, trouble_line, trouble_to, unplaced_line}
+use Rattle.route_audit.specs.Net.{NetState, table_at}
 use Rattle.route_audit.proofs.EndlessLemmas.{is_listed, loops_never_end, turn_goes, way_there}
 
 module _ (net : NetState) (lid : ℕ) where
@@ -325,6 +325,34 @@ module _ (net : NetState) (lid : ℕ) where
       has_line place turns.Hole (ends_there place way.0 turns.Hole switch way.1)
       (λ there hole none. hole_shown there guid (aim_of net lid).end hole (sym (ap (λ (o : Option ℕ). trouble_to net there lid o (aim_of net lid).end) named) ∙ none))
 
+  -- ---- packets to a port that is known come to an entry that is not, in a table
+  left_out_shown : (there guid : ℕ) (end : Option PortRef) → is_some (table_at net there) ≡ true → turn net lid there ≡ turns.Unknown
+      → trouble_to net there lid (Some guid) end ≡ [] → ⊥
+  left_out_shown there guid (Some end) has unknown none =
+      let line : List ℕ = codes "left-out " ++ name_text net there ++ codes " " ++ lid_text net lid (Some end) ++ 10 ∷ [] in
+      let shown : left_out_line net there lid (Some end) ≡ line = rw has refl in
+      let empty : line ≡ [] = sym shown ∙ (sym (ap (line_by net there lid end) unknown) ∙ none) in
+      cc
+  left_out_shown there guid None has unknown none =
+      let line : List ℕ = codes "left-out " ++ name_text net there ++ codes " " ++ lid_text net lid None ++ 10 ∷ [] in
+      let shown : left_out_line net there lid None ≡ line = rw has refl in
+      let empty : line ≡ [] = sym shown ∙ (sym (ap (unplaced_line net there lid) unknown) ∙ none) in
+      cc
+
+  unknown_reported : (place guid : ℕ) → is_switch_at net.plan.nodes place ≡ true → (aim_of net lid).guid ≡ Some guid
+      → ((there : ℕ) (way : List ℕ) → ComesBy net lid place way there → is_some (table_at net there) ≡ true) → EndsBy net lid place turns.Unknown
+      → HasItsLine trouble_line net lid place
+  unknown_reported place guid switch named tables way =
+      let ends = ends_there place way.0 turns.Unknown switch way.1 in
+      record {
+        there = ends.there;
+        of_switch = ends.of_switch;
+        way = ends.way;
+        comes = ends.comes;
+        reported = λ none. left_out_shown ends.there guid (aim_of net lid).end (tables ends.there ends.way ends.comes) ends.is
+            (sym (ap (λ (o : Option ℕ). trouble_to net ends.there lid o (aim_of net lid).end) named) ∙ none);
+      }
+
   -- ---- packets to an end port of the topology
   module _ (end : PortRef) (named : (aim_of net lid).end ≡ Some end) where
     line_is : (there : ℕ) → trouble_line net there (aim_of net lid) ≡ line_by net there lid end (turn net lid there)
@@ -366,5 +394,6 @@ pub each_trouble_has_a_line : EachTroubleHasALine
 each_trouble_has_a_line = record {
   lost = λ net lid place end switch named reached unknown. by_end net lid end named place (end_from net lid place) switch refl reached unknown;
   ended = λ net lid place guid switch named way. hole_reported net lid place guid switch named way;
+  unknown = λ net lid place guid switch named tables way. unknown_reported net lid place guid switch named tables way;
   endless = λ net lid place switch never. loop_line_reported net lid place (record { of_switch = switch; never = never });
 }

@@ -1,9 +1,11 @@
 -- What wrong rules report of two switches.
-use Rattle.std.proofs.Common.{◌≡◌, ◌∙◌, ◌==◌, ◌≤◌, ◌+◌, inl, inr, ℕ, zero, suc, nat_lt, true, false, List, Option, Some, None, ap, filter, lit<, lit≤, map, refl, sym, [], ◌∷◌}
+use Rattle.std.proofs.Common.{◌≡◌, ◌∙◌, ◌==◌, ◌≤◌, ◌<◌, ◌+◌, ◌||◌, inl, inr, ℕ, zero, suc, nat_le, nat_lt, Bool, true, false, List, Option, Some, None, is_some, ap, filter, lit<, map, refl, sym, [], ◌∷◌}
 use Rattle.std.proofs.Common.{arith}
 use Rattle.std.specs.List.{list_all, list_any, range_with_len}
+use Rattle.std.specs.Option.{option_map_or}
 use Rattle.std.proofs.lemmas.Bool.{cases_Bool, false≢true}
 use Rattle.std.proofs.lemmas.Bool.Decides.{nat_tests}
+use Rattle.dump_file.specs.Row.{end_of}
 use Rattle.dump_file.specs.Table.{rows_of}
 use Rattle.dump_file.specs.declared.row.Row.{Row}
 use Rattle.fabric_parts.specs.Cable.{port}
@@ -16,14 +18,17 @@ use Rattle.route_audit.specs.Audit.{audit_of}
 use Rattle.route_audit.specs.Channels.{depends}
 use Rattle.route_audit.specs.Following.{end_within}
 use Rattle.route_audit.specs.Laws.{CarriesAHost, ComesBy, IsWay, is_cycle, other_lids, says_safe}
-use Rattle.route_audit.specs.Lids.{aim_of, aims, all_lids, is_named}
-use Rattle.route_audit.specs.Net.{NetState}
+use Rattle.route_audit.specs.Lids.{aim_of, aims, all_lids, is_known_lid, is_named, reported_by}
+use Rattle.route_audit.specs.Net.{NetState, table_at}
+use Rattle.route_audit.specs.Verdict.{is_unknown}
+use Rattle.route_audit.specs.declared.ends.LidGuid.{LidGuid}
 use Rattle.route_audit.specs.WrongRules.{AggregationDecidesNothing, UnknownEntriesDecide, an_aggregations_hole, an_unknown_entry, to_each_adapter, with_unknown}
 use Rattle.route_audit.specs.WrongRules.{EachStepHasItsLid, LidsGoOnRound, all_three, both_ways, one_way, three_ways}
 use Rattle.route_audit.specs.WrongRules.{FirstPortsAreChannels, HolesAreCounted, HolesHaveALine, LidsAreAsked, LoopsBeginWhereReported, LoopsHaveALine, NobodysLoopsHaveALine, OtherLidsDecide}
-use Rattle.route_audit.specs.WrongRules.{OtherLidsDoNotCount, OtherPortsDecide, OtherTablesDecide, OthersHolesHaveALine, TheLastWaitsForTheFirst, TransitDecidesNothing, TwoMakeACycle, WaysAreAsked}
-use Rattle.route_audit.specs.WrongRules.{WaysAreLonger, a_hole, a_hole_at_home, a_loop, a_nobodys_loop, a_routers_hole, a_routers_loop, a_third_table, adapters_row, another_adapter, another_row, by_adapters_lids}
+use Rattle.route_audit.specs.WrongRules.{OtherLidsDoNotCount, OtherPortsDecide, OtherTablesDecide, OldLidsDoNotCount, OthersHolesHaveALine, ReportedLidsCount, ReportsComeLast, RowsLeftOutHaveALine, TheLastWaitsForTheFirst, TransitDecidesNothing, TwoMakeACycle, WaysAreAsked}
+use Rattle.route_audit.specs.WrongRules.{WaysAreLonger, a_row_left_out, one_reports, two_say, a_hole, a_hole_at_home, a_loop, a_nobodys_loop, a_routers_hole, a_routers_loop, a_third_table, adapters_row, another_adapter, another_row, by_adapters_lids}
 use Rattle.route_audit.specs.WrongRules.{from_each_switch, is_going, is_hole, no_lids, silent_of_nobody, silent_where, two_switches, two_with, with_other_ports, with_other_tables, with_rows, without_lids, without_ways}
+use Rattle.route_audit.proofs.LidLemmas.{filter_alike, or_last}
 use Rattle.route_audit.proofs.SafeLemmas.{reported_is_safe}
 
 pub ways_are_longer : WaysAreLonger
@@ -88,20 +93,32 @@ few_named rows bound first (suc few) (suc many) less past below =
       | inr other ↦ rw other rest
     ]
 
-aims_to_64 : (net : NetState) → list_all (λ (row : Row). nat_lt row.lid 65) (rows_of net.dump.tables) ≡ true
-    → aims net ≡ map (aim_of net) (filter (is_named (rows_of net.dump.tables)) (range_with_len 0 65))
-unfolding all_lids
-aims_to_64 net below = ap (map (aim_of net)) (few_named (rows_of net.dump.tables) 65 0 65 65536 (lit≤ tt) (lit≤ tt) below)
+-- where nobody reports a LID the known ones are those that rows name
+named_alone : (net : NetState) (lid : ℕ) → net.plan.lids ≡ [] → is_known_lid net lid ≡ is_named (rows_of net.dump.tables) lid
+named_alone net lid none =
+    ap (λ (lids : List LidGuid). is_named (rows_of net.dump.tables) lid || is_some (reported_by (rows_of net.dump.tables) lids lid)) none
+    ∙ or_last (is_named (rows_of net.dump.tables) lid)
 
-few_aims : (net : NetState) → list_all (λ (row : Row). nat_lt row.lid 3) (rows_of net.dump.tables) ≡ true
-    → aims net ≡ map (aim_of net) (filter (is_named (rows_of net.dump.tables)) (range_with_len 0 3))
+aims_by : (net : NetState) (bound : ℕ) → nat_le bound 65536 ≡ true → net.plan.lids ≡ [] → list_all (λ (row : Row). nat_lt row.lid bound) (rows_of net.dump.tables) ≡ true
+    → aims net ≡ map (aim_of net) (filter (is_named (rows_of net.dump.tables)) (range_with_len 0 bound))
 unfolding all_lids
-few_aims net below = ap (map (aim_of net)) (few_named (rows_of net.dump.tables) 3 0 3 65536 (lit≤ tt) (lit≤ tt) below)
+aims_by net bound few none below =
+    let most : bound ≤ 65536 = grind (arith, nat_tests, few) in
+    ap (map (aim_of net)) (filter_alike (is_known_lid net) (is_named (rows_of net.dump.tables)) (λ lid. named_alone net lid none) (range_with_len 0 65536)
+    ∙ few_named (rows_of net.dump.tables) bound 0 bound 65536 most (omega arith) below)
+
+aims_to_64 : (net : NetState) → net.plan.lids ≡ [] → list_all (λ (row : Row). nat_lt row.lid 65) (rows_of net.dump.tables) ≡ true
+    → aims net ≡ map (aim_of net) (filter (is_named (rows_of net.dump.tables)) (range_with_len 0 65))
+aims_to_64 net none below = aims_by net 65 refl none below
+
+few_aims : (net : NetState) → net.plan.lids ≡ [] → list_all (λ (row : Row). nat_lt row.lid 3) (rows_of net.dump.tables) ≡ true
+    → aims net ≡ map (aim_of net) (filter (is_named (rows_of net.dump.tables)) (range_with_len 0 3))
+few_aims net none below = aims_by net 3 refl none below
 
 -- ---- what the verdict asks
 pub lids_are_asked : LidsAreAsked
 lids_are_asked law =
-    let reported : without_lids no_lids ≡ true = rw (few_aims no_lids refl) refl in
+    let reported : without_lids no_lids ≡ true = rw (few_aims no_lids refl refl) refl in
     let named = (law.safe no_lids reported).named (port 2 1) (refl, refl) in
     let is : (aim_of no_lids named.0).end ≡ Some (port 2 1) = named.2 in
     cc
@@ -115,55 +132,55 @@ hole_ends (next ∷ way) is = let e : turns.Hole ≡ turns.Goes next = is.0 in c
 
 pub ways_are_asked : WaysAreAsked
 ways_are_asked law =
-    let reported : without_ways a_hole_at_home ≡ true = rw (few_aims a_hole_at_home refl) refl in
+    let reported : without_ways a_hole_at_home ≡ true = rw (few_aims a_hole_at_home refl refl) refl in
     let way = (law.safe a_hole_at_home reported).reached 0 1 (port 2 1) (first_carries _ _) (lit< tt) refl refl in
     hole_ends way.0 way.1
 
 hole_is_safe : says_safe a_hole ≡ true
 unfolding audit_of
-hole_is_safe = rw (few_aims a_hole refl) refl
+hole_is_safe = rw (few_aims a_hole refl refl) refl
 
 hole_is_asked : from_each_switch a_hole ≡ false
-hole_is_asked = rw (few_aims a_hole refl) refl
+hole_is_asked = rw (few_aims a_hole refl refl) refl
 
 pub transit_decides_nothing : TransitDecidesNothing
-transit_decides_nothing law = false≢true (sym hole_is_asked ∙ law.reported a_hole (port 2 1) (refl, refl) (reported_is_safe a_hole hole_is_safe))
+transit_decides_nothing law = false≢true (sym hole_is_asked ∙ law.reported a_hole (reported_is_safe a_hole hole_is_safe))
 
 aggregation_is_safe : says_safe an_aggregations_hole ≡ true
 unfolding audit_of
-aggregation_is_safe = rw (few_aims an_aggregations_hole refl) refl
+aggregation_is_safe = rw (few_aims an_aggregations_hole refl refl) refl
 
 aggregation_is_asked : to_each_adapter an_aggregations_hole ≡ false
-aggregation_is_asked = rw (few_aims an_aggregations_hole refl) refl
+aggregation_is_asked = rw (few_aims an_aggregations_hole refl refl) refl
 
 pub aggregation_decides_nothing : AggregationDecidesNothing
 aggregation_decides_nothing law =
-    false≢true (sym aggregation_is_asked ∙ law.reported an_aggregations_hole (port 2 1) (refl, refl) (reported_is_safe an_aggregations_hole aggregation_is_safe))
+    false≢true (sym aggregation_is_asked ∙ law.reported an_aggregations_hole (reported_is_safe an_aggregations_hole aggregation_is_safe))
 
 pub other_lids_decide : OtherLidsDecide
 other_lids_decide law =
-    let reported : by_adapters_lids a_routers_loop ≡ true = rw (few_aims a_routers_loop refl) refl in
+    let reported : by_adapters_lids a_routers_loop ≡ true = rw (few_aims a_routers_loop refl refl) refl in
     let free = (law.safe a_routers_loop reported).free (port 0 2 ∷ port 1 1 ∷ []) refl in
-    let waits : is_cycle (depends a_routers_loop (other_lids a_routers_loop)) (port 0 2 ∷ port 1 1 ∷ []) ≡ true = rw (few_aims a_routers_loop refl) refl in
+    let waits : is_cycle (depends a_routers_loop (other_lids a_routers_loop)) (port 0 2 ∷ port 1 1 ∷ []) ≡ true = rw (few_aims a_routers_loop refl refl) refl in
     false≢true (sym free ∙ waits)
 
 pub other_tables_decide : OtherTablesDecide
 other_tables_decide law =
-    let reported : with_other_tables a_third_table ≡ true = rw (few_aims a_third_table refl) refl in
+    let reported : with_other_tables a_third_table ≡ true = rw (few_aims a_third_table refl refl) refl in
     let known = (law.safe a_third_table reported).same.switches 2 (with_rows 48 (adapters_row 1 ∷ [])) refl in
     false≢true known
 
 pub other_ports_decide : OtherPortsDecide
 other_ports_decide law =
-    let reported : with_other_ports another_adapter ≡ true = rw (few_aims another_adapter refl) refl in
+    let reported : with_other_ports another_adapter ≡ true = rw (few_aims another_adapter refl refl) refl in
     let end = (law.safe another_adapter reported).same.ends 0 2 another_row refl (lit< tt) refl in
     let is : (aim_of another_adapter 2).end ≡ Some end.0 = end.1 in
     cc
 
 pub unknown_entries_decide : UnknownEntriesDecide
 unknown_entries_decide law =
-    let reported : with_unknown an_unknown_entry ≡ true = rw (aims_to_64 an_unknown_entry refl) refl in
-    let among : list_any (λ n. n == 64) (other_lids an_unknown_entry) ≡ true = rw (aims_to_64 an_unknown_entry refl) refl in
+    let reported : with_unknown an_unknown_entry ≡ true = rw (aims_to_64 an_unknown_entry refl refl) refl in
+    let among : list_any (λ n. n == 64) (other_lids an_unknown_entry) ≡ true = rw (aims_to_64 an_unknown_entry refl refl) refl in
     (law.safe an_unknown_entry reported).known 0 64 1 refl among refl refl
 
 -- ---- lines that are lacking
@@ -206,3 +223,39 @@ pub nobodys_loops_have_a_line : NobodysLoopsHaveALine
 nobodys_loops_have_a_line law =
     let line = law.endless a_nobodys_loop 2 0 refl (λ count. (nobodys_never_end count).0) in
     line.reported (nobodys_is_silent line.there line.of_switch)
+
+-- ---- entries that are not known
+unknown_is_silent : (there : ℕ) (way : List ℕ) → ComesBy a_row_left_out 64 1 way there → silent_where is_unknown a_row_left_out there (aim_of a_row_left_out 64) ≡ []
+unknown_is_silent there [] comes = rw (sym comes) refl
+unknown_is_silent there (next ∷ way) comes = absurd (let e : turns.Unknown ≡ turns.Goes next = comes.0 in cc)
+
+comes_to_tables : (there : ℕ) (way : List ℕ) → ComesBy a_row_left_out 64 1 way there → is_some (table_at a_row_left_out there) ≡ true
+comes_to_tables there [] comes = rw (sym comes) refl
+comes_to_tables there (next ∷ way) comes = absurd (let e : turns.Unknown ≡ turns.Goes next = comes.0 in cc)
+
+pub rows_left_out_have_a_line : RowsLeftOutHaveALine
+rows_left_out_have_a_line law =
+    let line = law.unknown a_row_left_out 64 1 257 refl refl comes_to_tables ([], (refl, λ next same. let e : turns.Unknown ≡ turns.Goes next = same in cc)) in
+    line.reported (unknown_is_silent line.there line.way line.comes)
+
+-- ---- whose LIDs are
+abbrev is_257 : Option ℕ → Bool
+is_257 o = option_map_or (λ n. n == 257) o false
+
+pub reports_come_last : ReportsComeLast
+reports_come_last law = false≢true (ap is_257 (law.said two_say 1 257 refl))
+
+pub old_lids_do_not_count : OldLidsDoNotCount
+old_lids_do_not_count law = elim (law.free two_say 2 257 refl) [
+  | inl said ↦ let none : None ≡ Some 257 = said in cc
+  | inr free ↦ free.2 1 (lit< tt) refl
+]
+
+pub reported_lids_count : ReportedLidsCount
+reported_lids_count law = false≢true (law.some one_reports 3 513 (refl, refl, one_has_no_row))
+  where
+    one_has_no_row : (other : ℕ) → other < 65536 → end_of other (rows_of one_reports.dump.tables) ≡ Some 513 → ⊥
+    one_has_no_row other below is = elim (cases_Bool (1 == other)) [
+      | inl here ↦ let said : Some 257 ≡ Some 513 = rw here at is in false≢true (sym (ap is_257 said))
+      | inr apart ↦ let none : None ≡ Some 513 = rw apart at is in cc
+    ]

@@ -13,12 +13,12 @@ use Rattle.route_audit.specs.Attached.{carries_host}
 use Rattle.route_audit.specs.Audit.{count_line, counts_by, deadlock_words, ring_line}
 use Rattle.route_audit.specs.Lids.{aim_of, is_lacking}
 use Rattle.text_parts.specs.Parts.{guid_text}
-use Rattle.route_audit.specs.Lines.{leaves_out, no_lid_lines, no_port_line, no_switch_line, no_table_line, stray_line, trouble_line, troubles_by}
+use Rattle.route_audit.specs.Lines.{leaves_out, no_lid_lines, no_port_line, no_switch_line, no_table_line, stray_line, trouble_line, troubles_by, unreported_line}
 use Rattle.route_audit.specs.Net.{NetState, entry, entry_in}
 use Rattle.route_audit.specs.Pairs.{pairs_by}
 use Rattle.route_audit.specs.Plan.{ends_of, port_of}
 use Rattle.route_audit.specs.Verdict.{verdict_line}
-use Rattle.route_audit.specs.WrongRules.{a_hole, a_routers_hole, a_routers_loop, a_row, a_switch, a_table, two_with}
+use Rattle.route_audit.specs.WrongRules.{a_hole, a_routers_hole, a_routers_loop, a_row_left_out, a_row, a_switch, a_table, two_with}
 
 -- ---- entries: 255 leads nowhere, as no row does, but for a top that is a multiple of 64
 abbrev topped : ℕ → Table
@@ -79,6 +79,8 @@ pub record TroublesAreReported : Type 0 where
   pub hole_to_a_router : troubles_by a_routers_hole (aim_of a_routers_hole 2 ∷ []) ≡ codes "hole A 2\n"
   pub loop_to_a_router : troubles_by a_routers_loop (aim_of a_routers_loop 2 ∷ []) ≡ codes "loop 2 A B\n"
   pub last_hop_to_a_router : trouble_line a_routers_hole 1 (aim_of a_routers_hole 2) ≡ []
+  -- a row that a table leaves out
+  pub left_out : trouble_line a_row_left_out 1 (record an_aim { lid = 64 }) ≡ codes "left-out B 64 (h/1)\n"
 
 -- ---- the line of a credit loop, with the LIDs that close it
 pub record DeadlocksAreReported : Type 0 where
@@ -94,6 +96,8 @@ pub record LacksAreReported : Type 0 where
   pub has_switch : no_switch_line a_hole (a_table 32 1) ≡ []
   pub end_port : no_port_line (record { lid = 3; guid = Some 0x7cfe9003009f0a11; end = None }) ≡ codes "no-port 3 " ++ guid_text 0x7cfe9003009f0a11 ++ codes "\n"
   pub lid : no_lid_lines a_hole [] (record { first = port 0 1; second = port 2 1 }) ≡ codes "no-lid h/1\n"
+  pub untold : unreported_line a_row_left_out [] 64 ≡ codes "untold 64\n"
+  pub told : unreported_line a_row_left_out (record an_aim { lid = 64 } ∷ []) 64 ≡ []
   pub has_lid : no_lid_lines a_hole (an_aim ∷ []) (record { first = port 0 1; second = port 2 1 }) ≡ []
 
 -- ---- a LID that a row gives to a channel adapter, or to a switch, is no other kind of port

@@ -1,16 +1,21 @@
 -- What is so of all fabrics and dumps: the statements of the laws of `src/laws.rt`.
-use Rattle.std.specs.Prelude.{ℕ, ◌≡◌, ◌<◌, ◌≤◌, ◌+◌, ◌==◌, ◌↔◌, Bool, true, false, ◌&&◌, ◌||◌, List, [], ◌∷◌, ◌++◌, filter, get_or, length, slice_get, Option, Some, None, is_some}
+use Rattle.std.specs.Prelude.{ℕ, ◌≡◌, ◌<◌, ◌≤◌, ◌+◌, ◌==◌, ◌↔◌, ◌⊎◌, Bool, true, false, ◌&&◌, ◌||◌, List, [], ◌∷◌, ◌++◌, filter, get_or, length, slice_get, Option, Some, None, is_some, unwrap_or}
 use Rattle.std.specs.List.{list_all, list_any}
+use Rattle.std.specs.Option.{option_map_or}
 use Rattle.dump_file.specs.declared.destination.Destination.{Destination}
 use Rattle.dump_file.specs.declared.destination.Destination.TheVariants.{ChannelAdapter, Switch, Router, FurtherLid, Nobody, NotReported}
 use Rattle.dump_file.specs.declared.row.Row.{Row}
 use Rattle.dump_file.specs.declared.table.Table.{Table}
+use Rattle.dump_file.specs.Row.{end_of}
+use Rattle.dump_file.specs.Table.{rows_of}
 use Rattle.fabric_parts.specs.Cable.{far_end, is_cabled, is_same_port, port}
 use Rattle.fabric_parts.specs.declared.cable.Cable.{Cable}
 use Rattle.fabric_parts.specs.declared.cable.PortRef.{PortRef}
+use Rattle.netdiscover_file.specs.declared.node.Node.{Node as FoundNode}
 use Rattle.netdiscover_file.specs.declared.port.PortLine.{PortLine}
 use Rattle.netdiscover_file.specs.Agreement.{is_one_cable}
 use Rattle.netdiscover_file.specs.Discovery.{DiscoveryState}
+use Rattle.netdiscover_file.specs.Kind.{is_switch as is_switch_kind}
 use Rattle.netdiscover_file.specs.Sound.{IsSound}
 use Rattle.topo_file.specs.Node.{is_switch_at, ports_at}
 use Rattle.route_audit.specs.declared.following.Fate.{Fate}
@@ -22,11 +27,12 @@ use Rattle.route_audit.specs.declared.pairs.Pair.{Pair}
 use Rattle.route_audit.specs.Audit.{audit_of, behind, closing, lids_of}
 use Rattle.route_audit.specs.Channels.{channels, deadlock, depends}
 use Rattle.route_audit.specs.Following.{end_from, end_within, fate, loop_from, turn}
-use Rattle.route_audit.specs.Lids.{aim_of, aims, is_others}
+use Rattle.route_audit.specs.declared.ends.LidGuid.{LidGuid}
+use Rattle.route_audit.specs.Lids.{aim_of, aims, is_others, owner_of}
 use Rattle.route_audit.specs.Lines.{has_switch, trouble_line}
 use Rattle.route_audit.specs.Net.{NetState, row_at, table_at}
 use Rattle.route_audit.specs.Pairs.{count_of}
-use Rattle.route_audit.specs.Plan.{PlanState, is_host, joins_switch, plan_found}
+use Rattle.route_audit.specs.Plan.{PlanState, found_lids, is_host, is_unicast, joins_switch, plan_found}
 
 -- ---- the cables of a discovery
 -- the cable joins these two ports
@@ -48,6 +54,46 @@ pub record TakesTheCables (plan : DiscoveryState → PlanState) : Type 0 where
 
 abbrev pub CablesAreTaken : Type 0
 CablesAreTaken = TakesTheCables plan_found
+
+-- ---- the LIDs of a discovery
+abbrev pub is_of_port : ℕ → ℕ → LidGuid → Bool
+is_of_port lid guid reported = (reported.lid == lid) && (reported.guid == guid)
+
+-- the header of a switch, or the line of another port, reports this LID of the port of this GUID
+abbrev pub is_this : ℕ → Option ℕ → Bool
+is_this n o = option_map_or (λ m. m == n) o false
+
+abbrev pub is_switchs_header : (lid guid : ℕ) → FoundNode → Bool
+is_switchs_header lid guid node = is_switch_kind node.id.kind && (is_this lid node.lid && (unwrap_or node.port_guid node.id.guid == guid))
+
+abbrev pub is_ports_line : (lid guid : ℕ) → PortLine → Bool
+is_ports_line lid guid line = is_this lid line.lid && is_this guid line.guid
+
+abbrev pub is_reported : DiscoveryState → (lid guid : ℕ) → Bool
+is_reported found lid guid = list_any (is_switchs_header lid guid) found.nodes || list_any (is_ports_line lid guid) found.ports
+
+-- all those that are unicast LIDs are taken, and no others
+abbrev pub TakesTheLids : (DiscoveryState → List LidGuid) → Type 0
+TakesTheLids takes = (found : DiscoveryState) (lid guid : ℕ) → list_any (is_of_port lid guid) (takes found) ≡ (is_unicast lid && is_reported found lid guid)
+
+abbrev pub LidsAreTaken : Type 0
+LidsAreTaken = TakesTheLids found_lids
+
+-- ---- whose a LID is
+-- where no row says whose it is: an end port that reports it, to which no row gives another LID
+abbrev pub IsFree : NetState → (lid guid : ℕ) → Type 0
+IsFree net lid guid =
+    (list_any (is_of_port lid guid) net.plan.lids ≡ true) × (end_of lid (rows_of net.dump.tables) ≡ None)
+    × ((other : ℕ) → other < 65536 → end_of other (rows_of net.dump.tables) ≡ Some guid → ⊥)
+
+-- what a row says counts, and what is reported where no row speaks
+pub record RowsComeFirst (owner : NetState → ℕ → Option ℕ) : Type 0 where
+  pub said : (net : NetState) (lid guid : ℕ) → end_of lid (rows_of net.dump.tables) ≡ Some guid → owner net lid ≡ Some guid
+  pub free : (net : NetState) (lid guid : ℕ) → owner net lid ≡ Some guid → (end_of lid (rows_of net.dump.tables) ≡ Some guid) ⊎ IsFree net lid guid
+  pub some : (net : NetState) (lid guid : ℕ) → IsFree net lid guid → is_some (owner net lid) ≡ true
+
+abbrev pub OwnersAreFound : Type 0
+OwnersAreFound = RowsComeFirst owner_of
 
 -- ---- following entries
 -- the switch here sends the LID to the switch there
@@ -150,6 +196,10 @@ pub record ReportsTroubles (line : NetState → ℕ → Aim → List ℕ) : Type
   -- with each LID of a port that the fabric lacks, if packets come to a switch that has no entry
   pub ended : (net : NetState) (lid place guid : ℕ) → is_switch_at net.plan.nodes place ≡ true → (aim_of net lid).guid ≡ Some guid
       → EndsBy net lid place turns.Hole → HasItsLine line net lid place
+  -- with each LID of a port that is known, if packets come to an entry that is not, and to switches that have a table
+  pub unknown : (net : NetState) (lid place guid : ℕ) → is_switch_at net.plan.nodes place ≡ true → (aim_of net lid).guid ≡ Some guid
+      → ((there : ℕ) (way : List ℕ) → ComesBy net lid place way there → is_some (table_at net there) ≡ true) → EndsBy net lid place turns.Unknown
+      → HasItsLine line net lid place
   -- and with whichever LID, if packets never end
   pub endless : (net : NetState) (lid place : ℕ) → is_switch_at net.plan.nodes place ≡ true → NeverEnds net lid place → HasItsLine line net lid place
 
@@ -233,7 +283,8 @@ IsOfKind net lid NotReported = Unit {0}
 
 -- the dump and the fabric name the same switches and ports of adapters
 pub record NameTheSame (net : NetState) : Type 0 where
-  -- each switch has a table
+  -- there is a table, and each switch has one
+  pub some : net.dump.tables ≡ [] → ⊥
   pub tables : (place : ℕ) → is_switch_at net.plan.nodes place ≡ true → is_some (table_at net place) ≡ true
   -- each table is of a switch
   pub switches : (k : ℕ) (table : Table) → slice_get net.dump.tables k ≡ Some table → has_switch table.guid net.plan.nodes ≡ true
@@ -255,10 +306,10 @@ pub record AreSafe (net : NetState) : Type 0 where
   pub known : (place lid next : ℕ) → is_switch_at net.plan.nodes place ≡ true → list_any (λ n. n == lid) (other_lids net) ≡ true
       → GoesTo net lid place next → IsUnknownAt net lid next → ⊥
 
--- this says so exactly where routes are safe, if some adapter's port has a cable, as the subnet manager's
+-- this says so if and only if routes are safe
 pub record ReportsSafe (says : NetState → Bool) : Type 0 where
   pub safe : (net : NetState) → says net ≡ true → AreSafe net
-  pub reported : (net : NetState) (end : PortRef) → IsAdaptersEnd net end → AreSafe net → says net ≡ true
+  pub reported : (net : NetState) → AreSafe net → says net ≡ true
 
 abbrev pub says_safe : NetState → Bool
 says_safe net = (audit_of net).is_safe

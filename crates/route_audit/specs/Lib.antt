@@ -8,6 +8,7 @@ pub mod Lookup
 pub mod Following
 pub mod Lids
 pub mod Kinds
+pub mod LidIndex
 pub mod Attached
 pub mod Channels
 pub mod Waits

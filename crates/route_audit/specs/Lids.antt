@@ -1,18 +1,19 @@
--- The LIDs that a dump names, and the end ports of the fabric that have them.
-use Rattle.std.specs.Prelude.{ℕ, ◌==◌, ◌&&◌, ◌||◌, Bool, true, false, not, List, [], ◌∷◌, map, flat_map, filter, if◌then◌else◌, Option, Some, None, is_none}
+-- The LIDs that a dump names or a discovery reports, and the end ports of the fabric that have them.
+use Rattle.std.specs.Prelude.{ℕ, ◌==◌, ◌&&◌, ◌||◌, Bool, true, false, not, List, [], ◌∷◌, map, flat_map, filter, find, if◌then◌else◌, Option, Some, None, is_none, is_some, option_map}
 use Rattle.std.specs.List.{list_all, list_any, range_with_len}
-use Rattle.std.specs.Option.{option_and_then, option_map_or}
+use Rattle.std.specs.Option.{option_and_then, option_map_or, option_or}
 use Rattle.dump_file.specs.declared.destination.Destination.{Destination}
 use Rattle.dump_file.specs.declared.destination.Destination.TheVariants.{ChannelAdapter, Switch, Router, FurtherLid, Nobody, NotReported}
 use Rattle.dump_file.specs.declared.row.Row.{Row}
-use Rattle.dump_file.specs.Dump.{DumpState}
 use Rattle.dump_file.specs.Row.{end_of}
+use Rattle.dump_file.specs.Sound.{is_end}
 use Rattle.dump_file.specs.Table.{rows_of}
 use Rattle.fabric_parts.specs.Cable.{is_same_port}
 use Rattle.fabric_parts.specs.declared.cable.Cable.{Cable}
 use Rattle.fabric_parts.specs.declared.cable.PortRef.{PortRef}
 use Rattle.topo_file.specs.Connectivity.{switches}
 use Rattle.topo_file.specs.Node.{is_switch_at}
+use Rattle.route_audit.specs.declared.ends.LidGuid.{LidGuid}
 use Rattle.route_audit.specs.declared.lids.Aim.{Aim}
 use Rattle.route_audit.specs.Net.{NetState, row_at}
 use Rattle.route_audit.specs.Plan.{port_of}
@@ -24,8 +25,33 @@ is_named rows lid = list_any (λ row. row.lid == lid) rows
 unfoldable pub all_lids : List ℕ
 all_lids = range_with_len 0 65536
 
-abbrev pub named_lids : DumpState → List ℕ
-named_lids dump = filter (is_named (rows_of dump.tables)) all_lids
+-- ---- a LID that the discovery reports
+-- a row gives some LID to the end port of this GUID
+abbrev pub gives_lid : List Row → ℕ → ℕ → Bool
+gives_lid rows guid lid = is_end guid (end_of lid rows)
+
+abbrev pub has_row : List Row → ℕ → Bool
+has_row rows guid = list_any (gives_lid rows guid) all_lids
+
+-- of an end port to which no row gives one it counts; the first that reports the LID has it
+abbrev pub counts_for : List Row → ℕ → LidGuid → Bool
+counts_for rows lid reported = (reported.lid == lid) && not (has_row rows reported.guid)
+
+abbrev pub reported_by : List Row → List LidGuid → ℕ → Option ℕ
+reported_by rows lids lid = option_map (λ reported. reported.guid) (find (counts_for rows lid) lids)
+
+abbrev pub reported_end : NetState → ℕ → Option ℕ
+reported_end net lid = reported_by (rows_of net.dump.tables) net.plan.lids lid
+
+-- ---- all that are named or reported, and the GUID of the end port of each: the rows' word comes first
+abbrev pub is_known_lid : NetState → ℕ → Bool
+is_known_lid net lid = is_named (rows_of net.dump.tables) lid || is_some (reported_end net lid)
+
+abbrev pub known_lids : NetState → List ℕ
+known_lids net = filter (is_known_lid net) all_lids
+
+abbrev pub owner_of : NetState → ℕ → Option ℕ
+owner_of net lid = option_or (end_of lid (rows_of net.dump.tables)) (reported_end net lid)
 
 -- ---- whose a row says that its LID is
 -- an end port, a switch's or not, is of the kind that is said, where one is
@@ -65,12 +91,12 @@ end_by net lid guid = option_and_then (if_of_kind net lid) (option_and_then (por
 abbrev pub aim_of : NetState → ℕ → Aim
 aim_of net lid = record {
   lid = lid;
-  guid = end_of lid (rows_of net.dump.tables);
-  end = end_by net lid (end_of lid (rows_of net.dump.tables));
+  guid = owner_of net lid;
+  end = end_by net lid (owner_of net lid);
 }
 
 abbrev pub aims : NetState → List Aim
-aims net = map (aim_of net) (named_lids net.dump)
+aims net = map (aim_of net) (known_lids net)
 
 -- ---- a step of the code, on which no definition stands: of the LIDs below this number that pass the test
 abbrev pub aim_if : NetState → (ℕ → Bool) → ℕ → List Aim

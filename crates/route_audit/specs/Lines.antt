@@ -1,5 +1,5 @@
 -- The lines of an audit, but for its last ones.
-use Rattle.std.specs.Prelude.{ℕ, ◌*◌, ◌==◌, ◌&&◌, nat_le, Bool, true, false, not, List, [], ◌∷◌, ◌++◌, codes, decimal, map, flat_map, if◌then◌else◌, is_none, is_some, Option, Some, None}
+use Rattle.std.specs.Prelude.{ℕ, ◌*◌, ◌==◌, ◌&&◌, nat_le, Bool, true, false, not, List, [], ◌∷◌, ◌++◌, codes, decimal, map, flat_map, if◌then◌else◌, is_none, Option, Some, None}
 use Rattle.std.specs.List.{list_all, list_any, range_with_len}
 use Rattle.std.specs.Option.{option_map_or}
 use Rattle.dump_file.specs.declared.destination.Destination.{Destination}
@@ -10,14 +10,14 @@ use Rattle.fabric_parts.specs.declared.cable.Cable.{Cable}
 use Rattle.fabric_parts.specs.declared.cable.PortRef.{PortRef}
 use Rattle.text_parts.specs.Parts.{guid_text, port_name}
 use Rattle.topo_file.specs.Connectivity.{switches}
-use Rattle.topo_file.specs.Node.{is_switch, name_at, ports_at}
+use Rattle.topo_file.specs.Node.{is_switch, name_at}
 use Rattle.topo_file.specs.declared.node.Node.{Node}
 use Rattle.route_audit.specs.declared.following.Turn.{Turn}
 use Rattle.route_audit.specs.declared.following.Turn.TheVariants as turns
 use Rattle.route_audit.specs.declared.lids.Aim.{Aim}
 use Rattle.route_audit.specs.Following.{loop_from, turn}
 use Rattle.route_audit.specs.Lids.{has_lid, is_named}
-use Rattle.route_audit.specs.Net.{NetState, is_left_out, is_wide, row_of, table_at}
+use Rattle.route_audit.specs.Net.{NetState, has_table, is_left_out, row_of, table_at}
 
 -- ---- words of lines
 abbrev pub name_text : NetState → ℕ → List ℕ
@@ -68,23 +68,29 @@ no_lid_line net all port = if has_lid net all port then [] else codes "no-lid " 
 abbrev pub no_lid_lines : NetState → List Aim → Cable → List ℕ
 no_lid_lines net all cable = no_lid_line net all cable.first ++ no_lid_line net all cable.second
 
--- `unreported 320`: the top of some table, a multiple of 64, of which that table has no row
+-- `untold 320`: the top of some table, a multiple of 64, of which that table has no row, and no row or discovery says whose it is
 abbrev pub leaves_out : ℕ → Table → Bool
 leaves_out lid table = is_left_out table lid && not (is_named table.rows lid)
 
-abbrev pub unreported_line : List Table → ℕ → List ℕ
-unreported_line tables lid = if list_any (leaves_out lid) tables then codes "untold " ++ decimal lid ++ 10 ∷ [] else []
+abbrev pub is_among : List Aim → ℕ → Bool
+is_among all lid = list_any (λ aim. aim.lid == lid) all
+
+abbrev pub is_untold : NetState → List Aim → ℕ → Bool
+is_untold net all lid = list_any (leaves_out lid) net.dump.tables && not (is_among all lid)
+
+abbrev pub unreported_line : NetState → List Aim → ℕ → List ℕ
+unreported_line net all lid = if is_untold net all lid then codes "untold " ++ decimal lid ++ 10 ∷ [] else []
 
 unfoldable pub multiples : List ℕ
 multiples = map (λ n. n * 64) (range_with_len 0 1024)
 
-unfoldable pub unreported_lines : List Table → List ℕ
-unreported_lines tables = flat_map (unreported_line tables) multiples
+unfoldable pub unreported_lines : NetState → List Aim → List ℕ
+unreported_lines net all = flat_map (unreported_line net all) multiples
 
 unfoldable pub files_by : NetState → List Aim → List ℕ
 files_by net all =
     flat_map (apart_line net) net.plan.apart ++ flat_map (no_table_line net) (switches net.plan.nodes) ++ flat_map (no_switch_line net) net.dump.tables
-    ++ flat_map no_port_line all ++ flat_map (no_lid_lines net all) net.plan.cables ++ unreported_lines net.dump.tables
+    ++ flat_map no_port_line all ++ flat_map (no_lid_lines net all) net.plan.cables ++ unreported_lines net all
 
 -- ---- what a switch does with a LID
 -- `hole A 24 (h3/1)`, `nowhere D 3 (h2/1) port 4`, `wrong C 1 (h1/1) h2/1`
@@ -99,13 +105,10 @@ abbrev pub wrong_line : NetState → ℕ → ℕ → PortRef → PortRef → Lis
 wrong_line net place lid end there =
     codes "wrong " ++ name_text net place ++ codes " " ++ lid_text net lid (Some end) ++ codes " " ++ port_text net there ++ 10 ∷ []
 
--- `left-out E 5 (h3/1)`: the switch has so many ports that its table may lack this row, and it does
-abbrev pub is_wide_at : NetState → ℕ → Bool
-is_wide_at net place = is_wide (ports_at net.plan.nodes place) && is_some (table_at net place)
-
+-- `left-out E 5 (h3/1)`: the switch has a table that may lack this row, as it has many ports or the LID is its top, and it does
 abbrev pub left_out_line : NetState → ℕ → ℕ → Option PortRef → List ℕ
 left_out_line net place lid end =
-    if is_wide_at net place then codes "left-out " ++ name_text net place ++ codes " " ++ lid_text net lid end ++ 10 ∷ [] else []
+    if has_table net place then codes "left-out " ++ name_text net place ++ codes " " ++ lid_text net lid end ++ 10 ∷ [] else []
 
 -- `loop 18 (h3/1) A B`: reported at the first switch of the loop
 abbrev pub name_word : NetState → ℕ → List ℕ

@@ -1,5 +1,5 @@
 -- A fabric with the tables that stand in it, and the entry of a LID in the table of a switch.
-use Rattle.std.specs.Prelude.{ℕ, ◌%◌, ◌==◌, ◌&&◌, ◌||◌, nat_le, Bool, List, find, slice_get, if◌then◌else◌, Option, Some, None}
+use Rattle.std.specs.Prelude.{ℕ, ◌%◌, ◌==◌, ◌&&◌, ◌||◌, nat_le, Bool, List, find, slice_get, if◌then◌else◌, Option, Some, None, is_some}
 use Rattle.std.specs.Option.{option_and_then, option_map_or}
 use Rattle.dump_file.specs.declared.row.Row.{Row}
 use Rattle.dump_file.specs.declared.table.Table.{Table}
@@ -21,6 +21,9 @@ table_of guid tables = option_and_then (λ place. slice_get tables place) (place
 -- that of the node there
 abbrev pub table_at : NetState → ℕ → Option Table
 table_at net place = option_and_then (λ node. table_of node.guid net.dump.tables) (slice_get net.plan.nodes place)
+
+abbrev pub has_table : NetState → ℕ → Bool
+has_table net place = is_some (table_at net place)
 
 -- ---- the entry of a LID
 abbrev pub row_of : ℕ → List Row → Option Row

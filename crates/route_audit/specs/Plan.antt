@@ -5,6 +5,7 @@ use Rattle.std.specs.Option.{option_map_or}
 use Rattle.fabric_parts.specs.Cable.{port}
 use Rattle.fabric_parts.specs.declared.cable.Cable.{Cable}
 use Rattle.fabric_parts.specs.declared.cable.PortRef.{PortRef}
+use Rattle.fabric_parts.specs.declared.lid.TheConstants.{LAST_UNICAST_LID}
 use Rattle.fabric_parts.specs.declared.node_type.NodeType.{NodeType}
 use Rattle.fabric_parts.specs.declared.node_type.NodeType.TheVariants as node_type
 use Rattle.netdiscover_file.specs.declared.kind.NodeKind.{NodeKind}
@@ -19,15 +20,18 @@ use Rattle.topo_file.specs.declared.node.Node.{Node}
 use Rattle.topo_file.specs.Node.{is_switch, is_switch_at}
 use Rattle.topo_file.specs.Topology.{TopologyState}
 use Rattle.route_audit.specs.declared.ends.EndGuid.{EndGuid}
+use Rattle.route_audit.specs.declared.ends.LidGuid.{LidGuid}
 
 -- the GUID of a node heads the LFT of a switch; those of end ports are what a LID's row names. No packet goes over the cables
 -- that join no switch, which stand apart. Of each node, as far as the list goes, it is said whether it is an aggregation node.
+-- A topology has no LIDs; a discovery reports those that end ports have.
 pub record PlanState : Type 0 where
   pub nodes : List Node
   pub cables : List Cable
   pub apart : List Cable
   pub ends : List EndGuid
   pub aggregation : List Bool
+  pub lids : List LidGuid
 
 -- ---- a host: what is neither a switch nor the aggregation node of one
 abbrev pub is_aggregation_node : PlanState → ℕ → Bool
@@ -60,7 +64,7 @@ abbrev pub ends_of : List Node → List EndGuid
 ends_of nodes = flat_map (ends_at nodes) (range_with_len 0 (length nodes))
 
 abbrev pub plan_of : TopologyState → PlanState
-plan_of topology = record { nodes = topology.nodes; cables = topology.cables; apart = []; ends = ends_of topology.nodes; aggregation = [] }
+plan_of topology = record { nodes = topology.nodes; cables = topology.cables; apart = []; ends = ends_of topology.nodes; aggregation = []; lids = [] }
 
 -- ---- of a discovery: what is no switch forwards nothing, be it a channel adapter or a router
 abbrev pub type_of : NodeKind → NodeType
@@ -110,6 +114,25 @@ line_end line = end_if_any line.port line.guid
 abbrev pub found_ends : DiscoveryState → List EndGuid
 found_ends found = switch_ends found.nodes ++ flat_map line_end found.ports
 
+-- the LIDs that they report, each with the GUID of its port; a port to which no subnet manager gave one reports 0
+abbrev pub is_unicast : ℕ → Bool
+is_unicast lid = nat_le 1 lid && nat_le lid LAST_UNICAST_LID
+
+abbrev pub lid_if_unicast : ℕ → ℕ → List LidGuid
+lid_if_unicast guid lid = if is_unicast lid then (record { lid = lid; guid = guid }) ∷ [] else []
+
+abbrev pub lid_of_port : ℕ → Option ℕ → List LidGuid
+lid_of_port guid lid = option_map_or (lid_if_unicast guid) lid []
+
+abbrev pub switch_lid : FoundNode → List LidGuid
+switch_lid node = if is_switch_kind node.id.kind then lid_of_port (unwrap_or node.port_guid node.id.guid) node.lid else []
+
+abbrev pub line_lid : PortLine → List LidGuid
+line_lid line = option_map_or (λ guid. lid_of_port guid line.lid) line.guid []
+
+abbrev pub found_lids : DiscoveryState → List LidGuid
+found_lids found = flat_map switch_lid found.nodes ++ flat_map line_lid found.ports
+
 -- each cable once, at the first of the two ports that it joins
 abbrev pub comes_first : PortRef → PortRef → Bool
 comes_first a b = nat_lt a.node b.node || ((a.node == b.node) && nat_le a.port b.port)
@@ -139,4 +162,5 @@ plan_found found = record {
   apart = cables_apart found;
   ends = found_ends found;
   aggregation = found_aggregation found.nodes;
+  lids = found_lids found;
 }

@@ -1,5 +1,5 @@
 -- The verdict of an audit: what safe routes are, and the last line.
-use Rattle.std.specs.Prelude.{ℕ, ◌==◌, ◌&&◌, Bool, true, false, not, List, [], ◌∷◌, ◌++◌, codes, filter, length, map, if◌then◌else◌, is_none, is_some, Option}
+use Rattle.std.specs.Prelude.{ℕ, ◌==◌, ◌&&◌, Bool, true, false, not, List, [], ◌∷◌, ◌++◌, codes, filter, length, map, if◌then◌else◌, is_none, Option}
 use Rattle.std.specs.List.{list_all, list_any}
 use Rattle.dump_file.specs.declared.table.Table.{Table}
 use Rattle.fabric_parts.specs.declared.cable.PortRef.{PortRef}
@@ -11,14 +11,11 @@ use Rattle.route_audit.specs.declared.following.Turn.{Turn}
 use Rattle.route_audit.specs.declared.following.Turn.TheVariants as turns
 use Rattle.route_audit.specs.Following.{turn}
 use Rattle.route_audit.specs.Lines.{has_switch}
-use Rattle.route_audit.specs.Net.{NetState, table_at}
+use Rattle.route_audit.specs.Net.{NetState, has_table}
 use Rattle.route_audit.specs.Pairs.{all_reached, between_hosts, pairs_by}
 
 -- ---- the dump and the fabric name the same switches and ports of adapters
 -- each switch has a table, and there is one
-abbrev pub has_table : NetState → ℕ → Bool
-has_table net place = is_some (table_at net place)
-
 abbrev pub have_tables : NetState → Bool
 have_tables net = list_all (has_table net) (switches net.plan.nodes) && not (length net.dump.tables == 0)
 

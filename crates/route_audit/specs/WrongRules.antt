@@ -1,11 +1,13 @@
 -- Wrong rules for what is reported, and the law that each breaks.
-use Rattle.std.specs.Prelude.{ℕ, nat_lt, ◌&&◌, Bool, true, false, not, List, [], ◌∷◌, ◌++◌, codes, count_by, filter, flat_map, is_some, length, find, get_or, if◌then◌else◌, Option, Some, None, option_map}
+use Rattle.std.specs.Prelude.{ℕ, ◌==◌, nat_lt, ◌&&◌, Bool, true, false, not, List, [], ◌∷◌, ◌++◌, codes, count_by, filter, flat_map, is_some, length, find, get_or, if◌then◌else◌, Option, Some, None, option_map}
 use Rattle.std.specs.List.{list_all, list_any}
-use Rattle.std.specs.Option.{option_map_or}
+use Rattle.std.specs.Option.{option_map_or, option_or}
 use Rattle.dump_file.specs.declared.destination.Destination.{Destination}
 use Rattle.dump_file.specs.declared.destination.Destination.TheVariants as destinations
 use Rattle.dump_file.specs.declared.row.Row.{Row}
 use Rattle.dump_file.specs.declared.table.Table.{Table}
+use Rattle.dump_file.specs.Row.{end_of}
+use Rattle.dump_file.specs.Table.{rows_of}
 use Rattle.fabric_parts.specs.Cable.{port}
 use Rattle.fabric_parts.specs.declared.cable.Cable.{Cable}
 use Rattle.fabric_parts.specs.declared.cable.PortRef.{PortRef}
@@ -20,6 +22,7 @@ use Rattle.netdiscover_file.specs.Discovery.{DiscoveryState}
 use Rattle.topo_file.specs.Node.{is_switch_at}
 use Rattle.topo_file.specs.Topology.{TopologyState}
 use Rattle.topo_file.specs.declared.node.Node.{Node}
+use Rattle.route_audit.specs.declared.ends.LidGuid.{LidGuid}
 use Rattle.route_audit.specs.declared.following.Fate.{Fate}
 use Rattle.route_audit.specs.declared.following.Fate.TheVariants as fates
 use Rattle.route_audit.specs.declared.following.Turn.{Turn}
@@ -30,13 +33,13 @@ use Rattle.route_audit.specs.declared.verdict.Verdict.{Verdict}
 use Rattle.route_audit.specs.Audit.{closing, credit_loop, lids_of}
 use Rattle.route_audit.specs.Channels.{channels, deadlock, leaves_by}
 use Rattle.route_audit.specs.Following.{end_within, loop_from, turn}
-use Rattle.route_audit.specs.Laws.{AddUp, MissesNone, ReportsChannels, ReportsClosing, ReportsCycles, ReportsEndless, ReportsLoops, ReportsSafe, ReportsTroubles, TakesTheCables}
+use Rattle.route_audit.specs.Laws.{AddUp, MissesNone, ReportsChannels, ReportsClosing, ReportsCycles, ReportsEndless, ReportsLoops, ReportsSafe, ReportsTroubles, RowsComeFirst, TakesTheCables, TakesTheLids}
 use Rattle.route_audit.specs.Lids.{aims, is_lacking}
 use Rattle.route_audit.specs.Lines.{stray_line, trouble_line}
 use Rattle.route_audit.specs.Net.{NetState}
 use Rattle.route_audit.specs.Pairs.{all_reached, is_fate, pairs_by}
-use Rattle.route_audit.specs.Plan.{PlanState, joins_switch, plan_found, plan_of}
-use Rattle.route_audit.specs.Verdict.{have_tables, is_known, verdict_by, verdict_is_safe}
+use Rattle.route_audit.specs.Plan.{PlanState, joins_switch, line_lid, plan_found, plan_of, switch_lid}
+use Rattle.route_audit.specs.Verdict.{have_tables, is_known, is_unknown, verdict_by, verdict_is_safe}
 
 -- ---- two ports of one node have no cable
 abbrev pub between_nodes : PortLine → PortLine → List Cable
@@ -81,6 +84,29 @@ two_adapters = record {
   ports = leads 0 1 (Some 17) (far_at kinds.ChannelAdapter 32 1 (Some 33)) ∷ leads 1 1 (Some 33) (far_at kinds.ChannelAdapter 16 1 (Some 17)) ∷ [];
   initiator = None;
 }
+
+-- ---- a LID counts that nobody was given
+abbrev pub any_lid : PortLine → List LidGuid
+any_lid line = option_map_or (λ guid. option_map_or (λ lid. (record { lid = lid; guid = guid }) ∷ []) line.lid []) line.guid []
+
+abbrev pub with_any_lids : DiscoveryState → List LidGuid
+with_any_lids found = flat_map switch_lid found.nodes ++ flat_map any_lid found.ports
+
+abbrev pub NobodyHasLid0 : Type 0
+NobodyHasLid0 = TakesTheLids with_any_lids → ⊥
+
+abbrev pub an_adapter_without_lid : DiscoveryState
+an_adapter_without_lid = record two_adapters { ports = record (leads 0 1 (Some 17) (far_at kinds.ChannelAdapter 32 1 (Some 33))) { lid = Some 0 } ∷ [] }
+
+-- ---- of switches none counts
+abbrev pub without_switches : DiscoveryState → List LidGuid
+without_switches found = flat_map line_lid found.ports
+
+abbrev pub SwitchesHaveLids : Type 0
+SwitchesHaveLids = TakesTheLids without_switches → ⊥
+
+abbrev pub a_switch_with_lid : DiscoveryState
+a_switch_with_lid = record a_plug { nodes = record (found_at kinds.Switch 16) { lid = Some 5 } ∷ [] }
 
 -- ---- two switches with a cable, and their entries for LID 1
 abbrev pub a_switch : List ℕ → ℕ → Node
@@ -381,6 +407,20 @@ LoopsHaveALine = ReportsTroubles (silent_where is_going) → ⊥
 abbrev pub HolesHaveALine : Type 0
 HolesHaveALine = ReportsTroubles (silent_where is_hole) → ⊥
 
+-- ---- or what is unknown
+-- the table of the second switch ends with LID 64, and lacks its row
+abbrev pub a_row_left_out : NetState
+a_row_left_out = record {
+  plan = a_hole.plan;
+  dump = record {
+    tables = record { line = 1; guid = 16; top = 64; rows = a_row 64 1 (destinations.ChannelAdapter 257) ∷ [] }
+        ∷ record { line = 2; guid = 32; top = 64; rows = [] } ∷ [];
+  };
+}
+
+abbrev pub RowsLeftOutHaveALine : Type 0
+RowsLeftOutHaveALine = ReportsTroubles (silent_where is_unknown) → ⊥
+
 -- ---- a LID whose port the fabric lacks has no line
 abbrev pub silent_of_others : NetState → ℕ → Aim → List ℕ
 silent_of_others net place aim = if is_some aim.end then trouble_line net place aim else []
@@ -401,3 +441,38 @@ a_nobodys_loop = two_with (a_row 2 2 destinations.NotReported ∷ []) (a_row 2 1
 
 abbrev pub NobodysLoopsHaveALine : Type 0
 NobodysLoopsHaveALine = ReportsTroubles silent_of_nobody → ⊥
+
+-- ---- what is reported counts more than what a row says
+abbrev pub first_reported : NetState → ℕ → Option ℕ
+first_reported net lid = option_map (λ one. one.guid) (find (λ one. one.lid == lid) net.plan.lids)
+
+abbrev pub reported_first : NetState → ℕ → Option ℕ
+reported_first net lid = option_or (first_reported net lid) (end_of lid (rows_of net.dump.tables))
+
+-- rows give LID 1 to the port of GUID 257, which reports LID 2; another reports LID 1
+abbrev pub two_say : NetState
+two_say = record a_hole {
+  plan = record a_hole.plan { lids = record { lid = 1; guid = 513 } ∷ record { lid = 2; guid = 257 } ∷ [] };
+}
+
+abbrev pub ReportsComeLast : Type 0
+ReportsComeLast = RowsComeFirst reported_first → ⊥
+
+-- ---- what a port reports counts beside the LID that a row gives it
+abbrev pub also_reported : NetState → ℕ → Option ℕ
+also_reported net lid = option_or (end_of lid (rows_of net.dump.tables)) (first_reported net lid)
+
+abbrev pub OldLidsDoNotCount : Type 0
+OldLidsDoNotCount = RowsComeFirst also_reported → ⊥
+
+-- ---- nothing that is reported counts
+abbrev pub by_rows_alone : NetState → ℕ → Option ℕ
+by_rows_alone net lid = end_of lid (rows_of net.dump.tables)
+
+abbrev pub one_reports : NetState
+one_reports = record a_hole {
+  plan = record a_hole.plan { lids = record { lid = 3; guid = 513 } ∷ [] };
+}
+
+abbrev pub ReportedLidsCount : Type 0
+ReportedLidsCount = RowsComeFirst by_rows_alone → ⊥

@@ -2,12 +2,13 @@
 
 ghost use Rattle.std.specs.Prelude.{◌≡◌, ◌++◌, bytes_eq, count_by, filter, not, IfOk, OnOk, flat_map};
 ghost use Rattle.route_audit.specs.Plan.{cable_at, cable_if_first, cables_apart, joining_cables, comes_first, end_if_any, found_aggregation, found_cables, found_ends, found_node, found_nodes, is_own, joins_switch};
+ghost use Rattle.route_audit.specs.Plan.{found_lids, is_unicast, lid_if_unicast, lid_of_port, line_lid, switch_lid};
 ghost use Rattle.route_audit.specs.Plan.{line_end, plan_found, says_aggregation, shown_name, switch_end, switch_end_at, switch_ends, type_of, with_guid};
 ghost use Rattle.netdiscover_file.specs.Node.{is_switch_at};
 
-use crate::ends::{EndGuid, EndIndex};
+use crate::ends::{EndGuid, EndIndex, LidGuid};
 use crate::plan::{Plan, PlanNode};
-use fabric_parts::{Cable, NodeType, PortRef};
+use fabric_parts::{Cable, LAST_UNICAST_LID, NodeType, PortRef};
 use netdiscover_file::{Discovery, Node, NodeKind, PortLine};
 use std::alloc::{AllocError, Global};
 use text_parts::push_guid;
@@ -161,6 +162,68 @@ fn push_line_ends(ends: &mut Vec<EndGuid>, lines: &[PortLine]) -> Result<(), All
     Ok(())
 }
 
+fn is_unicast(lid: u16) -> bool
+    ensures { result ≡ is_unicast lid }
+{
+    1 <= lid && lid <= LAST_UNICAST_LID
+}
+
+fn push_lid_of_port(lids: &mut Vec<LidGuid>, guid: u64, lid: Option<u16>) -> Result<(), AllocError>
+    ensures { OnOk result (lids.new.items ≡ lids.old.items ++ lid_of_port guid lid) }
+{
+    if let Some(lid) = lid {
+        if is_unicast(lid) {
+            lids.push(LidGuid { lid, guid })?;
+        }
+    }
+    Ok(())
+}
+
+fn push_switch_lid(lids: &mut Vec<LidGuid>, node: &Node) -> Result<(), AllocError>
+    ensures { OnOk result (lids.new.items ≡ lids.old.items ++ switch_lid node.now) }
+{
+    if node.id.kind.is_switch() {
+        push_lid_of_port(lids, node.port_guid.unwrap_or(node.id.guid), node.lid)?;
+    }
+    Ok(())
+}
+
+fn push_switch_lids(lids: &mut Vec<LidGuid>, nodes: &[Node]) -> Result<(), AllocError>
+    ensures { OnOk result (lids.new.items ≡ lids.old.items ++ flat_map switch_lid nodes.now) }
+{
+    for node in nodes {
+        push_switch_lid(lids, node)?;
+    }
+    Ok(())
+}
+
+fn push_line_lid(lids: &mut Vec<LidGuid>, line: &PortLine) -> Result<(), AllocError>
+    ensures { OnOk result (lids.new.items ≡ lids.old.items ++ line_lid line.now) }
+{
+    if let Some(guid) = line.guid {
+        push_lid_of_port(lids, guid, line.lid)?;
+    }
+    Ok(())
+}
+
+fn push_line_lids(lids: &mut Vec<LidGuid>, lines: &[PortLine]) -> Result<(), AllocError>
+    ensures { OnOk result (lids.new.items ≡ lids.old.items ++ flat_map line_lid lines.now) }
+{
+    for line in lines {
+        push_line_lid(lids, line)?;
+    }
+    Ok(())
+}
+
+fn found_lids(alloc: Global, found: &Discovery) -> Result<Vec<LidGuid>, AllocError>
+    ensures { IfOk result (λ lids. lids.items ≡ found_lids found.now) }
+{
+    let mut lids = Vec::new(alloc);
+    push_switch_lids(&mut lids, found.nodes())?;
+    push_line_lids(&mut lids, found.ports())?;
+    Ok(lids)
+}
+
 fn comes_first(a: PortRef, b: PortRef) -> bool
     ensures { result ≡ comes_first a b }
 {
@@ -286,12 +349,14 @@ impl Plan {
         let apart = cables_apart(alloc, found)?;
         let ends = end_index(alloc, found)?;
         let aggregation = found_aggregation(alloc, found.nodes())?;
+        let lids = found_lids(alloc, found)?;
         Ok(Plan {
             nodes,
             cables,
             apart,
             ends,
             aggregation,
+            lids,
         })
     }
 }

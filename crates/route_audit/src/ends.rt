@@ -16,6 +16,13 @@ pub(crate) struct EndGuid {
     pub(crate) port: PortRef,
 }
 
+/// A LID, and the GUID of the end port that reports it.
+#[derive(Clone, Copy, Debug)]
+pub(crate) struct LidGuid {
+    pub(crate) lid: u16,
+    pub(crate) guid: u64,
+}
+
 /// The end ports of a fabric, found by GUID in constant time.
 #[derive(Drop)]
 pub(crate) struct EndIndex {

@@ -12,6 +12,7 @@ ghost use Rattle.route_audit.specs.Lookup.{all_ends, all_entries, column, column
 ghost use Rattle.route_audit.specs.Net.{entry, entry_in, is_left_out, is_wide, may_lack, row_at, row_of, table_at};
 ghost use Rattle.route_audit.specs.Plan.{is_host, port_of};
 
+use crate::ends::LidGuid;
 use crate::entry::{Entry, EntryList};
 use crate::far_ends::{EndList, far_ends};
 use crate::plan::{Plan, PlanNode, is_switch_at, ports_at};
@@ -90,6 +91,13 @@ impl<'a> Inputs<'a> {
         ensures { result.now ≡ self.now.plan.apart }
     {
         self.plan.apart()
+    }
+
+    /// The LIDs that end ports report.
+    pub(crate) fn lids(&self) -> &[LidGuid]
+        ensures { result.now ≡ self.now.plan.lids }
+    {
+        self.plan.lids()
     }
 
     /// The end port of this GUID.
@@ -267,7 +275,7 @@ pub(crate) fn row_of(rows: &[Row], lid: u16, top: u16) -> Option<&Row>
 }
 
 /// Whether the tools leave out rows of a switch of so many ports, those of ports from 128 on.
-pub(crate) fn is_wide(ports: u8) -> bool
+fn is_wide(ports: u8) -> bool
     ensures { result ≡ is_wide ports }
 {
     ports >= 128

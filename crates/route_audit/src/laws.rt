@@ -1,11 +1,21 @@
 //! Laws of all audits. The functions do nothing; their clauses are the theorems.
 
 ghost use Rattle.route_audit.specs.Laws.{CablesAreTaken, ChannelsAreReported, CountsAddUp, EachTroubleHasALine, LoopsAreClosedByTheirLids, LoopsNeverEnd, NoCycleIsMissed};
-ghost use Rattle.route_audit.specs.Laws.{SafeRoutesAreReported, ReportedLoopsWait, ReportedLoopsGoRound, WaysAreFollowed};
+ghost use Rattle.route_audit.specs.Laws.{LidsAreTaken, OwnersAreFound, SafeRoutesAreReported, ReportedLoopsWait, ReportedLoopsGoRound, WaysAreFollowed};
 
 /// Two ports have a cable exactly where the lines of a discovery say so; the cables that join no switch stand apart.
 pub fn cables_are_taken()
     ensures { CablesAreTaken }
+{}
+
+/// The LIDs of a discovery are the unicast LIDs that the header of a switch or the line of another port reports.
+pub fn lids_are_taken()
+    ensures { LidsAreTaken }
+{}
+
+/// Whose a LID is a row says first, and where no row does the discovery, of a port to which no row gives another LID.
+pub fn owners_are_found()
+    ensures { OwnersAreFound }
 {}
 
 /// A packet that does not end within as many switches as there are never ends.
@@ -58,9 +68,8 @@ pub fn no_cycle_is_missed()
 
 /// The verdict is safe if and only if each cabled port of an adapter has a LID; from each switch to which an adapter is attached
 /// a path along the entries leads to the adapter port of each LID; there is no credit loop along all LIDs except the switches'
-/// own; the dump and the fabric name the same switches and adapter ports; and where a switch sends such a LID to another
-/// switch, the entry there is known. (That safe routes are called safe needs
-/// that some adapter port has a cable, as the SM's has.)
+/// own; the dump has a table, and it and the fabric name the same switches and adapter ports; and where a switch sends such a LID
+/// to another switch, the entry there is known.
 pub fn safe_routes_are_reported()
     ensures { SafeRoutesAreReported }
 {}

@@ -20,6 +20,7 @@ mod following;
 mod inputs;
 mod kinds;
 mod laws;
+mod lid_index;
 mod lids;
 mod lines;
 mod net;
@@ -31,8 +32,8 @@ mod wrong_rules;
 
 pub use crate::auditing::{audit, audit_discovery};
 pub use crate::laws::{
-    channels_are_reported, counts_add_up, each_trouble_has_a_line, loops_are_closed_by_their_lids,
-    loops_never_end, no_cycle_is_missed, reported_loops_go_round, reported_loops_wait,
-    safe_routes_are_reported, ways_are_followed,
+    channels_are_reported, counts_add_up, each_trouble_has_a_line, lids_are_taken,
+    loops_are_closed_by_their_lids, loops_never_end, no_cycle_is_missed, owners_are_found,
+    reported_loops_go_round, reported_loops_wait, safe_routes_are_reported, ways_are_followed,
 };
 pub use crate::outcome::Audit;

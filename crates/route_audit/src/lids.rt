@@ -1,27 +1,23 @@
-//! The LIDs that a dump names, and the end ports of the fabric that have them.
+//! The LIDs that a dump names or a discovery reports, and the end ports of the fabric that have them.
 
-ghost use Rattle.std.specs.Prelude.{◌≡◌, ◌≤◌, ◌<◌, ◌||◌, ◌==◌, ◌++◌, ◌∷◌, [], true, false, if◌then◌else◌, length, IfOk, OnOk, ℕ};
-ghost use Rattle.std.specs.List.{list_all, list_any};
-ghost use Rattle.dump_file.specs.Row.{end_of};
+ghost use Rattle.std.specs.Prelude.{◌≡◌, ◌≤◌, ◌||◌, ◌==◌, false, length, IfOk, ℕ};
+ghost use Rattle.std.specs.List.{list_any};
 ghost use Rattle.dump_file.specs.Table.{rows_of};
-ghost use Rattle.route_audit.specs.Lids.{aim_of, aims, aims_below, end_by, has_lid, have_lids, if_of_kind, is_lacking, is_named, is_of, is_of_fabric};
-ghost use Rattle.route_audit.specs.Lids.{says_kind, says_of_fabric};
-ghost use Rattle.route_audit.specs.Kinds.{KnowsOthers};
+ghost use Rattle.route_audit.specs.Lids.{aims, has_lid, have_lids, is_lacking, is_named, is_of, is_of_fabric, says_of_fabric};
 ghost use Rattle.route_audit.specs.Marks.{is_marked};
-ghost use Rattle.route_audit.specs.Net.{row_at};
 ghost use Rattle.topo_file.specs.Connectivity.{switches};
 
-use crate::cycle::is_marked;
+use crate::lid_index::LidIndex;
 use crate::net::Net;
 use dump_file::{Destination, Row, Table};
 use fabric_parts::{Cable, PortRef};
 use std::alloc::{AllocError, Global};
 
-/// What is known of a LID that a dump names.
+/// What is known of a LID.
 #[derive(Clone, Copy)]
 pub(crate) struct Aim {
     pub(crate) lid: u16,
-    /// The GUID of the end port that has it, if a row says one.
+    /// The GUID of the end port that has it, if a row says one, or the discovery.
     pub(crate) guid: Option<u64>,
     /// The end port of this GUID, if the fabric has it, of the kind that rows say.
     pub(crate) end: Option<PortRef>,
@@ -79,7 +75,11 @@ pub(crate) fn blank(alloc: Global, count: usize) -> Result<Vec<bool>, AllocError
 }
 
 /// A mark for each LID that a row of these tables names.
-fn marks_of(alloc: Global, tables: &[Table], count: usize) -> Result<Vec<bool>, AllocError>
+pub(crate) fn marks_of(
+    alloc: Global,
+    tables: &[Table],
+    count: usize,
+) -> Result<Vec<bool>, AllocError>
     requires { 65536 ≤ count }
     ensures { IfOk result (λ marks. (lid : ℕ) → is_marked marks.items lid ≡ is_named (rows_of tables.now) lid) }
 {
@@ -91,72 +91,6 @@ fn marks_of(alloc: Global, tables: &[Table], count: usize) -> Result<Vec<bool>, 
 }
 
 impl<'a> Net<'a> {
-    /// Whether each switch's row says this kind, by the LIDs of which some say another.
-    fn all_say_kind(
-        &self,
-        no_switches: &[bool],
-        no_others: &[bool],
-        lid: u16,
-        of_switch: bool,
-    ) -> bool
-        requires switches { KnowsOthers self.now true no_switches.now }
-        requires others { KnowsOthers self.now false no_others.now }
-        ensures { result ≡ list_all (says_kind self.now lid of_switch) (switches self.now.plan.nodes) }
-    {
-        if of_switch {
-            !is_marked(no_switches, usize::from(lid))
-        } else {
-            !is_marked(no_others, usize::from(lid))
-        }
-    }
-
-    /// The port, if it is of the kind that each switch's row says.
-    fn if_of_kind(
-        &self,
-        no_switches: &[bool],
-        no_others: &[bool],
-        lid: u16,
-        end: PortRef,
-    ) -> Option<PortRef>
-        requires switches { KnowsOthers self.now true no_switches.now }
-        requires others { KnowsOthers self.now false no_others.now }
-        ensures { result ≡ if_of_kind self.now lid end }
-    {
-        if self.all_say_kind(no_switches, no_others, lid, self.is_switch_at(end.node)) {
-            Some(end)
-        } else {
-            None
-        }
-    }
-
-    fn end_by(
-        &self,
-        no_switches: &[bool],
-        no_others: &[bool],
-        lid: u16,
-        guid: Option<u64>,
-    ) -> Option<PortRef>
-        requires switches { KnowsOthers self.now true no_switches.now }
-        requires others { KnowsOthers self.now false no_others.now }
-        ensures { result ≡ end_by self.now lid guid }
-    {
-        let end = self.port_of(guid?)?;
-        self.if_of_kind(no_switches, no_others, lid, end)
-    }
-
-    fn aim_of(&self, no_switches: &[bool], no_others: &[bool], lid: u16) -> Aim
-        requires switches { KnowsOthers self.now true no_switches.now }
-        requires others { KnowsOthers self.now false no_others.now }
-        ensures { result ≡ aim_of self.now lid }
-    {
-        let guid = self.dump().end_of(lid);
-        Aim {
-            lid,
-            guid,
-            end: self.end_by(no_switches, no_others, lid, guid),
-        }
-    }
-
     fn says_of_fabric(&self, lid: u16, place: usize) -> bool
         ensures { result ≡ says_of_fabric self.now lid place }
     {
@@ -182,45 +116,6 @@ impl<'a> Net<'a> {
         aim.end.is_none() && self.some_say_of_fabric(aim.lid)
     }
 
-    fn push_aim(
-        &self,
-        aims: &mut Vec<Aim>,
-        marks: &[bool],
-        no_switches: &[bool],
-        no_others: &[bool],
-        lid: usize,
-    ) -> Result<(), AllocError>
-        requires below { lid < 65536 }
-        requires switches { KnowsOthers self.now true no_switches.now }
-        requires others { KnowsOthers self.now false no_others.now }
-        ensures { OnOk result (aims.new.items ≡ aims.old.items ++ (if is_marked marks.now lid then aim_of self.now lid ∷ [] else [])) }
-    {
-        if is_marked(marks, lid) {
-            aims.push(self.aim_of(no_switches, no_others, lid as u16))?;
-        }
-        Ok(())
-    }
-
-    fn aims_below(
-        &self,
-        alloc: Global,
-        marks: &[bool],
-        no_switches: &[bool],
-        no_others: &[bool],
-        count: usize,
-    ) -> Result<Vec<Aim>, AllocError>
-        requires below { count ≤ 65536 }
-        requires switches { KnowsOthers self.now true no_switches.now }
-        requires others { KnowsOthers self.now false no_others.now }
-        ensures { IfOk result (λ all. all.items ≡ aims_below self.now (is_marked marks.now) count) }
-    {
-        let mut aims = Vec::new(alloc);
-        for lid in 0..count {
-            self.push_aim(&mut aims, marks, no_switches, no_others, lid)?;
-        }
-        Ok(aims)
-    }
-
     /// Whether the port is a switch's, or has one of these LIDs.
     pub(crate) fn has_lid(&self, aims: &[Aim], port: PortRef) -> bool
         ensures { result ≡ has_lid self.now aims.now port }
@@ -235,14 +130,12 @@ impl<'a> Net<'a> {
         self.has_lid(aims, cable.first) && self.has_lid(aims, cable.second)
     }
 
-    /// What is known of each LID that a row names, as LIDs rise.
+    /// What is known of each LID that a row names or the discovery reports, as LIDs rise.
     pub(crate) fn aims(&self, alloc: Global) -> Result<Vec<Aim>, AllocError>
         ensures { IfOk result (λ all. all.items ≡ aims self.now) }
     {
-        let marks = marks_of(alloc, self.dump().tables(), 65536)?;
-        let no_switches = self.other_kinds(alloc, true)?;
-        let no_others = self.other_kinds(alloc, false)?;
-        let aims = self.aims_below(alloc, &marks, &no_switches, &no_others, 65536)?;
+        let index = LidIndex::of(alloc, self)?;
+        let aims = index.aims_below(alloc, 65536)?;
         Ok(aims)
     }
 }

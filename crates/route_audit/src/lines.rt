@@ -8,15 +8,15 @@ ghost use Rattle.route_audit.specs.Lids.{is_named};
 ghost use Rattle.route_audit.specs.Net.{table_at};
 ghost use Rattle.dump_file.specs.Sound.{is_rising};
 ghost use Rattle.route_audit.specs.Lines.{apart_line, passed_words, files_by, has_switch, lid_text, owner_text, hole_line, is_least, is_nobodys, is_stray, lacking_line, leaves_out};
-ghost use Rattle.route_audit.specs.Lines.{is_wide_at, left_out_line, line_by, loop_line, name_text, name_word, nobodys_line, unplaced_line, no_lid_line, no_lid_lines, no_port_line, no_switch_line, no_table_line};
+ghost use Rattle.route_audit.specs.Lines.{is_among, is_untold, left_out_line, line_by, loop_line, name_text, name_word, nobodys_line, unplaced_line, no_lid_line, no_lid_lines, no_port_line, no_switch_line, no_table_line};
 ghost use Rattle.route_audit.specs.Lines.{nowhere_line, port_text, stray_line, trouble_line, troubles_at, troubles_by, unreported_line, unreported_lines, wrong_line};
 ghost use Rattle.topo_file.specs.Connectivity.{switches};
 
 use crate::following::Turn;
-use crate::inputs::{is_left_out, is_wide, row_of};
+use crate::inputs::{is_left_out, row_of};
 use crate::lids::Aim;
 use crate::net::Net;
-use crate::plan::{PlanNode, name_at, ports_at};
+use crate::plan::{PlanNode, name_at};
 use dump_file::{Destination, Row, Table};
 use fabric_parts::{Cable, NO_PORT, PortRef};
 use std::alloc::{AllocError, Global};
@@ -79,6 +79,12 @@ fn some_leaves_out(tables: &[Table], lid: u16) -> bool
     ensures { result ≡ list_any (leaves_out lid) tables.now }
 {
     tables.iter().any(|table| leaves_out(lid, table))
+}
+
+fn is_among(aims: &[Aim], lid: u16) -> bool
+    ensures { result ≡ is_among aims.now lid }
+{
+    aims.iter().any(|aim| aim.lid == lid)
 }
 
 fn is_nobodys(destination: Destination) -> bool
@@ -244,16 +250,16 @@ impl<'a> Net<'a> {
         Ok(())
     }
 
-    fn is_left_out_of_one(&self, lid: u16) -> bool
-        ensures { result ≡ list_any (leaves_out lid) self.now.dump.tables }
+    fn is_untold(&self, aims: &[Aim], lid: u16) -> bool
+        ensures { result ≡ is_untold self.now aims.now lid }
     {
-        some_leaves_out(self.dump().tables(), lid)
+        some_leaves_out(self.dump().tables(), lid) && !is_among(aims, lid)
     }
 
-    fn push_unreported(&self, text: &mut Vec<u8>, lid: u16) -> Result<(), AllocError>
-        ensures { OnOk result (text.new.items ≡ text.old.items ++ unreported_line self.now.dump.tables lid) }
+    fn push_unreported(&self, text: &mut Vec<u8>, aims: &[Aim], lid: u16) -> Result<(), AllocError>
+        ensures { OnOk result (text.new.items ≡ text.old.items ++ unreported_line self.now aims.now lid) }
     {
-        if self.is_left_out_of_one(lid) {
+        if self.is_untold(aims, lid) {
             text.extend_from_slice(b"untold ")?;
             push_decimal(text, usize::from(lid))?;
             text.push(b'\n')?;
@@ -261,21 +267,26 @@ impl<'a> Net<'a> {
         Ok(())
     }
 
-    fn push_unreported_below(&self, text: &mut Vec<u8>, count: u16) -> Result<(), AllocError>
+    fn push_unreported_below(
+        &self,
+        text: &mut Vec<u8>,
+        aims: &[Aim],
+        count: u16,
+    ) -> Result<(), AllocError>
         requires { count ≤ 1024 }
-        ensures { OnOk result (text.new.items ≡ text.old.items ++ flat_map (λ n. unreported_line self.now.dump.tables (n * 64)) (range_with_len 0 count)) }
+        ensures { OnOk result (text.new.items ≡ text.old.items ++ flat_map (λ n. unreported_line self.now aims.now (n * 64)) (range_with_len 0 count)) }
     {
         for number in 0..count {
-            self.push_unreported(text, number * 64)?;
+            self.push_unreported(text, aims, number * 64)?;
         }
         Ok(())
     }
 
-    /// Adds the LIDs that a table leaves out.
-    fn push_unreported_lines(&self, text: &mut Vec<u8>) -> Result<(), AllocError>
-        ensures { OnOk result (text.new.items ≡ text.old.items ++ unreported_lines self.now.dump.tables) }
+    /// Adds the LIDs that a table leaves out, of which nothing is known.
+    fn push_unreported_lines(&self, text: &mut Vec<u8>, aims: &[Aim]) -> Result<(), AllocError>
+        ensures { OnOk result (text.new.items ≡ text.old.items ++ unreported_lines self.now aims.now) }
     {
-        self.push_unreported_below(text, 1024)?;
+        self.push_unreported_below(text, aims, 1024)?;
         Ok(())
     }
 
@@ -289,15 +300,8 @@ impl<'a> Net<'a> {
         self.push_no_switches(text)?;
         push_no_ports(text, aims)?;
         self.push_no_lids(text, aims)?;
-        self.push_unreported_lines(text)?;
+        self.push_unreported_lines(text, aims)?;
         Ok(())
-    }
-
-    /// Whether the table of the switch there may lack rows because of its many ports.
-    fn is_wide_at(&self, place: usize) -> bool
-        ensures { result ≡ is_wide_at self.now place }
-    {
-        is_wide(ports_at(self.nodes(), place)) && self.table_at(place).is_some()
     }
 
     fn push_left_out(
@@ -309,7 +313,7 @@ impl<'a> Net<'a> {
     ) -> Result<(), AllocError>
         ensures { OnOk result (text.new.items ≡ text.old.items ++ left_out_line self.now place lid end) }
     {
-        if self.is_wide_at(place) {
+        if self.table_at(place).is_some() {
             text.extend_from_slice(b"left-out ")?;
             self.push_name(text, place)?;
             text.extend_from_slice(b" ")?;

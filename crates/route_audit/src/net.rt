@@ -11,6 +11,7 @@ ghost use Rattle.route_audit.specs.Net.{entry, row_at, table_at};
 ghost use Rattle.route_audit.specs.Plan.{is_host, port_of};
 ghost use Rattle.route_audit.specs.declared.entry.Entry.TheVariants.{Out};
 
+use crate::ends::LidGuid;
 use crate::entry::{Entry, EntryList, entry_at};
 use crate::far_ends::{EndList, end_at};
 use crate::following::{Turn, TurnList, turn_known};
@@ -85,6 +86,13 @@ impl<'a> Net<'a> {
         ensures { result.now ≡ self.now.plan.apart }
     {
         self.inputs.apart()
+    }
+
+    /// The LIDs that end ports report.
+    pub(crate) fn lids(&self) -> &[LidGuid]
+        ensures { result.now ≡ self.now.plan.lids }
+    {
+        self.inputs.lids()
     }
 
     /// The end port of this GUID.

@@ -4,7 +4,7 @@ ghost use Rattle.std.specs.Prelude.{◌≡◌, ◌++◌, IfOk, OnOk};
 ghost use Rattle.route_audit.specs.Plan.{adapter_ends, end_with, ends_at, ends_in, ends_of, is_aggregation_node, is_host, plan_of, port_of};
 ghost use Rattle.topo_file.specs.Node.{is_switch, is_switch_at, name_at, ports_at};
 
-use crate::ends::{EndGuid, EndIndex};
+use crate::ends::{EndGuid, EndIndex, LidGuid};
 use fabric_parts::{Cable, NodeType, PortRef};
 use std::alloc::{AllocError, Global};
 use std::marker::Model;
@@ -51,6 +51,8 @@ pub(crate) struct Plan {
     pub(crate) ends: EndIndex,
     /// Of each node, as far as it goes, whether it is an aggregation node.
     pub(crate) aggregation: Vec<bool>,
+    /// The LIDs that end ports report.
+    pub(crate) lids: Vec<LidGuid>,
 }
 
 impl Model for Plan {
@@ -58,7 +60,7 @@ impl Model for Plan {
 
     ghost Value = { PlanState };
 
-    ghost view = { λ plan. record { nodes = plan.nodes.items; cables = plan.cables.items; apart = plan.apart.items; ends = plan.ends; aggregation = plan.aggregation.items } };
+    ghost view = { λ plan. record { nodes = plan.nodes.items; cables = plan.cables.items; apart = plan.apart.items; ends = plan.ends; aggregation = plan.aggregation.items; lids = plan.lids.items } };
 }
 
 /// Whether the node there is a switch.
@@ -186,6 +188,13 @@ impl Plan {
         self.apart.as_slice()
     }
 
+    /// The LIDs that end ports report.
+    pub(crate) fn lids(&self) -> &[LidGuid]
+        ensures { result.now ≡ self.now.lids }
+    {
+        self.lids.as_slice()
+    }
+
     /// The end port of this GUID.
     pub(crate) fn port_of(&self, guid: u64) -> Option<PortRef>
         ensures { result ≡ port_of self.now.ends guid }
@@ -220,6 +229,7 @@ impl Plan {
             apart: Vec::new(alloc),
             ends: EndIndex::of(alloc, ends)?,
             aggregation: Vec::new(alloc),
+            lids: Vec::new(alloc),
         })
     }
 }

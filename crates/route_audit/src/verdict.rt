@@ -4,7 +4,8 @@ ghost use Rattle.std.specs.Prelude.{◌≡◌, ◌++◌, not, IfOk, OnOk, option
 ghost use Rattle.std.specs.List.{list_all, list_any};
 ghost use Rattle.route_audit.specs.Lids.{have_lids, is_lacking};
 ghost use Rattle.route_audit.specs.Pairs.{pairs_by};
-ghost use Rattle.route_audit.specs.Verdict.{has_table, have_tables, is_known, is_unknown, knows_all, knows_entries, knows_next, name_the_same, reasons, safe_words, verdict_by, verdict_is_safe, verdict_line, with_reason};
+ghost use Rattle.route_audit.specs.Net.{has_table};
+ghost use Rattle.route_audit.specs.Verdict.{have_tables, is_known, is_unknown, knows_all, knows_entries, knows_next, name_the_same, reasons, safe_words, verdict_by, verdict_is_safe, verdict_line, with_reason};
 ghost use Rattle.topo_file.specs.Connectivity.{switches};
 
 use crate::following::Turn;

@@ -4,6 +4,7 @@
 ghost use Rattle.route_audit.specs.WrongRules.{ANodeMayBeJoinedToItself, AdaptersAreJoinedApart, AggregationDecidesNothing, EachStepHasItsLid, LidsGoOnRound};
 ghost use Rattle.route_audit.specs.WrongRules.{FirstPortsAreChannels, HolesAreCounted, HolesHaveALine, LidsAreAsked, LoopsBeginWhereReported, LoopsHaveALine};
 ghost use Rattle.route_audit.specs.WrongRules.{NobodysLoopsHaveALine, OtherLidsDecide, OtherLidsDoNotCount, OtherPortsDecide, OtherTablesDecide, OthersHolesHaveALine};
+ghost use Rattle.route_audit.specs.WrongRules.{NobodyHasLid0, OldLidsDoNotCount, ReportedLidsCount, ReportsComeLast, RowsLeftOutHaveALine, SwitchesHaveLids};
 ghost use Rattle.route_audit.specs.WrongRules.{TheLastWaitsForTheFirst, TransitDecidesNothing, TwoMakeACycle, UnknownEntriesDecide, WaysAreAsked, WaysAreLonger};
 
 /// Where ports of one node have no cable, the two ends of a loopback plug have none.
@@ -111,6 +112,11 @@ pub fn holes_have_a_line()
     ensures { HolesHaveALine }
 {}
 
+/// If an entry that a table leaves out has no line, packets come to it and none reports it.
+pub fn rows_left_out_have_a_line()
+    ensures { RowsLeftOutHaveALine }
+{}
+
 /// If a LID whose port the fabric lacks has no line, packets to it end and none reports it.
 pub fn others_holes_have_a_line()
     ensures { OthersHolesHaveALine }
@@ -119,4 +125,29 @@ pub fn others_holes_have_a_line()
 /// If a loop of a LID that is nobody's has no line, packets go round and none reports it.
 pub fn nobodys_loops_have_a_line()
     ensures { NobodysLoopsHaveALine }
+{}
+
+/// Where LID 0 is a port's, a port that no subnet manager gave a LID has one.
+pub fn nobody_has_lid_0()
+    ensures { NobodyHasLid0 }
+{}
+
+/// Where ports of switches have no LID, a header that reports one is not heard.
+pub fn switches_have_lids()
+    ensures { SwitchesHaveLids }
+{}
+
+/// Where what a port reports counts first, a row that gives the LID to another port is not heard.
+pub fn reports_come_last()
+    ensures { ReportsComeLast }
+{}
+
+/// Where what a port reports counts beside what rows say, a port that got another LID since has two.
+pub fn old_lids_do_not_count()
+    ensures { OldLidsDoNotCount }
+{}
+
+/// Where rows alone count, a LID that has no row is nobody's, though a port reports it.
+pub fn reported_lids_count()
+    ensures { ReportedLidsCount }
 {}

@@ -1,4 +1,4 @@
-use Rattle.std.proofs.Common.{ap, ◌++◌, ◌∷◌, [], List, ◌∙◌}
+use Rattle.std.proofs.Common.{ap, ◌++◌, ◌∷◌, [], ◌∙◌}
 use Rattle.route_audit.specs.declared.ends.EndGuid.{EndGuid}
 use Rattle.route_audit.specs.Plan.{adapter_end}
 use Rattle.route_audit.proofs.ChannelLemmas.{flat_onto}
