@@ -44,6 +44,11 @@ const DATA: usize = 64;
 
 const STATE: usize = DATA + 32;
 
+/// Where PortStateChange stands in SwitchInfo, and its bit.
+const STATE_CHANGE: usize = DATA + 11;
+
+const STATE_CHANGE_BIT: u8 = 4;
+
 /// A place that no SMP has.
 const NOWHERE: usize = 256;
 
@@ -167,6 +172,35 @@ fn a_state_that_was_not_asked_is_not_compared(rt: HostRuntime) -> Result<(), Fai
     for left in 0..24 {
         let reported = pushed(rt.alloc(), &Push::Ports, true, left, (SET, STATE, 1))?;
         assert!(rt; reported.is_ok() == NO_STATE_ASKED.contains(&left));
+    }
+    Ok(())
+}
+
+/// Which exchanges of a push of ports get and set SwitchInfo of a switch, and which of its Sets those are.
+const SWITCH_INFOS: [u64; 4] = [34, 35, 36, 37];
+
+const SWITCH_INFO_SETS: [u64; 2] = [22, 23];
+
+/// What a Get says of it is written back, and the switch then says otherwise, as one that clears it if 1 is written; or the
+/// switch says that it has changed since the Get.
+#[test]
+fn port_state_change_is_not_compared(rt: HostRuntime) -> Result<(), Fail> {
+    for left in SWITCH_INFOS {
+        let spoil = (GET, STATE_CHANGE, STATE_CHANGE_BIT);
+        let reported = pushed(rt.alloc(), &Push::Ports, true, left, spoil)?;
+        assert!(rt; reported == Ok(()));
+    }
+    Ok(())
+}
+
+#[test]
+fn what_stands_beside_port_state_change_is_compared(rt: HostRuntime) -> Result<(), Fail> {
+    for left in SWITCH_INFO_SETS {
+        for bits in [STATE_CHANGE_BIT * 2, STATE_CHANGE_BIT / 2] {
+            let spoil = (SET, STATE_CHANGE, bits);
+            let reported = pushed(rt.alloc(), &Push::Ports, true, left, spoil)?;
+            assert!(rt; reported == Err(PushFault::NotAsSet));
+        }
     }
     Ok(())
 }

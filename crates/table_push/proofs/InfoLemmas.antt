@@ -5,7 +5,7 @@ use Rattle.std.specs.Int.Digits.{AllBelowBase}
 use Rattle.std.specs.Option.{is_some, option_map_or}
 use Rattle.std.proofs.lemmas.Bool.{and_from, and_parts, false≢true, leb-true}
 use Rattle.std.proofs.lemmas.Nat.{field_of, mod_below, mod_low, pow_pos, shr-shr, shr_high}
-use Rattle.std.proofs.Math.Nat.{mod-eq_of_lt}
+use Rattle.std.proofs.Math.Nat.{mod-add-div', mod-eq_of_lt}
 use Rattle.std.proofs.Math.Pow.{mod-mod-pow}
 use Rattle.sweep.proofs.LinkLemmas.{info_holds}
 use Rattle.agent_rules.specs.Agent.{shown_at}
@@ -20,12 +20,12 @@ use Rattle.attr_tables.specs.declared.smp_attribute.SmpAttribute.TheVariants.{Po
 use Rattle.attr_tables.specs.declared.port_state.PortState.{PortState}
 use Rattle.attr_tables.specs.declared.port_state.PortState.TheVariants.{NoChange, Down, Initialize, Armed, Active}
 use Rattle.fabric_parts.specs.declared.lid.TheConstants.{LAST_UNICAST_LID}
-use Rattle.mad_layout.specs.Bits.{field, number, put_field, replaced}
+use Rattle.mad_layout.specs.Bits.{digits, field, number, put_field, replaced}
 use Rattle.mad_layout.specs.Layout.{Field, Fits, Holds, is_apart, is_free, is_layout, put_all}
 use Rattle.mad_layout.specs.declared.status.MadStatus.TheVariants.{InvalidField}
 use Rattle.mad_layout.proofs.AlignedLemmas.{same_bit}
 use Rattle.mad_layout.proofs.LayoutLemmas.{apart_parts, fits_both, fits_drop, fits_take, holds_put_all, length-put_all, length-put_field, put_below}
-use Rattle.mad_layout.proofs.NumberLemmas.{number_below, number_bytes}
+use Rattle.mad_layout.proofs.NumberLemmas.{number_below, number_bytes, number_same}
 use Rattle.mad_layout.proofs.PutLemmas.{put_swap}
 use Rattle.smp_wire.specs.FabricState.{FabricState}
 use Rattle.smp_wire.specs.Get.{gives_along}
@@ -197,6 +197,27 @@ put_twice xs off len v w small within fits =
     let same = number_put xs off len v in
     (λ i. bytes_high_first (size i) (replaced (same i) (8 * size i - (off + len)) len w))
     ∙ ap (bytes_high_first (length xs)) (replaced_again (number xs) (8 * length xs - (off + len)) len v w (8 * length xs) fits (omega arith) (number_below xs small))
+
+own_digits : (n low len : ℕ) → replaced n low len (digits n low len) ≡ n
+own_digits n low len =
+    ap (λ (high : ℕ). (high * 2 ^ len + n / 2 ^ low % 2 ^ len) * 2 ^ low + n % 2 ^ low) (sym (shr-shr n low len))
+    ∙ ap (λ (high : ℕ). high * 2 ^ low + n % 2 ^ low) (whole (n / 2 ^ low) (2 ^ len))
+    ∙ whole n (2 ^ low)
+  where
+    turned : (high low all : ℕ) → low + high ≡ all → high + low ≡ all
+    turned high low all is = omega (arith, is)
+
+    whole : (a b : ℕ) → a / b * b + a % b ≡ a
+    whole a b = turned (a / b * b) (a % b) a (mod-add-div' a b)
+
+-- what a field holds already is put there
+pub put_own : (xs : List ℕ) (off len : ℕ) → AllBelowBase 256 xs → put_field xs off len (field xs off len) ≡ xs
+unfolding field
+put_own xs off len small =
+    number_same (put_field xs off len (field xs off len)) xs (put_below xs off len (field xs off len)) small (length-put_field xs off len (field xs off len))
+    (number_put xs off len (field xs off len)
+    ∙ ap (λ (n : ℕ). n % 2 ^ (8 * length xs)) (own_digits (number xs) (8 * length xs - (off + len)) len)
+    ∙ mod-eq_of_lt (number_below xs small))
 
 -- a field that is put last, apart from all others, may be put first
 put_first : (xs : List ℕ) (ps : List Field) (off len v : ℕ) → is_layout (8 * length xs) ps ≡ true → is_free off len ps ≡ true → Fits ps

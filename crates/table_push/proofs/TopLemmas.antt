@@ -1,5 +1,6 @@
 -- SwitchInfo that is read, changed and set again, and LinearFDBTop of all switches.
 use Rattle.std.proofs.Common.{ℕ, ◌≡◌, ◌+◌, ◌<◌, ◌≤◌, ◌==◌, ◌||◌, ◌∙◌, ap, refl, sym, subst, Bool, true, false, if◌then◌else◌, List, map, length, take, replicate, slice_get, Option, Some, Result, Ok, Err, length-append, arith}
+use Rattle.std.specs.Int.Digits.{AllBelowBase}
 use Rattle.std.specs.List.{All, list_any}
 use Rattle.std.specs.Option.{option_map_or}
 use Rattle.std.proofs.lemmas.Bool.{eq-eqb, lt-ltb}
@@ -13,7 +14,7 @@ use Rattle.attr_tables.specs.declared.switch_info.SwitchInfo.{SwitchInfo}
 use Rattle.lid_assign.specs.Lids.{AreLids, adapter_end, end_ports, switch_end}
 use Rattle.mad_layout.specs.Layout.{Fits, Holds}
 use Rattle.mad_layout.proofs.AlignedLemmas.{same_bit}
-use Rattle.mad_layout.proofs.LayoutLemmas.{holds_put_all}
+use Rattle.mad_layout.proofs.LayoutLemmas.{encoded_below, holds_put_all}
 use Rattle.smp_wire.specs.FabricState.{FabricState, is_switch, is_switch_at}
 use Rattle.smp_wire.specs.Get.{gives_along}
 use Rattle.smp_wire.specs.Good.{IsGood, node_guid}
@@ -33,6 +34,7 @@ use Rattle.table_push.specs.Nodes.{on_switch, switch_by, with_infos, with_switch
 use Rattle.table_push.specs.Ports.{change_wanted, changed, ports_pushed, set_top, with_top}
 use Rattle.table_push.specs.Pushes.{LeadsToSwitch, Leaves, Stands}
 use Rattle.table_push.specs.declared.fault.PushFault.{PushFault}
+use Rattle.table_push.proofs.InfoLemmas.{put_own}
 use Rattle.table_push.proofs.LawLemmas.{found_there, switch_at}
 use Rattle.table_push.proofs.LeadLemmas.{SetsAt, SwitchThere, begins_as, ends_as, goes_on, good_switch, leads_on, switch_gives_then, switch_takes, switch_there}
 use Rattle.table_push.proofs.NodeLemmas.{both_written, map_alike, none_written}
@@ -90,9 +92,13 @@ unfolding switch_set
 takes_top held lid bytes small long fits same =
     rw (same, encoded_is_read.linear_fdb_top (with_top lid held.info) (top_fits lid held.info small fits), long, lt-ltb lid 512 small) refl
 
-compares : (bytes : List ℕ) → compared SwitchInfoAsked bytes bytes ≡ bytes
+compares : (bytes : List ℕ) → AllBelowBase 256 bytes → compared SwitchInfoAsked bytes bytes ≡ bytes
 unfolding compared
-compares bytes = refl
+compares bytes small = put_own bytes 93 1 small
+
+bytes_below : (info : SwitchInfo) → AllBelowBase 256 (switch_info_bytes info)
+unfolding switch_info_bytes
+bytes_below info = encoded_below (switch_info info) 64
 
 same_bytes : (fabric : FabricState) (path bytes some : List ℕ) → gives_along fabric path SwitchInfoAsked 0 ≡ Some (Ok some)
     → Ok bytes ≡ reported_for (gives_along fabric path SwitchInfoAsked 0) → bytes ≡ some
@@ -125,7 +131,7 @@ top_set fabric stood left result path guid lid read bytes wanted good stands lea
       bytes = wanted;
       given = switch_gives_then fabric path guid (set_top lid) SwitchInfoAsked 0 wanted good here
           (gives_info (set_top lid here.held) here.at.port ∙ ap (λ (some : List ℕ). Ok some) (sym wanted_is)) shape;
-      same = compares wanted;
+      same = compares wanted (subst (AllBelowBase 256) (sym wanted_is) (bytes_below (with_top lid here.held.info)));
     })
 
 -- ---- all switches

@@ -34,12 +34,18 @@ state_of bytes = field bytes 260 4
 abbrev pub without_state : List ℕ → List ℕ
 without_state bytes = put_field bytes 260 4 (port_state_code NoChange)
 
--- what of the bytes that a reply carries is compared: a state that was not asked for counts for nothing
+-- PortStateChange of SwitchInfo (chapter 14) as it was set: a switch clears it if 1 is written, and sets it if a port of it
+-- changes its state
+abbrev pub with_state_change : List ℕ → List ℕ → List ℕ
+with_state_change wanted reported = put_field reported 93 1 (field wanted 93 1)
+
+-- what of the bytes that a reply carries is compared: a state that was not asked for counts for nothing, and PortStateChange
+-- never counts
 unfoldable pub compared : SmpAttribute → List ℕ → List ℕ → List ℕ
 compared attribute.PortInfo wanted reported = if state_of wanted == port_state_code NoChange then without_state reported else reported
 compared attribute.NodeDescription wanted reported = reported
 compared attribute.NodeInfo wanted reported = reported
-compared attribute.SwitchInfo wanted reported = reported
+compared attribute.SwitchInfo wanted reported = with_state_change wanted reported
 compared attribute.PKeyTable wanted reported = reported
 compared attribute.LinearForwardingTable wanted reported = reported
 compared attribute.MulticastForwardingTable wanted reported = reported

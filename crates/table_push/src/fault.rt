@@ -71,7 +71,8 @@ fn as_set(attribute: SmpAttribute, wanted: &[u8; 64], reported: &[u8; 64]) -> Re
     }
 }
 
-/// What of the bytes that a reply carries is compared: a PortState that was not asked for counts for nothing.
+/// What of the bytes that a reply carries is compared: a PortState that was not asked for counts for nothing, and
+/// PortStateChange never counts, since a switch clears it if 1 is written.
 #[tactic(auto, unfolding(crate::specs::Fault::compared))]
 fn compared(attribute: SmpAttribute, wanted: &[u8; 64], reported: &[u8; 64]) -> [u8; 64]
     ensures { result ≡ compared attribute wanted.now reported.now }
@@ -79,6 +80,8 @@ fn compared(attribute: SmpAttribute, wanted: &[u8; 64], reported: &[u8; 64]) -> 
     let mut bytes = *reported;
     if attribute == SmpAttribute::PortInfo && get_bits::<260, 4>(wanted) == 0 {
         put_bits::<260, 4>(&mut bytes, 0);
+    } else if attribute == SmpAttribute::SwitchInfo {
+        put_bits::<93, 1>(&mut bytes, get_bits::<93, 1>(wanted));
     }
     bytes
 }
