@@ -44,6 +44,9 @@ const DATA: usize = 64;
 
 const STATE: usize = DATA + 32;
 
+/// Where LMC stands in PortInfo, the last three bits of a byte.
+const LMC: usize = DATA + 34;
+
 /// Where PortStateChange stands in SwitchInfo, and its bit.
 const STATE_CHANGE: usize = DATA + 11;
 
@@ -200,6 +203,21 @@ fn what_stands_beside_port_state_change_is_compared(rt: HostRuntime) -> Result<(
             let spoil = (SET, STATE_CHANGE, bits);
             let reported = pushed(rt.alloc(), &Push::Ports, true, left, spoil)?;
             assert!(rt; reported == Err(PushFault::NotAsSet));
+        }
+    }
+    Ok(())
+}
+
+/// Which exchanges of a push of ports get PortInfo of an end port.
+const END_PORTS_ARE_GOT: [u64; 6] = [0, 5, 13, 19, 25, 31];
+
+/// The agents of the simulated fabric refuse each LMC but 0, so that is what is set.
+#[test]
+fn end_ports_with_an_lmc_of_another_manager_get_lmc_0(rt: HostRuntime) -> Result<(), Fail> {
+    for left in END_PORTS_ARE_GOT {
+        for lmc in [1, 7] {
+            let reported = pushed(rt.alloc(), &Push::Ports, true, left, (GET, LMC, lmc))?;
+            assert!(rt; reported == Ok(()));
         }
     }
     Ok(())

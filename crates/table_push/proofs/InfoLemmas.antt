@@ -3,7 +3,7 @@ use Rattle.std.proofs.Common.{ℕ, ◌≡◌, ◌+◌, ◌*◌, ◌-◌, ◌/◌
 use Rattle.std.specs.Int.{bytes_high_first}
 use Rattle.std.specs.Int.Digits.{AllBelowBase}
 use Rattle.std.specs.Option.{is_some, option_map_or}
-use Rattle.std.proofs.lemmas.Bool.{and_from, and_parts, false≢true, leb-true}
+use Rattle.std.proofs.lemmas.Bool.{and_from, and_parts, eqb-true, false≢true, leb-true}
 use Rattle.std.proofs.lemmas.Nat.{field_of, mod_below, mod_low, pow_pos, shr-shr, shr_high}
 use Rattle.std.proofs.Math.Nat.{mod-add-div', mod-eq_of_lt}
 use Rattle.std.proofs.Math.Pow.{mod-mod-pow}
@@ -134,6 +134,9 @@ own_lid info good =
     let b = and_parts (nat_le 1 info.neighbor_mtu && nat_le info.neighbor_mtu 4) _ a.1 in
     (and_parts (nat_le info.lid LAST_UNICAST_LID) _ b.1).0
 
+no_lmc : (info : PortInfo) → IsGoodInfo info → info.lmc ≡ 0
+no_lmc info good = eqb-true info.lmc 0 (and_parts (info.lmc == 0) _ good.regular).0
+
 is_taken : (on : Bool) (info next : PortInfo) (wanted : PortSetting) → is_valid info wanted ≡ true → taken_over on info wanted ≡ next
     → port_info_after on info wanted ≡ Ok next
 is_taken on info next wanted takes same =
@@ -156,11 +159,17 @@ setting_taken true None (Some b) code shown info good unicast can follows =
     is_taken true info _ (asks None (Some b) code shown info) (valid info (asks None (Some b) code shown info) good refl refl (own_lid info good) follows) refl
 setting_taken false lid (Some b) code shown info good unicast can follows = absurd (false≢true (can refl))
 setting_taken true (Some n) None code shown info good unicast can follows =
-    is_taken true info _ (asks (Some n) None code shown info) (valid info (asks (Some n) None code shown info) good refl refl unicast follows) refl
+    let none = no_lmc info good in
+    is_taken true info _ (asks (Some n) None code shown info) (valid info (asks (Some n) None code shown info) good (sym none) refl unicast follows)
+    (ap (λ (lmc : ℕ). record (with_end_set (Some n) (as_held code info)) { lmc = lmc }) none)
 setting_taken false (Some n) None code shown info good unicast can follows =
-    is_taken false info _ (asks (Some n) None code shown info) (valid info (asks (Some n) None code shown info) good refl refl unicast follows) refl
+    let none = no_lmc info good in
+    is_taken false info _ (asks (Some n) None code shown info) (valid info (asks (Some n) None code shown info) good (sym none) refl unicast follows)
+    (ap (λ (lmc : ℕ). record (with_end_set (Some n) (as_held code info)) { lmc = lmc }) none)
 setting_taken true (Some n) (Some b) code shown info good unicast can follows =
-    is_taken true info _ (asks (Some n) (Some b) code shown info) (valid info (asks (Some n) (Some b) code shown info) good refl refl unicast follows) refl
+    let none = no_lmc info good in
+    is_taken true info _ (asks (Some n) (Some b) code shown info) (valid info (asks (Some n) (Some b) code shown info) good (sym none) refl unicast follows)
+    (ap (λ (lmc : ℕ). record (enforces (Some b) (with_end_set (Some n) (as_held code info))) { lmc = lmc }) none)
 
 -- ---- a field that is put again
 number_put : (xs : List ℕ) (off len v : ℕ) → number (put_field xs off len v) ≡ replaced (number xs) (8 * length xs - (off + len)) len v % 2 ^ (8 * length xs)

@@ -14,7 +14,7 @@ use Rattle.updn_routes.specs.Subnet.{RoutesState, place_of}
 -- of a port that becomes an end port's, that enforces partitions or not, that becomes Active
 abbrev pub without_end : Option ℕ → PortInfo → PortInfo
 without_end None info = info
-without_end (Some lid) info = record info { gid_prefix = 0; lid = 0; master_sm_lid = 0 }
+without_end (Some lid) info = record info { gid_prefix = 0; lid = 0; lmc = 0; master_sm_lid = 0 }
 
 abbrev pub without_enforcement : Option Bool → PortInfo → PortInfo
 without_enforcement None info = info

@@ -22,10 +22,11 @@ use Rattle.switch_model.specs.SwitchState.{SwitchState}
 use Rattle.updn_routes.specs.Subnet.{RoutesState, place_of}
 
 -- ---- what a port is set to
--- an end port has the link-local prefix and its LID, and knows the subnet manager's LID, which is always 1
+-- an end port has the link-local prefix and its LID, no other LID (LMC 0), and knows the subnet manager's LID, which is
+-- always 1
 abbrev pub with_end_set : Option ℕ → PortInfo → PortInfo
 with_end_set None info = info
-with_end_set (Some lid) info = record info { gid_prefix = 0xfe80 * 2 ^ 48; lid = lid; master_sm_lid = 1 }
+with_end_set (Some lid) info = record info { gid_prefix = 0xfe80 * 2 ^ 48; lid = lid; lmc = 0; master_sm_lid = 1 }
 
 -- a port of a switch lets in and out what its key table reports, or all
 abbrev pub enforces : Option Bool → PortInfo → PortInfo

@@ -25,7 +25,7 @@ use updn_routes::Routes;
 /// What is changed of a port; what is none stays.
 #[derive(Clone, Copy)]
 pub struct PortChange {
-    /// The LID of an end port, with which go its prefix and the subnet manager's LID.
+    /// The LID of an end port, with which go its prefix, the subnet manager's LID, and LMC 0.
     lid: Option<u16>,
     /// Whether a port of a switch enforces partitions.
     enforcement: Option<bool>,
@@ -33,7 +33,7 @@ pub struct PortChange {
     active: bool,
 }
 
-/// Sets up all ports: each end port has its prefix, its LID and the subnet manager's, each port with a cable becomes
+/// Sets up all ports: each end port has its prefix, its LID, LMC 0 and the subnet manager's LID, each port with a cable becomes
 /// Active, the ports of switches that channel adapters are attached to enforce partitions and those between switches do not, and
 /// LinearFDBTop of each switch is the greatest LID.
 ///
@@ -288,7 +288,8 @@ impl PortChange {
     }
 }
 
-/// PortInfo of an end port of that LID.
+/// PortInfo of an end port of that LID, and of no other: an LMC that another subnet manager left would give it the LIDs behind
+/// its own too.
 fn with_end_set(lid: Option<u16>, info: &PortInfo) -> PortInfo
     requires { Fits (port_info info.now) }
     ensures reported { result ≡ with_end_set lid info.now }
@@ -298,6 +299,7 @@ fn with_end_set(lid: Option<u16>, info: &PortInfo) -> PortInfo
         Some(lid) => PortInfo {
             gid_prefix: GID_PREFIX,
             lid,
+            lmc: 0,
             master_sm_lid: MANAGER_LID,
             ..*info
         },
