@@ -58,9 +58,8 @@ const NOWHERE: usize = 256;
 /// Of requests by that method, or a greater one: which byte of the reply is turned, and in which bits. Where there is no such
 /// byte, no reply comes. And what a push stops with. Of what is set these are the first and the last byte, and one of a
 /// LID or, of SwitchInfo, of LinearFDBTop.
-const SPOILS: [((u8, usize, u8), PushFault); 9] = [
+const SPOILS: [((u8, usize, u8), PushFault); 8] = [
     ((GET, NOWHERE, 0), PushFault::NoReply),
-    ((GET, STATUS, 0x1c), PushFault::Refused),
     ((GET, TRANSACTION_ID, 1), PushFault::NotAsSet),
     ((GET, CLASS_VERSION, 3), PushFault::NotAsSet),
     ((GET, MODIFIER, 0x40), PushFault::NotAsSet),
@@ -218,6 +217,30 @@ fn end_ports_with_an_lmc_of_another_manager_get_lmc_0(rt: HostRuntime) -> Result
         for lmc in [1, 7] {
             let reported = pushed(rt.alloc(), &Push::Ports, true, left, (GET, LMC, lmc))?;
             assert!(rt; reported == Ok(()));
+        }
+    }
+    Ok(())
+}
+
+/// The status of an agent that refuses.
+const REFUSAL: u8 = 0x1c;
+
+/// Of each key table the first block is set, and the three behind it are got, since they are to be empty: one that is refused
+/// is no block of the port, and empty.
+fn asks_for_an_empty_block(push: &Push, left: u64) -> bool {
+    matches!(push, Push::Keys) && left % 4 != 0
+}
+
+#[test]
+fn a_push_stops_where_an_agent_refuses_what_is_needed(rt: HostRuntime) -> Result<(), Fail> {
+    for (push, exchanges, _) in PUSHES.iter() {
+        for left in 0..*exchanges {
+            let reported = pushed(rt.alloc(), push, true, left, (GET, STATUS, REFUSAL))?;
+            if asks_for_an_empty_block(push, left) {
+                assert!(rt; reported == Ok(()));
+            } else {
+                assert!(rt; reported == Err(PushFault::Refused));
+            }
         }
     }
     Ok(())

@@ -1,8 +1,10 @@
 -- Key tables, written block by block.
 use Rattle.std.proofs.Common.{ℕ, ◌≡◌, ◌+◌, ◌*◌, ◌/◌, ◌<◌, ◌≤◌, ◌==◌, ◌&&◌, ◌∙◌, ap, refl, sym, subst, Bool, true, false, if◌then◌else◌, List, [], ◌∷◌, suc, get_or, ◌++◌, length, take, drop, Option, Some, Result, Ok, nat_lt, arith}
 use Rattle.std.specs.List.{list_all}
+use Rattle.std.specs.Str.{bytes_eq}
 use Rattle.std.proofs.lemmas.Bool.{lt-ltb, ltb-true}
 use Rattle.std.proofs.lemmas.List.{append-nil, drop_all, take-append-drop, take_all}
+use Rattle.std.proofs.lemmas.Slice.Eq.{bytes_eq-Decides}
 use Rattle.step_results.proofs.ListLemmas.{all_cut}
 use Rattle.attr_tables.specs.Blocks.{block_of, has_block, with_block, word_bytes}
 use Rattle.attr_tables.specs.declared.smp_attribute.SmpAttribute.TheVariants.{PKeyTable}
@@ -15,11 +17,14 @@ use Rattle.smp_wire.specs.FabricState.{FabricState}
 use Rattle.pkey_rules.specs.declared.key_table.TheConstants.{PARTITIONS}
 use Rattle.smp_wire.specs.Get.{gives_along}
 use Rattle.smp_wire.specs.Good.{IsGood}
+use Rattle.smp_wire.specs.Replies.{reported_for}
 use Rattle.smp_wire.specs.Shape.{IsSameShape}
+use Rattle.smp_wire.specs.declared.reply.ReplyFault.{ReplyFault}
 use Rattle.table_push.specs.Fault.{compared}
+use Rattle.table_push.specs.Keys.{whether_there}
 use Rattle.table_push.specs.Nodes.{on_port, with_keys}
 use Rattle.table_push.specs.Pushes.{LeadsToPort, Leaves, Stands}
-use Rattle.table_push.specs.Steps.{PutsBlock}
+use Rattle.table_push.specs.Steps.{PutsBlock, SaysWhetherThere}
 use Rattle.table_push.specs.declared.fault.PushFault.{PushFault}
 use Rattle.agent_rules.proofs.GivenLemmas.{block_long}
 use Rattle.table_push.proofs.BlockLemmas.{block_back, blocks_join}
@@ -123,6 +128,15 @@ block_stands fabric stood path asked guid number block words below is stands goo
     port_alike fabric path asked guid number (with_block 32 block words) (λ held. held) good here stays ∙ unchanged guid number fabric in
     subst (λ (next : FabricState). Leaves {X = Unit {0}} (Ok tt) stood fabric next) (sym next_is)
     (record { done = refl; stands = record { is = stands; good = good; shape = itself fabric } })
+
+-- a Get of a block that is to be empty, which the agent there does not refuse
+pub there_is_told : (x : FabricState) (path wanted : List ℕ) (modifier : ℕ) (reported : Result (List ℕ) ReplyFault) (result : Result Bool PushFault)
+    → result ≡ whether_there wanted reported → reported ≡ reported_for (gives_along x path PKeyTable modifier)
+    → (given : List ℕ) → gives_along x path PKeyTable modifier ≡ Some (Ok given) → SaysWhetherThere result given wanted
+there_is_told x path wanted modifier reported result is reports given gives =
+    let heard : reported ≡ Ok given = reports ∙ ap reported_for gives in
+    let told : result ≡ Ok (bytes_eq given wanted) = is ∙ ap (whether_there wanted) heard in
+    rw told (λ same. (bytes_eq-Decides given wanted).0 same)
 
 -- a Get reports something of each block
 pub block_given : (fabric : FabricState) (path : List ℕ) (asked guid number block : ℕ) → block < PARTITIONS / 32 → IsGood fabric

@@ -1,16 +1,21 @@
 -- What is pushed into key tables (IBA volume 1, 14.2.5.7): the keys of each end port at that port, and their full
 -- form at the port of a switch that it is attached to, which lets in and out what the end port may send and take.
-use Rattle.std.specs.Prelude.{ℕ, ◌-◌, ◌==◌, ◌&&◌, ◌||◌, Bool, true, false, if◌then◌else◌, List, ◌++◌, find, length, map, replicate, slice_get, unwrap_or, Option, option_map}
+use Rattle.std.specs.Prelude.{ℕ, ◌-◌, ◌==◌, ◌&&◌, ◌||◌, Bool, true, false, if◌then◌else◌, List, ◌++◌, find, length, map, replicate, slice_get, unwrap_or, Option, option_map, Result, Ok, Err}
 use Rattle.std.specs.List.{list_any}
 use Rattle.std.specs.Option.{option_and_then, option_map_or}
+use Rattle.std.specs.Str.{bytes_eq}
 use Rattle.fabric_parts.specs.Cable.{is_same_port, port}
 use Rattle.lid_assign.specs.Lids.{lid_in}
 use Rattle.pkey_rules.specs.PKey.{base_of, key_of}
 use Rattle.pkey_rules.specs.declared.key_table.TheConstants.{PARTITIONS}
 use Rattle.smp_wire.specs.FabricState.{FabricState}
+use Rattle.smp_wire.specs.declared.reply.ReplyFault.{ReplyFault}
+use Rattle.smp_wire.specs.declared.reply.ReplyFault.TheVariants as reply
 use Rattle.sweep.specs.declared.graph.GraphPort.{GraphPort}
 use Rattle.sweep.specs.declared.graph.GraphSwitch.{GraphSwitch}
 use Rattle.table_push.specs.Nodes.{with_keys}
+use Rattle.table_push.specs.declared.fault.PushFault.{PushFault}
+use Rattle.table_push.specs.declared.fault.PushFault.TheVariants.{NoReply, NotAsSet}
 use Rattle.updn_routes.specs.Subnet.{RoutesState, place_of}
 
 -- ---- one table
@@ -56,6 +61,14 @@ abbrev pub keys_pushed : RoutesState → List (List ℕ) → FabricState → Fab
 keys_pushed routes keys fabric = with_keys (λ guid number held. unwrap_or (keys_wanted routes keys guid number) held) fabric
 
 -- ---- while they are written
+-- whether a block that is to be empty is so already, by the reply to a Get of it: an agent that refuses it has no such block,
+-- which then holds nothing
+abbrev pub whether_there : List ℕ → Result (List ℕ) ReplyFault → Result Bool PushFault
+whether_there wanted (Ok given) = Ok (bytes_eq given wanted)
+whether_there wanted (Err reply.Refused) = Ok true
+whether_there wanted (Err reply.NoReply) = Err NoReply
+whether_there wanted (Err reply.WrongReply) = Err NotAsSet
+
 -- where it is reported
 abbrev pub keys_where : (ℕ → ℕ → Bool) → RoutesState → List (List ℕ) → (guid number : ℕ) → List ℕ → List ℕ
 keys_where there routes keys guid number held = if there guid number then unwrap_or (keys_wanted routes keys guid number) held else held

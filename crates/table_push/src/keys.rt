@@ -7,7 +7,7 @@ ghost use Rattle.attr_tables.specs.declared.smp_attribute.SmpAttribute.TheVarian
 ghost use Rattle.smp_wire.specs.Get.{gives_along};
 ghost use Rattle.smp_wire.specs.Good.{IsGood};
 ghost use Rattle.sweep.specs.OfFabric.{IsGraphOf};
-ghost use Rattle.table_push.specs.Keys.{at_switches, held_as, key_table, keys_of, keys_pushed, keys_where};
+ghost use Rattle.table_push.specs.Keys.{at_switches, held_as, key_table, keys_of, keys_pushed, keys_where, whether_there};
 ghost use Rattle.table_push.specs.Nodes.{on_port, with_keys};
 ghost use Rattle.table_push.specs.Pushes.{LeadsToPort, Leaves};
 ghost use Rattle.table_push.specs.Steps.{PutsBlock, PutsKeysAtCable, PutsKeysAtCables, SaysWhetherThere};
@@ -16,13 +16,13 @@ use crate::fault::{PushFault, fault_of};
 use crate::setting::set;
 use attr_tables::{SmpAttribute, WORDS_PER_BLOCK, WordBlock};
 use pkey_rules::{KeyTable, PARTITIONS, PKey, base_of, key_of};
-use smp_wire::{SmpWire, get_attribute};
+use smp_wire::{ReplyFault, SmpWire, get_attribute};
 use updn_routes::Routes;
 
 /// Writes the key tables: of each end port its own keys, which stand in `keys` in order of LID, and of each port of a
 /// switch that a port of a channel adapter is attached to the full form of each of that port's keys, so that the switch lets
 /// in and out what that port may send and take. Behind them the table is empty; of the blocks that are to be empty only those
-/// are written that hold something.
+/// are written that hold something. A port that does not have a block that is to be empty is left as it is.
 ///
 /// Over a wire that stands for the graph's fabric these tables stand there then, and all else is as it was.
 pub fn push_keys<W: SmpWire>(
@@ -222,14 +222,27 @@ fn is_there<W: SmpWire>(
         return Ok(false);
     }
     *transaction_id = transaction_id.wrapping_add(1);
-    match get_attribute(
+    let reported = get_attribute(
         wire,
         *transaction_id,
         SmpAttribute::PKeyTable,
         modifier,
         path,
-    ) {
+    );
+    whether_there(wanted, reported)
+}
+
+/// What the reply to a Get of a block that is to be empty says of it. An agent refuses a block that its table, of PartitionCap
+/// keys, does not have: it holds nothing, so there is nothing to set.
+fn whether_there(
+    wanted: &[u8; 64],
+    reported: Result<[u8; 64], ReplyFault>,
+) -> Result<bool, PushFault>
+    ensures { result ≡ whether_there wanted.now reported }
+{
+    match reported {
         Ok(given) => Ok(given == *wanted),
+        Err(ReplyFault::Refused) => Ok(true),
         Err(fault) => Err(fault_of(fault)),
     }
 }
