@@ -10,7 +10,7 @@ use std::test::Fail;
 use test_fabrics::fat_tree_of;
 use updn_routes::Routes;
 
-/// How many SMPs a push takes over a fat tree. Ports: two for port 0 of each switch and two for its LinearFDBTop, three for
+/// How many SMPs a push takes over a fat tree. Ports: two for port 0 of each switch and two for its LinearFDBTop, four for
 /// each end of a cable. Keys: four for each switch, and for each end of a cable to an adapter, of which three ask whether an empty
 /// block is there. Linear tables: one a block. An MLID range
 /// of multicast tables: one for each position of each switch.
@@ -20,7 +20,7 @@ fn smps_of(push: &Push, leaves: u16) -> u64
     let switches = 2 * u64::from(leaves);
     let adapters = 8 * u64::from(leaves);
     let links = 2 * u64::from(leaves * leaves.min(28));
-    let ports = 4 * switches + 3 * (links + 2 * adapters);
+    let ports = 4 * switches + 4 * (links + 2 * adapters);
     let keys = 4 * (switches + 2 * adapters);
     let linear = 8 * switches;
     match push {

@@ -13,12 +13,12 @@ use table_push::PushFault;
 use updn_routes::Routes;
 
 /// The pushes over the two-switch fabric: how many exchanges each takes, and how many of them are Sets. Ports: Get and Set of two ports 0 and of SwitchInfo twice; of the ten ports that a
-/// cable ends in a Get, and a Set each to Armed and to Active. Key tables: of two ports 0, and of both ends of four
+/// cable ends in a Get and a Set to Armed, and when all are Armed a Get and a Set to Active. Key tables: of two ports 0, and of both ends of four
 /// cables, a Set of the first block and a Get of each of the three empty ones. Linear tables: eight blocks each of two
 /// switches. An MLID range of multicast tables: a block at each of three positions of two switches.
 const PUSHES: [(Push, u64, u64); 4] = [
     (Push::Multicast, 6, 6),
-    (Push::Ports, 38, 24),
+    (Push::Ports, 48, 24),
     (Push::Keys, 40, 10),
     (Push::Linear, 16, 16),
 ];
@@ -29,7 +29,7 @@ const GET: u8 = 1;
 const SET: u8 = 2;
 
 /// Where the class version stands in an SMP, the method, the status in a reply, the TransactionID, the modifier, the
-/// attribute, and PortState in PortInfo.
+/// attribute's number and its data, and PortState in PortInfo.
 const CLASS_VERSION: usize = 2;
 
 const METHOD: usize = 3;
@@ -37,6 +37,8 @@ const METHOD: usize = 3;
 const STATUS: usize = 5;
 
 const TRANSACTION_ID: usize = 15;
+
+const ATTRIBUTE: usize = 17;
 
 const MODIFIER: usize = 23;
 
@@ -163,11 +165,11 @@ fn a_push_stops_at_the_first_exchange_at_fault(rt: HostRuntime) -> Result<(), Fa
 /// The numbers of the requests of each push begin at 1.
 #[test]
 fn all_pushes_stop_where_one_of_them_does(rt: HostRuntime) -> Result<(), Fail> {
-    stops(&rt, rt.alloc(), &Push::All, false, 38 + 40 + 16, SPOILS[0])
+    stops(&rt, rt.alloc(), &Push::All, false, 48 + 40 + 16, SPOILS[0])
 }
 
 /// Which of the Sets of ports ask for no state: those of port 0 of each switch.
-const NO_STATE_ASKED: [u64; 2] = [0, 3];
+const NO_STATE_ASKED: [u64; 2] = [0, 2];
 
 #[test]
 fn a_state_that_was_not_asked_is_not_compared(rt: HostRuntime) -> Result<(), Fail> {
@@ -179,7 +181,7 @@ fn a_state_that_was_not_asked_is_not_compared(rt: HostRuntime) -> Result<(), Fai
 }
 
 /// Which exchanges of a push of ports get and set SwitchInfo of a switch, and which of its Sets those are.
-const SWITCH_INFOS: [u64; 4] = [34, 35, 36, 37];
+const SWITCH_INFOS: [u64; 4] = [44, 45, 46, 47];
 
 const SWITCH_INFO_SETS: [u64; 2] = [22, 23];
 
@@ -207,8 +209,8 @@ fn what_stands_beside_port_state_change_is_compared(rt: HostRuntime) -> Result<(
     Ok(())
 }
 
-/// Which exchanges of a push of ports get PortInfo of an end port.
-const END_PORTS_ARE_GOT: [u64; 6] = [0, 5, 13, 19, 25, 31];
+/// Which exchanges of the first round of a push of ports get PortInfo of an end port.
+const END_PORTS_ARE_GOT: [u64; 6] = [0, 4, 10, 14, 18, 22];
 
 /// The agents of the simulated fabric refuse each LMC but 0, so that is what is set.
 #[test]
@@ -243,5 +245,50 @@ fn a_push_stops_where_an_agent_refuses_what_is_needed(rt: HostRuntime) -> Result
             }
         }
     }
+    Ok(())
+}
+
+/// The number of PortInfo, and the states Armed and Active.
+const PORT_INFO: u8 = 0x15;
+
+const ARMED: u8 = 3;
+
+const ACTIVE: u8 = 4;
+
+/// How many ports a cable ends in.
+const CABLED_PORTS: u32 = 10;
+
+/// Refuses to make a port Active before all ports with cables are Armed, as a port refuses whose cable's other end is not.
+#[derive(Drop)]
+struct PatientWire {
+    wire: Fabric,
+    armed: u32,
+}
+
+impl SmpWire for PatientWire {
+    ghost fabric = { λ _. None };
+
+    fn exchange(&mut self, smp: &Mad) -> Option<Mad> {
+        let mut reply = self.wire.exchange(smp)?;
+        if smp[METHOD] == SET && smp[ATTRIBUTE] == PORT_INFO {
+            match smp[STATE] & 0x0f {
+                ARMED => self.armed = self.armed.wrapping_add(1),
+                ACTIVE if self.armed < CABLED_PORTS => reply[STATUS] = REFUSAL,
+                _ => {}
+            }
+        }
+        Some(reply)
+    }
+}
+
+fn pushed_patiently(mut wire: PatientWire, routes: &Routes) -> Result<(), PushFault> {
+    Push::Ports.over(&mut wire, routes, &[])
+}
+
+#[test]
+fn all_ports_are_armed_before_one_becomes_active(rt: HostRuntime) -> Result<(), Fail> {
+    let (wire, routes) = found(rt.alloc())?;
+    let reported = pushed_patiently(PatientWire { wire, armed: 0 }, &routes);
+    assert!(rt; reported == Ok(()));
     Ok(())
 }

@@ -1,7 +1,7 @@
 -- A port that a path leads to, and whose PortInfo is read, changed and set.
 use Rattle.std.proofs.Common.{ℕ, ◌≡◌, ◌==◌, ◌&&◌, ◌||◌, nat_le, nat_lt, ◌∙◌, ap, refl, sym, subst, Bool, true, false, if◌then◌else◌, List, Option, Some, None, Result, Ok, Err, option_map, arith}
 use Rattle.std.specs.Option.{is_some, option_map_or}
-use Rattle.std.proofs.lemmas.Bool.{eq-eqb}
+use Rattle.std.proofs.lemmas.Bool.{and_parts, eq-eqb, false≢true}
 use Rattle.std.proofs.lemmas.Option.{same_Some}
 use Rattle.std.proofs.lemmas.Bool.Decides.{nat_tests}
 use Rattle.agent_rules.specs.Agent.{shown_at}
@@ -26,14 +26,16 @@ use Rattle.fabric_parts.specs.Cable.{port}
 use Rattle.sweep.specs.OfFabric.{guid_at}
 use Rattle.table_push.specs.Fault.{compared, without_state}
 use Rattle.table_push.specs.Nodes.{on_port, with_infos}
-use Rattle.table_push.specs.Ports.{TakesChange, changed, with_end_set, enforces, state_asked, with_lid_and_enforcement, with_state}
+use Rattle.table_push.specs.Ports.{TakesChange, activated, armed, first_state, in_round, with_end_set, enforces, state_asked, stays, with_lid_and_enforcement, with_state}
 use Rattle.table_push.specs.Pushes.{Leaves}
 use Rattle.table_push.specs.declared.fault.PushFault.{PushFault}
 use Rattle.table_push.specs.declared.ports.PortChange.{PortChange}
+use Rattle.table_push.specs.declared.ports.Round.{Round}
+use Rattle.table_push.specs.declared.ports.Round.TheVariants.{Arming, Activating}
 use Rattle.table_push.proofs.InfoLemmas.{as_held, setting_taken, state_fits, state_is, state_put}
 use Rattle.table_push.proofs.InfoPortLemmas.{InfoThere, info_after, info_alike, info_gives, info_given, info_takes, info_there}
-use Rattle.table_push.proofs.LeadLemmas.{SetsAt, goes_on}
-use Rattle.table_push.proofs.PartLemmas.{info_part, parts_twice}
+use Rattle.table_push.proofs.LeadLemmas.{SetsAt, begins_as, goes_on}
+use Rattle.table_push.proofs.PartLemmas.{info_part, parts_stay, parts_twice}
 use Rattle.table_push.proofs.PortLemmas.{port_on}
 
 -- ---- a change, in whatever order its parts come
@@ -167,9 +169,15 @@ is_set fabric stood left result path asked guid number at change state good stan
     })
 
 -- ---- the state that is asked for first
-may_ask : (active : Bool) (info : PortInfo) → MayAsk info (state_asked active info.port_state)
-may_ask false info = refl
-may_ask true info = by (info.port_state == 2) (info.port_state == 3) refl refl
+may_arm : (active : Bool) (info : PortInfo) → MayAsk info (first_state active info.port_state)
+may_arm active info = by (active && (info.port_state == 2)) refl
+  where
+    by : (b : Bool) → (active && (info.port_state == 2)) ≡ b → MayAsk info (if b then Armed else NoChange)
+    by true is = let two = (and_parts active (info.port_state == 2) is).1 in rw two refl
+    by false is = refl
+
+may_ask : (info : PortInfo) → MayAsk info (state_asked info.port_state)
+may_ask info = by (info.port_state == 2) (info.port_state == 3) refl refl
   where
     by : (a b : Bool) → (info.port_state == 2) ≡ a → (info.port_state == 3) ≡ b
         → MayAsk info (if a then Armed else (if b then Active else NoChange))
@@ -181,22 +189,28 @@ active_four : (state : ℕ) → nat_le 2 state && nat_le state 4 ≡ true → (s
 active_four state up first second = grind (arith, nat_tests, up, first, second)
 
 -- one Set is enough
-is_enough : (change : PortChange) (info : PortInfo) → (change.active ≡ true → is_up info ≡ true) → (state_asked change.active info.port_state ≡ Armed → ⊥)
-    → stepped change (state_asked change.active info.port_state) info ≡ changed change info
-is_enough change info up other = by change.active (info.port_state == 2) (info.port_state == 3) refl refl refl
+is_enough : (change : PortChange) (info : PortInfo) → is_up info ≡ true → (state_asked info.port_state ≡ Armed → ⊥)
+    → stepped change (state_asked info.port_state) info ≡ with_state Active (with_lid_and_enforcement change info)
+is_enough change info up other = by (info.port_state == 2) (info.port_state == 3) refl refl
   where
-    result : Bool → PortInfo
-    result active = if active then with_state Active (with_lid_and_enforcement change info) else with_lid_and_enforcement change info
-
-    by : (active a b : Bool) → change.active ≡ active → (info.port_state == 2) ≡ a → (info.port_state == 3) ≡ b
-        → stepped change (state_asked change.active info.port_state) info ≡ result change.active
-    by false a b is first second = rw is refl
-    by true true b is first second = absurd (other (rw (is, first) refl))
-    by true false true is first second = rw (is, first, second) (with_it change.lid change.enforcement 4 info)
-    by true false false is first second =
-        let four = active_four info.port_state (up is) first second in
-        rw (is, first, second) (with_it change.lid change.enforcement info.port_state info
+    by : (a b : Bool) → (info.port_state == 2) ≡ a → (info.port_state == 3) ≡ b
+        → stepped change (state_asked info.port_state) info ≡ with_state Active (with_lid_and_enforcement change info)
+    by true b first second = absurd (other (rw first refl))
+    by false true first second = rw (first, second) (with_it change.lid change.enforcement 4 info)
+    by false false first second =
+        let four = active_four info.port_state up first second in
+        rw (first, second) (with_it change.lid change.enforcement info.port_state info
         ∙ ap (λ (n : ℕ). record (with_lid_and_enforcement change info) { port_state = n }) four)
+
+-- or none
+is_four : (info : PortInfo) → is_up info ≡ true → state_asked info.port_state ≡ NoChange → info.port_state ≡ 4
+is_four info up none = by (info.port_state == 2) (info.port_state == 3) refl refl none
+  where
+    by : (a b : Bool) → (info.port_state == 2) ≡ a → (info.port_state == 3) ≡ b → (if a then Armed else (if b then Active else NoChange)) ≡ NoChange
+        → info.port_state ≡ 4
+    by true b first second same = absurd (cc)
+    by false true first second same = absurd (cc)
+    by false false first second same = active_four info.port_state up first second
 
 -- ---- what is known of the port
 can_be_reported : (fabric : FabricState) (path : List ℕ) (asked guid number : ℕ) (change : PortChange) (takes : TakesChange fabric path asked guid number change)
@@ -223,31 +237,102 @@ no_refusal fabric path asked guid number change fault good takes reads =
     let same = reads (shown_at at.port here.info) (shown_fits at.port here.info here.good.fits here.small) (info_given fabric path asked guid number at good here) in
     absurd (cc)
 
+reads_held : (fabric : FabricState) (path : List ℕ) (asked guid number : ℕ) (at : PortRef) (held : PortInfo) → IsGood fabric
+    → (here : InfoThere fabric path asked guid number at) → Reads fabric path asked (Ok held) → held ≡ shown_at at.port here.info
+reads_held fabric path asked guid number at held good here reads =
+    same_Ok held (shown_at at.port here.info)
+    (reads (shown_at at.port here.info) (shown_fits at.port here.info here.good.fits here.small) (info_given fabric path asked guid number at good here))
+
+-- ---- the first round
+is_armed : (change : PortChange) (info : PortInfo) → stepped change (first_state change.active info.port_state) info ≡ armed change info
+is_armed change info = by (change.active && (info.port_state == 2))
+  where
+    by : (b : Bool)
+        → stepped change (if b then Armed else NoChange) info ≡ with_lid_and_enforcement change (if b then with_state Armed info else info)
+    by true = refl
+    by false = refl
+
+pub arms : (fabric : FabricState) (stood left : Option FabricState) (result : Result (Unit {0}) PushFault) (path : List ℕ) (asked guid number : ℕ)
+    (change : PortChange) (held wanted : PortInfo) (state : PortState) → IsGood fabric → stood ≡ Some fabric
+    → TakesChange fabric path asked guid number change → Reads fabric path asked (Ok held)
+    → wanted ≡ with_lid_and_enforcement change held → Fits (port_info wanted) → state ≡ first_state change.active held.port_state
+    → SetsAt stood left result path PortInfoAsked asked (port_info_bytes (with_state state wanted))
+    → Leaves result left fabric (with_infos (on_port guid number (armed change)) fabric)
+arms fabric stood left result path asked guid number change held wanted state good stands takes reads reported_is fits state_is sets =
+    let at = takes.leads.at in
+    let here = info_there fabric path asked guid number good takes.leads in
+    let same = reads_held fabric path asked guid number at held good here reads in
+    let wanted_is = reported_is ∙ ap (with_lid_and_enforcement change) same in
+    let asks_for = first_state change.active here.info.port_state in
+    let state_same : state ≡ asks_for = state_is ∙ ap (λ (info : PortInfo). first_state change.active info.port_state) same in
+    let leaves = is_set fabric stood left result path asked guid number at change asks_for good stands here (can_be_reported fabric path asked guid number change takes here)
+    (may_arm change.active here.info) (subst (λ (info : PortInfo). Fits (port_info info)) wanted_is fits)
+    (subst (λ (info : PortInfo). SetsAt stood left result path PortInfoAsked asked (port_info_bytes info)) (λ i. with_state (state_same i) (wanted_is i)) sets) in
+    subst (Leaves result left fabric)
+    (info_alike fabric path asked guid number at good here (stepped change asks_for) (armed change) (is_armed change here.info)) leaves
+
+-- ---- the second round
+-- a port that is to become Active, and nothing else
+abbrev pub becomes : PortChange
+becomes = record stays { active = true }
+
+pub takes_active : (fabric : FabricState) (path : List ℕ) (asked guid number : ℕ) (change : PortChange) → change.active ≡ true
+    → TakesChange fabric path asked guid number change → TakesChange fabric path asked guid number becomes
+takes_active fabric path asked guid number change active takes = record {
+  leads = takes.leads;
+  lid = refl;
+  enforces = λ some. absurd (false≢true some);
+  up = λ is info held. takes.up active info held;
+}
+
+-- so that is what the port has
+pub activates : (result : Result (Unit {0}) PushFault) (left : Option FabricState) (fabric : FabricState) (guid number : ℕ) (change : PortChange) → change.active ≡ true
+    → Leaves result left fabric (with_infos (on_port guid number (with_state Active)) fabric)
+    → Leaves result left fabric (with_infos (on_port guid number (activated change)) fabric)
+activates result left fabric guid number change active leaves =
+    subst (λ (b : Bool). Leaves result left fabric (with_infos (on_port guid number (λ info. if b then with_state Active info else info)) fabric))
+    (sym active) leaves
+
+on_none : (guid number : ℕ) (f : PortInfo → PortInfo) → ((info : PortInfo) → f info ≡ info) → (of_guid of_number : ℕ) (info : PortInfo)
+    → on_port guid number f of_guid of_number info ≡ info
+on_none guid number f each of_guid of_number info = by ((guid == of_guid) && (number == of_number))
+  where
+    by : (b : Bool) → (if b then f info else info) ≡ info
+    by true = each info
+    by false = refl
+
+-- one that is not to become Active
+pub activates_none : (stood : Option FabricState) (fabric : FabricState) (guid number : ℕ) (change : PortChange) → change.active ≡ false → stood ≡ Some fabric
+    → IsGood fabric → Leaves {X = Unit {0}} (Ok tt) stood fabric (with_infos (on_port guid number (activated change)) fabric)
+activates_none stood fabric guid number change none stands good = record {
+  done = refl;
+  stands = begins_as stood fabric (with_infos (on_port guid number (activated change)) fabric) stands good
+      (parts_stay info_part (on_port guid number (activated change)) fabric (on_none guid number (activated change) (λ info. rw none refl)));
+}
+
 -- what is read, and what is asked then
 pub record Asks (fabric : FabricState) (path : List ℕ) (asked guid number : ℕ) (at : PortRef) (change : PortChange) (held wanted : PortInfo) (state : PortState) : Type 0 where
   pub here : InfoThere fabric path asked guid number at
   pub held_is : held ≡ shown_at at.port here.info
   pub wanted_is : wanted ≡ with_lid_and_enforcement change (shown_at at.port here.info)
-  pub state_is : state ≡ state_asked change.active here.info.port_state
+  pub state_is : state ≡ state_asked here.info.port_state
   pub fits : Fits (port_info (with_lid_and_enforcement change (shown_at at.port here.info)))
 
 pub asks : (fabric : FabricState) (path : List ℕ) (asked guid number : ℕ) (change : PortChange) (held wanted : PortInfo) (state : PortState) → IsGood fabric
     → (takes : TakesChange fabric path asked guid number change)
     → Reads fabric path asked (Ok held)
-    → wanted ≡ with_lid_and_enforcement change held → Fits (port_info wanted) → state ≡ state_asked change.active held.port_state
+    → wanted ≡ with_lid_and_enforcement change held → Fits (port_info wanted) → state ≡ state_asked held.port_state
     → Asks fabric path asked guid number takes.leads.at change held wanted state
 asks fabric path asked guid number change held wanted state good takes reads reported_is fits state_is =
     let at = takes.leads.at in
     let here = info_there fabric path asked guid number good takes.leads in
-    let same : held ≡ shown_at at.port here.info =
-    same_Ok held (shown_at at.port here.info)
-    (reads (shown_at at.port here.info) (shown_fits at.port here.info here.good.fits here.small) (info_given fabric path asked guid number at good here)) in
+    let same = reads_held fabric path asked guid number at held good here reads in
     let wanted_is = reported_is ∙ ap (with_lid_and_enforcement change) same in
     record {
       here = here;
       held_is = same;
       wanted_is = wanted_is;
-      state_is = state_is ∙ ap (λ (info : PortInfo). state_asked change.active info.port_state) same;
+      state_is = state_is ∙ ap (λ (info : PortInfo). state_asked info.port_state) same;
       fits = subst (λ (info : PortInfo). Fits (port_info info)) wanted_is fits;
     }
 
@@ -255,27 +340,44 @@ pub set_first : (fabric : FabricState) (stood left : Option FabricState) (result
     (change : PortChange) (held wanted : PortInfo) (state : PortState) → IsGood fabric → stood ≡ Some fabric
     → (takes : TakesChange fabric path asked guid number change) → (does : Asks fabric path asked guid number takes.leads.at change held wanted state)
     → SetsAt stood left result path PortInfoAsked asked (port_info_bytes (with_state state wanted))
-    → Leaves result left fabric (with_infos (on_port guid number (stepped change (state_asked change.active does.here.info.port_state))) fabric)
+    → Leaves result left fabric (with_infos (on_port guid number (stepped change (state_asked does.here.info.port_state))) fabric)
 set_first fabric stood left result path asked guid number change held wanted state good stands takes does sets =
     let at = takes.leads.at in
     let here = does.here in
-    let asks_for = state_asked change.active here.info.port_state in
+    let asks_for = state_asked here.info.port_state in
     is_set fabric stood left result path asked guid number at change asks_for good stands here (can_be_reported fabric path asked guid number change takes here)
-    (may_ask change.active here.info) does.fits
+    (may_ask here.info) does.fits
     (subst (λ (info : PortInfo). SetsAt stood left result path PortInfoAsked asked (port_info_bytes info))
     (λ i. with_state (does.state_is i) (does.wanted_is i)) sets)
 
 pub set_once : (fabric : FabricState) (stood left : Option FabricState) (result : Result (Unit {0}) PushFault) (path : List ℕ) (asked guid number : ℕ)
     (change : PortChange) (held wanted : PortInfo) (state : PortState) → IsGood fabric → stood ≡ Some fabric
     → (takes : TakesChange fabric path asked guid number change) → (does : Asks fabric path asked guid number takes.leads.at change held wanted state)
-    → (state ≡ Armed → ⊥) → SetsAt stood left result path PortInfoAsked asked (port_info_bytes (with_state state wanted))
-    → Leaves result left fabric (with_infos (on_port guid number (changed change)) fabric)
-set_once fabric stood left result path asked guid number change held wanted state good stands takes does other sets =
+    → change.active ≡ true → (state ≡ Armed → ⊥) → SetsAt stood left result path PortInfoAsked asked (port_info_bytes (with_state state wanted))
+    → Leaves result left fabric (with_infos (on_port guid number (λ info. with_state Active (with_lid_and_enforcement change info))) fabric)
+set_once fabric stood left result path asked guid number change held wanted state good stands takes does active other sets =
     let here = does.here in
     let leaves = set_first fabric stood left result path asked guid number change held wanted state good stands takes does sets in
     subst (Leaves result left fabric)
-    (info_alike fabric path asked guid number takes.leads.at good here (stepped change (state_asked change.active here.info.port_state)) (changed change)
-    (is_enough change here.info (λ active. takes.up active here.info here.held) (λ armed. other (does.state_is ∙ armed)))) leaves
+    (info_alike fabric path asked guid number takes.leads.at good here (stepped change (state_asked here.info.port_state))
+    (λ info. with_state Active (with_lid_and_enforcement change info))
+    (is_enough change here.info (takes.up active here.info here.held) (λ armed. other (does.state_is ∙ armed)))) leaves
+
+-- none, if the port is Active
+pub set_none : (fabric : FabricState) (stood : Option FabricState) (path : List ℕ) (asked guid number : ℕ) (held wanted : PortInfo) (state : PortState)
+    → IsGood fabric → stood ≡ Some fabric → (takes : TakesChange fabric path asked guid number becomes)
+    → (does : Asks fabric path asked guid number takes.leads.at becomes held wanted state) → state ≡ NoChange
+    → Leaves {X = Unit {0}} (Ok tt) stood fabric (with_infos (on_port guid number (with_state Active)) fabric)
+set_none fabric stood path asked guid number held wanted state good stands takes does none =
+    let here = does.here in
+    let four = is_four here.info (takes.up refl here.info here.held) (sym does.state_is ∙ none) in
+    record {
+      done = refl;
+      stands = begins_as stood fabric (with_infos (on_port guid number (with_state Active)) fabric) stands good
+          (info_alike fabric path asked guid number takes.leads.at good here (with_state Active) (λ info. info)
+          (ap (λ (n : ℕ). record here.info { port_state = n }) (sym four))
+          ∙ parts_stay info_part (on_port guid number (λ info. info)) fabric (on_none guid number (λ info. info) (λ info. refl)));
+    }
 
 -- ---- two Sets
 own_port : {X : Type 0} (guid number : ℕ) (f : X → X) (x : X) → on_port guid number f guid number x ≡ f x
@@ -300,22 +402,18 @@ info_then fabric path asked guid number at f here then_here is =
     ∙ ap (option_map (on_port guid number f guid number)) here.held
     ∙ ap (λ (info : PortInfo). Some info) (own_port guid number f here.info))
 
-when_armed : (active : Bool) (state : ℕ) → state_asked active state ≡ Armed → active ≡ true
-when_armed true state is = refl
-when_armed false state is = absurd (cc)
-
 pub set_twice : (fabric : FabricState) (stood mid left : Option FabricState) (first result : Result (Unit {0}) PushFault) (path : List ℕ) (asked guid number : ℕ)
     (change : PortChange) (held wanted : PortInfo) (state : PortState) → IsGood fabric → stood ≡ Some fabric
     → (takes : TakesChange fabric path asked guid number change) → (does : Asks fabric path asked guid number takes.leads.at change held wanted state)
     → state ≡ Armed → SetsAt stood mid first path PortInfoAsked asked (port_info_bytes (with_state state wanted))
     → SetsAt mid left result path PortInfoAsked asked (port_info_bytes (with_state Active wanted))
-    → Leaves result left fabric (with_infos (on_port guid number (changed change)) fabric)
+    → Leaves result left fabric (with_infos (on_port guid number (λ info. with_state Active (with_lid_and_enforcement change info))) fabric)
 set_twice fabric stood mid left first result path asked guid number change held wanted state good stands takes does armed sets later =
     let at = takes.leads.at in
     let here = does.here in
     let lid = change.lid in
     let enforcement = change.enforcement in
-    let asked_first : state_asked change.active here.info.port_state ≡ Armed = sym does.state_is ∙ armed in
+    let asked_first : state_asked here.info.port_state ≡ Armed = sym does.state_is ∙ armed in
     let leaves : Leaves first mid fabric (with_infos (on_port guid number (stepped change Armed)) fabric) =
     subst (λ (one : PortState). Leaves first mid fabric (with_infos (on_port guid number (stepped change one)) fabric)) asked_first
     (set_first fabric stood mid first path asked guid number change held wanted state good stands takes does sets) in
@@ -339,9 +437,22 @@ set_twice fabric stood mid left first result path asked guid number change held 
     ∙ ap (λ (one : PortInfo). with_state Active (with_lid_and_enforcement change (shown_at at.port one))) (sym info) in
     let second = is_set now mid left result path asked guid number at change Active leaves.stands.good leaves.stands.is next can may fits
     (subst (λ (one : PortInfo). SetsAt mid left result path PortInfoAsked asked (port_info_bytes one)) same later) in
-    let active : change.active ≡ true = when_armed change.active here.info.port_state asked_first in
-    let both : (one : PortInfo) → stepped change Active (stepped change Armed one) ≡ changed change one =
-    λ one. again lid enforcement 3 4 one ∙ with_it lid enforcement 4 one ∙ (rw active refl) in
+    let both : (one : PortInfo) → stepped change Active (stepped change Armed one) ≡ with_state Active (with_lid_and_enforcement change one) =
+    λ one. again lid enforcement 3 4 one ∙ with_it lid enforcement 4 one in
     goes_on result mid left fabric now _ _ leaves.stands second
-    (parts_twice info_part (on_port guid number (stepped change Active)) (on_port guid number (stepped change Armed)) (on_port guid number (changed change)) fabric
-    (on_twice guid number (stepped change Active) (stepped change Armed) (changed change) both))
+    (parts_twice info_part (on_port guid number (stepped change Active)) (on_port guid number (stepped change Armed))
+    (on_port guid number (λ info. with_state Active (with_lid_and_enforcement change info))) fabric
+    (on_twice guid number (stepped change Active) (stepped change Armed) (λ info. with_state Active (with_lid_and_enforcement change info)) both))
+
+-- ---- either round
+pub arms_in : (result : Result (Unit {0}) PushFault) (left : Option FabricState) (fabric : FabricState) (guid number : ℕ) (change : PortChange) (round : Round)
+    → round ≡ Arming → Leaves result left fabric (with_infos (on_port guid number (armed change)) fabric)
+    → Leaves result left fabric (with_infos (on_port guid number (in_round round change)) fabric)
+arms_in result left fabric guid number change round is leaves =
+    subst (λ (one : Round). Leaves result left fabric (with_infos (on_port guid number (in_round one change)) fabric)) (sym is) leaves
+
+pub activates_in : (result : Result (Unit {0}) PushFault) (left : Option FabricState) (fabric : FabricState) (guid number : ℕ) (change : PortChange) (round : Round)
+    → round ≡ Activating → Leaves result left fabric (with_infos (on_port guid number (activated change)) fabric)
+    → Leaves result left fabric (with_infos (on_port guid number (in_round round change)) fabric)
+activates_in result left fabric guid number change round is leaves =
+    subst (λ (one : Round). Leaves result left fabric (with_infos (on_port guid number (in_round one change)) fabric)) (sym is) leaves

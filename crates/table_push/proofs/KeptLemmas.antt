@@ -4,6 +4,7 @@ use Rattle.std.specs.List.{range_with_len}
 use Rattle.std.specs.Option.{option_and_then, option_map_or}
 use Rattle.std.proofs.lemmas.Option.{slice_get-map}
 use Rattle.std.proofs.lemmas.Simd.{map-map}
+use Rattle.attr_tables.specs.declared.port_info.PortInfo.{PortInfo}
 use Rattle.fabric_parts.specs.Cable.{far_end, port}
 use Rattle.fabric_parts.specs.declared.cable.PortRef.{PortRef}
 use Rattle.smp_wire.specs.FabricState.{FabricState, is_switch, is_switch_at, port_count}
@@ -20,7 +21,6 @@ use Rattle.table_push.specs.Linear.{with_linear}
 use Rattle.table_push.specs.Nodes.{infos_by, keys_by, switch_by, with_infos, with_nodes}
 use Rattle.table_push.specs.Ports.{change_wanted, changed, ports_pushed, set_top}
 use Rattle.table_push.proofs.LeadLemmas.{ends_on}
-use Rattle.updn_routes.specs.Subnet.{RoutesState}
 use Rattle.table_push.proofs.SightLemmas.{IsUnseen, both_unseen, infos_unseen, keys_unseen, switches_unseen}
 
 module _ (change : Node → Node) (unseen : IsUnseen change) (fabric : FabricState) where
@@ -100,13 +100,10 @@ module _ (change : Node → Node) (unseen : IsUnseen change) (fabric : FabricSta
     lead = λ i d within. leads_same _ same (of.lead i d within);
   }
 
--- the PortInfo of all ports is set up
-pub infos_keep_the_graph : (routes : RoutesState) (fabric : FabricState) (graph : GraphState)
-    → IsSameShape fabric (with_infos (λ guid number. changed (change_wanted routes guid number)) fabric) → IsGraphOf graph fabric
-    → IsGraphOf graph (with_infos (λ guid number. changed (change_wanted routes guid number)) fabric)
-infos_keep_the_graph routes fabric graph same of =
-    graph_stays (infos_by (λ guid number. changed (change_wanted routes guid number)))
-    (infos_unseen (λ guid number. changed (change_wanted routes guid number))) fabric graph same of
+-- the PortInfo of ports changes
+pub infos_keep_the_graph : (change : ℕ → ℕ → PortInfo → PortInfo) (fabric : FabricState) (graph : GraphState)
+    → IsSameShape fabric (with_infos change fabric) → IsGraphOf graph fabric → IsGraphOf graph (with_infos change fabric)
+infos_keep_the_graph change fabric graph same of = graph_stays (infos_by change) (infos_unseen change) fabric graph same of
 
 pub pushes_keep_the_graph : PushesKeepTheGraph
 pushes_keep_the_graph routes keys fabric graph of = (

@@ -1,16 +1,18 @@
 -- The ports of a graph's fabric, each with the path that leads there and what it can be set to.
-use Rattle.std.proofs.Common.{ℕ, zero, suc, ◌≡◌, ◌+◌, ◌<◌, ◌≤◌, ◌==◌, ◌&&◌, nat_le, nat_lt, ◌∙◌, ap, refl, sym, subst, Bool, true, false, if◌then◌else◌, List, [], ◌∷◌, ◌++◌, map, length, position, slice_get, Option, Some, None, option_map, arith}
+use Rattle.std.proofs.Common.{ℕ, zero, suc, ◌≡◌, ◌+◌, ◌<◌, ◌≤◌, ◌==◌, ◌&&◌, nat_le, nat_lt, not, ◌∙◌, ap, refl, sym, subst, Bool, true, false, if◌then◌else◌, List, [], ◌∷◌, ◌++◌, map, length, position, slice_get, Option, Some, None, option_map, arith}
 use Rattle.std.specs.List.{Contains}
 use Rattle.std.specs.Option.{is_some, option_map_or}
-use Rattle.std.proofs.lemmas.Bool.{and_from, false≢true, le-leb, lt-ltb, ne_eqb}
+use Rattle.std.proofs.lemmas.Bool.{and_from, and_parts, eqb-true, false≢true, le-leb, lt-ltb, ne_eqb}
 use Rattle.std.proofs.lemmas.Option.{same_Some, slice_get_within}
+use Rattle.agent_rules.specs.PortSetting.{is_down}
 use Rattle.attr_tables.specs.declared.port_info.PortInfo.{PortInfo}
+use Rattle.attr_tables.specs.declared.port_state.PortState.TheVariants.{Armed, Active}
 use Rattle.fabric_parts.specs.Cable.{far_end, is_cabled, port}
 use Rattle.fabric_parts.specs.declared.cable.PortRef.{PortRef}
 use Rattle.fabric_parts.specs.declared.lid.TheConstants.{LAST_UNICAST_LID}
 use Rattle.lid_assign.specs.Lids.{lid_in}
 use Rattle.step_results.proofs.ListLemmas.{all_have}
-use Rattle.smp_wire.specs.FabricState.{FabricState, is_port, is_switch, is_switch_at}
+use Rattle.smp_wire.specs.FabricState.{FabricState, is_port, is_switch, is_switch_at, port_count}
 use Rattle.smp_wire.specs.Good.{IsGood, ShowsLinks, info_at, is_up}
 use Rattle.smp_wire.specs.Shape.{IsSameShape}
 use Rattle.smp_wire.specs.Walk.{end_of}
@@ -30,9 +32,11 @@ use Rattle.sweep.proofs.MetLemmas.{good_once}
 use Rattle.sweep.proofs.PlaceLemmas.{position_at}
 use Rattle.sweep.proofs.ProgressLemmas.{node_of}
 use Rattle.table_push.specs.Nodes.{with_infos}
-use Rattle.table_push.specs.Ports.{TakesChange, changed, changed_where, stays}
+use Rattle.table_push.specs.Ports.{TakesChange, armed, change_wanted, changed_in, changed_where, enforces, in_round, stays, with_end_set, with_state}
 use Rattle.table_push.specs.Pushes.{IsAskedFor, LeadsToPort}
 use Rattle.table_push.specs.declared.ports.PortChange.{PortChange}
+use Rattle.table_push.specs.declared.ports.Round.{Round}
+use Rattle.table_push.specs.declared.ports.Round.TheVariants.{Arming, Activating}
 use Rattle.table_push.proofs.AttachedLemmas.{adapter_leads, is_hung, switch_leads}
 use Rattle.table_push.proofs.InfoPortLemmas.{info_after}
 use Rattle.table_push.proofs.LeadLemmas.{found_at_place}
@@ -211,39 +215,81 @@ module _ (fabric : FabricState) (good : IsGood fabric) (shows : ShowsLinks fabri
       (subst (λ (n : ℕ). is_cabled fabric.cables (port is.there.node n) ≡ true) number (cabled_of fabric.cables is.there (port sits.at.node one.at.port) back))
 
 -- ---- a port takes a change as long as others were set
-changed_up : (change : PortChange) (info : PortInfo) → is_up info ≡ true → is_up (changed change info) ≡ true
-changed_up change info up = by change.active change.lid change.enforcement
-  where
-    by : (active : Bool) (lid : Option ℕ) (enforcement : Option Bool) → is_up (changed (record { lid = lid; enforcement = enforcement; active = active }) info) ≡ true
-    by true lid enforcement = refl
-    by false None None = up
-    by false None (Some on) = up
-    by false (Some lid) None = up
-    by false (Some lid) (Some on) = up
+still_up : (lid : Option ℕ) (enforcement : Option Bool) (info : PortInfo) → is_up info ≡ true → is_up (enforces enforcement (with_end_set lid info)) ≡ true
+still_up None None info up = up
+still_up None (Some on) info up = up
+still_up (Some lid) None info up = up
+still_up (Some lid) (Some on) info up = up
 
-pub takes_on : (fabric : FabricState) (path : List ℕ) (asked guid number : ℕ) (change : PortChange) (routes : RoutesState) (there : ℕ → ℕ → Bool)
-    → IsSameShape fabric (with_infos (changed_where there routes) fabric) → TakesChange fabric path asked guid number change
-    → TakesChange (with_infos (changed_where there routes) fabric) path asked guid number change
-takes_on fabric path asked guid number change routes there same takes = record {
+changed_up : (round : Round) (change : PortChange) (info : PortInfo) → is_up info ≡ true → is_up (in_round round change info) ≡ true
+changed_up Arming change info up =
+    still_up change.lid change.enforcement (if change.active && (info.port_state == 2) then with_state Armed info else info) (by (change.active && (info.port_state == 2)))
+  where
+    by : (b : Bool) → is_up (if b then with_state Armed info else info) ≡ true
+    by true = refl
+    by false = up
+changed_up Activating change info up = by change.active
+  where
+    by : (b : Bool) → is_up (if b then with_state Active info else info) ≡ true
+    by true = refl
+    by false = up
+
+pub takes_on : (round : Round) (fabric : FabricState) (path : List ℕ) (asked guid number : ℕ) (change : PortChange) (routes : RoutesState) (there : ℕ → ℕ → Bool)
+    → IsSameShape fabric (with_infos (changed_where round there routes) fabric) → TakesChange fabric path asked guid number change
+    → TakesChange (with_infos (changed_where round there routes) fabric) path asked guid number change
+takes_on round fabric path asked guid number change routes there same takes = record {
   leads = port_on fabric now path asked guid number same takes.leads;
   lid = takes.lid;
   enforces = λ some. ap (λ (b : Bool). b && nat_lt 0 number) (or_same is_switch false fabric.nodes now.nodes takes.leads.at.node same.switches) ∙ takes.enforces some;
-  up = λ active info held. by active (info_at fabric at) refl info (sym (info_after (changed_where there routes) fabric at) ∙ held);
+  up = λ active info held. by active (info_at fabric at) refl info (sym (info_after (changed_where round there routes) fabric at) ∙ held);
 }
   where
     now : FabricState
-    now = with_infos (changed_where there routes) fabric
+    now = with_infos (changed_where round there routes) fabric
 
     at : PortRef
     at = port takes.leads.at.node number
 
-    up_where : (b : Bool) (c : PortChange) (info : PortInfo) → is_up info ≡ true → is_up (if b then changed c info else info) ≡ true
-    up_where true c info up = changed_up c info up
+    up_where : (b : Bool) (c : PortChange) (info : PortInfo) → is_up info ≡ true → is_up (if b then in_round round c info else info) ≡ true
+    up_where true c info up = changed_up round c info up
     up_where false c info up = up
 
     by : change.active ≡ true → (o : Option PortInfo) → info_at fabric at ≡ o → (info : PortInfo)
-        → option_map (changed_where there routes (guid_at fabric at.node) number) o ≡ Some info → is_up info ≡ true
+        → option_map (changed_where round there routes (guid_at fabric at.node) number) o ≡ Some info → is_up info ≡ true
     by active None is info held = absurd (cc)
     by active (Some was) is info held =
         let up = takes.up active was is in
         subst (λ (one : PortInfo). is_up one ≡ true) (same_Some _ info held) (up_where (there (guid_at fabric at.node) number) _ was up)
+
+-- ---- links show as before
+still_down : (lid : Option ℕ) (enforcement : Option Bool) (info : PortInfo) → is_down (enforces enforcement (with_end_set lid info)) ≡ is_down info
+still_down None None info = refl
+still_down None (Some on) info = refl
+still_down (Some lid) None info = refl
+still_down (Some lid) (Some on) info = refl
+
+armed_down : (change : PortChange) (info : PortInfo) → is_down (armed change info) ≡ is_down info
+armed_down change info =
+    still_down change.lid change.enforcement (if change.active && (info.port_state == 2) then with_state Armed info else info)
+    ∙ by (change.active && (info.port_state == 2)) refl
+  where
+    by : (b : Bool) → (change.active && (info.port_state == 2)) ≡ b → is_down (if b then with_state Armed info else info) ≡ is_down info
+    by false is = refl
+    by true is =
+        let two = eqb-true info.port_state 2 (and_parts change.active (info.port_state == 2) is).1 in
+        ap (λ (n : ℕ). n == 1) (sym two)
+
+pub links_show : (routes : RoutesState) (fabric : FabricState) → IsSameShape fabric (with_infos (changed_in Arming routes) fabric) → ShowsLinks fabric
+    → ShowsLinks (with_infos (changed_in Arming routes) fabric)
+links_show routes fabric same shows at info is_there held = by (info_at fabric at) refl (sym (info_after (changed_in Arming routes) fabric at) ∙ held)
+  where
+    was_there : is_port fabric.nodes at ≡ true
+    was_there =
+        ap (λ (count : ℕ). nat_le 1 at.port && nat_le at.port count)
+        (sym (or_same port_count 0 fabric.nodes (with_infos (changed_in Arming routes) fabric).nodes at.node same.port_counts)) ∙ is_there
+
+    by : (o : Option PortInfo) → info_at fabric at ≡ o → option_map (changed_in Arming routes (guid_at fabric at.node) at.port) o ≡ Some info
+        → is_down info ≡ not (is_cabled fabric.cables at)
+    by None is reported = absurd (cc)
+    by (Some was) is reported =
+        ap is_down (sym (same_Some _ info reported)) ∙ armed_down (change_wanted routes (guid_at fabric at.node) at.port) was ∙ shows at was was_there is

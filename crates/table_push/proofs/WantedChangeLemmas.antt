@@ -8,6 +8,7 @@ use Rattle.std.proofs.Math.Nat.{zero-add}
 use Rattle.std.proofs.lemmas.Option.{get_or_from_slice_get, same_Some, slice_get_within}
 use Rattle.step_results.proofs.ListLemmas.{range_at}
 use Rattle.attr_tables.specs.declared.port_info.PortInfo.{PortInfo}
+use Rattle.attr_tables.specs.declared.port_state.PortState.TheVariants.{Armed, Active}
 use Rattle.fabric_parts.specs.Cable.{far_end, is_same_port, port}
 use Rattle.fabric_parts.specs.declared.cable.PortRef.{PortRef}
 use Rattle.lid_assign.specs.Lids.{lid_in}
@@ -22,10 +23,12 @@ use Rattle.sweep.proofs.FoundLemmas.{any_by}
 use Rattle.sweep.proofs.PlaceLemmas.{position_at}
 use Rattle.table_push.specs.Keys.{at_cable, at_cables, guid_of, attached_at, port_of}
 use Rattle.table_push.specs.Nodes.{on_port, with_infos}
-use Rattle.table_push.specs.Ports.{TakesChange, adapter_change, at_switch, at_switches_before, change_wanted, changed, changed_where, has_link, stays, switch_change}
+use Rattle.table_push.specs.Ports.{TakesChange, adapter_change, armed, at_switch, at_switches_before, change_wanted, changed, changed_in, changed_where, enforces, has_link, in_round, stays, switch_change, with_end_set, with_state}
 use Rattle.table_push.specs.Pushes.{Leaves, Stands}
 use Rattle.table_push.specs.declared.fault.PushFault.{PushFault}
 use Rattle.table_push.specs.declared.ports.PortChange.{PortChange}
+use Rattle.table_push.specs.declared.ports.Round.{Round}
+use Rattle.table_push.specs.declared.ports.Round.TheVariants.{Arming, Activating}
 use Rattle.table_push.proofs.AttachedLemmas.{found_is, is_hung}
 use Rattle.table_push.proofs.PartLemmas.{info_part, parts_stay, parts_twice}
 use Rattle.table_push.proofs.LeadLemmas.{goes_on}
@@ -96,48 +99,59 @@ wanted_link fabric routes guid place k row link of is some there at =
     (link_there routes.graph place k row link there at)
 
 -- ---- some are made
-again : (change : PortChange) (info : PortInfo) → changed change (changed change info) ≡ changed change info
-again change info = by change.lid change.enforcement change.active
+-- in the first round a port may be asked twice: it is no longer in Initialize then
+armed_again : (lid : Option ℕ) (enforcement : Option Bool) (active b : Bool) (info : PortInfo) → (info.port_state == 2) ≡ b
+    → armed (record { lid = lid; enforcement = enforcement; active = active }) (armed (record { lid = lid; enforcement = enforcement; active = active }) info)
+    ≡ armed (record { lid = lid; enforcement = enforcement; active = active }) info
+armed_again None None false b info is = refl
+armed_again None (Some on) false b info is = refl
+armed_again (Some lid) None false b info is = refl
+armed_again (Some lid) (Some on) false b info is = refl
+armed_again None None true true info is = rw is refl
+armed_again None (Some on) true true info is = rw is refl
+armed_again (Some lid) None true true info is = rw is refl
+armed_again (Some lid) (Some on) true true info is = rw is refl
+armed_again None None true false info is = rw (is, is) refl
+armed_again None (Some on) true false info is = rw (is, is) refl
+armed_again (Some lid) None true false info is = rw (is, is) refl
+armed_again (Some lid) (Some on) true false info is = rw (is, is) refl
+
+again : (round : Round) (change : PortChange) (info : PortInfo) → in_round round change (in_round round change info) ≡ in_round round change info
+again Arming change info = armed_again change.lid change.enforcement change.active (info.port_state == 2) info refl
+again Activating change info = by change.active
   where
-    of : Option ℕ → Option Bool → Bool → PortChange
-    of lid enforcement active = record { lid = lid; enforcement = enforcement; active = active }
+    by : (b : Bool)
+        → (if b then with_state Active (if b then with_state Active info else info) else (if b then with_state Active info else info))
+        ≡ (if b then with_state Active info else info)
+    by true = refl
+    by false = refl
 
-    by : (lid : Option ℕ) (enforcement : Option Bool) (active : Bool)
-        → changed (of lid enforcement active) (changed (of lid enforcement active) info) ≡ changed (of lid enforcement active) info
-    by None None true = refl
-    by None None false = refl
-    by None (Some on) true = refl
-    by None (Some on) false = refl
-    by (Some lid) None true = refl
-    by (Some lid) None false = refl
-    by (Some lid) (Some on) true = refl
-    by (Some lid) (Some on) false = refl
-
-one_changed : (wanted change : PortChange) (info : PortInfo) (a b : Bool) → (b ≡ true → wanted ≡ change)
-    → (if b then changed change (if a then changed wanted info else info) else (if a then changed wanted info else info))
-    ≡ (if (a || b) then changed wanted info else info)
-one_changed wanted change info true true own = ap (λ (some : PortChange). changed some (changed wanted info)) (sym (own refl)) ∙ again wanted info
-one_changed wanted change info false true own = ap (λ (some : PortChange). changed some info) (sym (own refl))
-one_changed wanted change info true false own = refl
-one_changed wanted change info false false own = refl
+one_changed : (round : Round) (wanted change : PortChange) (info : PortInfo) (a b : Bool) → (b ≡ true → wanted ≡ change)
+    → (if b then in_round round change (if a then in_round round wanted info else info) else (if a then in_round round wanted info else info))
+    ≡ (if (a || b) then in_round round wanted info else info)
+one_changed round wanted change info true true own =
+    ap (λ (some : PortChange). in_round round some (in_round round wanted info)) (sym (own refl)) ∙ again round wanted info
+one_changed round wanted change info false true own = ap (λ (some : PortChange). in_round round some info) (sym (own refl))
+one_changed round wanted change info true false own = refl
+one_changed round wanted change info false false own = refl
 
 -- what the Sets to one port are known to do
-abbrev pub ChangesAt : Option FabricState → Option FabricState → Result (Unit {0}) PushFault → List ℕ → ℕ → PortChange → Type 0
-ChangesAt stood left result path asked change =
+abbrev pub ChangesAt : Round → Option FabricState → Option FabricState → Result (Unit {0}) PushFault → List ℕ → ℕ → PortChange → Type 0
+ChangesAt round stood left result path asked change =
     (fabric : FabricState) → stood ≡ Some fabric → (guid number : ℕ) → IsGood fabric → TakesChange fabric path asked guid number change
-    → Leaves result left fabric (with_infos (on_port guid number (changed change)) fabric)
+    → Leaves result left fabric (with_infos (on_port guid number (in_round round change)) fabric)
 
-pub change_more : (stood left : Option FabricState) (result : Result (Unit {0}) PushFault) (fabric : FabricState) (routes : RoutesState)
+pub change_more : (round : Round) (stood left : Option FabricState) (result : Result (Unit {0}) PushFault) (fabric : FabricState) (routes : RoutesState)
     (there : ℕ → ℕ → Bool) (path : List ℕ) (asked guid number : ℕ) (change : PortChange) → change_wanted routes guid number ≡ change
-    → TakesChange fabric path asked guid number change → Stands stood fabric (with_infos (changed_where there routes) fabric)
-    → ChangesAt stood left result path asked change
-    → Leaves result left fabric (with_infos (changed_where (with_this there guid number) routes) fabric)
-change_more stood left result fabric routes there path asked guid number change wanted takes stands changes =
-    let now = with_infos (changed_where there routes) fabric in
-    let leaves = changes now stands.is guid number stands.good (takes_on fabric path asked guid number change routes there stands.shape takes) in
+    → TakesChange fabric path asked guid number change → Stands stood fabric (with_infos (changed_where round there routes) fabric)
+    → ChangesAt round stood left result path asked change
+    → Leaves result left fabric (with_infos (changed_where round (with_this there guid number) routes) fabric)
+change_more round stood left result fabric routes there path asked guid number change wanted takes stands changes =
+    let now = with_infos (changed_where round there routes) fabric in
+    let leaves = changes now stands.is guid number stands.good (takes_on round fabric path asked guid number change routes there stands.shape takes) in
     goes_on result stood left fabric now _ _ stands leaves
-    (parts_twice info_part (on_port guid number (changed change)) (changed_where there routes) (changed_where (with_this there guid number) routes) fabric
-    (λ of_guid of_number info. one_changed (change_wanted routes of_guid of_number) change info (there of_guid of_number)
+    (parts_twice info_part (on_port guid number (in_round round change)) (changed_where round there routes) (changed_where round (with_this there guid number) routes) fabric
+    (λ of_guid of_number info. one_changed round (change_wanted routes of_guid of_number) change info (there of_guid of_number)
     ((guid == of_guid) && (number == of_number)) (own of_guid of_number)))
   where
     own : (of_guid of_number : ℕ) → ((guid == of_guid) && (number == of_number)) ≡ true → change_wanted routes of_guid of_number ≡ change
@@ -147,12 +161,12 @@ change_more stood left result fabric routes there path asked guid number change 
         ∙ ap (λ (n : ℕ). change_wanted routes guid n) (sym (eqb-true number of_number parts.1)) ∙ wanted
 
 -- the same ports reported in other words
-pub reported_same : (routes : RoutesState) (fabric : FabricState) (one other : ℕ → ℕ → Bool) → ((guid number : ℕ) → one guid number ≡ other guid number)
-    → with_infos (changed_where one routes) fabric ≡ with_infos (changed_where other routes) fabric
-reported_same routes fabric one other each = λ i. with_infos (changed_where (λ guid number. each guid number i) routes) fabric
+pub reported_same : (round : Round) (routes : RoutesState) (fabric : FabricState) (one other : ℕ → ℕ → Bool) → ((guid number : ℕ) → one guid number ≡ other guid number)
+    → with_infos (changed_where round one routes) fabric ≡ with_infos (changed_where round other routes) fabric
+reported_same round routes fabric one other each = λ i. with_infos (changed_where round (λ guid number. each guid number i) routes) fabric
 
-pub reported_none : (routes : RoutesState) (fabric : FabricState) → with_infos (changed_where (λ guid number. false) routes) fabric ≡ fabric
-reported_none routes fabric = parts_stay info_part (changed_where (λ guid number. false) routes) fabric (λ guid number info. refl)
+pub reported_none : (round : Round) (routes : RoutesState) (fabric : FabricState) → with_infos (changed_where round (λ guid number. false) routes) fabric ≡ fabric
+reported_none round routes fabric = parts_stay info_part (changed_where round (λ guid number. false) routes) fabric (λ guid number info. refl)
 
 -- ---- all are made
 abbrev pub at_all : RoutesState → ℕ → ℕ → Bool
@@ -211,17 +225,40 @@ none_wanted routes guid number no_switch no_cable = by_place (place_of routes.gr
     by_place None is = by_port is (port_of routes.graph.ports guid number) refl
     by_place (Some place) is = by_number place is (number == 0) refl
 
-pub reported_all : (routes : RoutesState) (fabric : FabricState)
-    → with_infos (changed_where (at_all routes) routes) fabric ≡ with_infos (λ guid number. changed (change_wanted routes guid number)) fabric
-reported_all routes fabric = λ i. with_infos (λ guid number info. each guid number info i) fabric
+stay_as_they_are : (round : Round) (info : PortInfo) → in_round round stays info ≡ info
+stay_as_they_are Arming info = refl
+stay_as_they_are Activating info = refl
+
+pub reported_all : (round : Round) (routes : RoutesState) (fabric : FabricState)
+    → with_infos (changed_where round (at_all routes) routes) fabric ≡ with_infos (changed_in round routes) fabric
+reported_all round routes fabric = λ i. with_infos (λ guid number info. each guid number info i) fabric
   where
     by : (guid number : ℕ) (info : PortInfo) (a b : Bool) → at_switches_before routes.graph (length routes.graph.switches) guid number ≡ a
         → at_cables routes.graph.switches routes.graph.ports guid number ≡ b
-        → (if (a || b) then changed (change_wanted routes guid number) info else info) ≡ changed (change_wanted routes guid number) info
+        → (if (a || b) then changed_in round routes guid number info else info) ≡ changed_in round routes guid number info
     by guid number info true b one other = refl
     by guid number info false true one other = refl
-    by guid number info false false one other = ap (λ (change : PortChange). changed change info) (sym (none_wanted routes guid number one other))
+    by guid number info false false one other =
+        sym (ap (λ (change : PortChange). in_round round change info) (none_wanted routes guid number one other) ∙ stay_as_they_are round info)
 
-    each : (guid number : ℕ) (info : PortInfo) → changed_where (at_all routes) routes guid number info ≡ changed (change_wanted routes guid number) info
+    each : (guid number : ℕ) (info : PortInfo) → changed_where round (at_all routes) routes guid number info ≡ changed_in round routes guid number info
     each guid number info = by guid number info (at_switches_before routes.graph (length routes.graph.switches) guid number)
         (at_cables routes.graph.switches routes.graph.ports guid number) refl refl
+
+-- ---- both rounds
+both_rounds : (lid : Option ℕ) (enforcement : Option Bool) (active b : Bool) (info : PortInfo)
+    → (if active then with_state Active (enforces enforcement (with_end_set lid (if active && b then with_state Armed info else info)))
+    else enforces enforcement (with_end_set lid (if active && b then with_state Armed info else info)))
+    ≡ (if active then with_state Active (enforces enforcement (with_end_set lid info)) else enforces enforcement (with_end_set lid info))
+both_rounds None None true true info = refl
+both_rounds None (Some on) true true info = refl
+both_rounds (Some lid) None true true info = refl
+both_rounds (Some lid) (Some on) true true info = refl
+both_rounds lid enforcement true false info = refl
+both_rounds lid enforcement false b info = refl
+
+pub rounds_change : (routes : RoutesState) (fabric : FabricState)
+    → with_infos (changed_in Activating routes) (with_infos (changed_in Arming routes) fabric) ≡ with_infos (λ guid number. changed (change_wanted routes guid number)) fabric
+rounds_change routes fabric =
+    parts_twice info_part (changed_in Activating routes) (changed_in Arming routes) (λ guid number. changed (change_wanted routes guid number)) fabric
+    (λ guid number info. let change = change_wanted routes guid number in both_rounds change.lid change.enforcement change.active (info.port_state == 2) info)

@@ -18,6 +18,8 @@ use Rattle.table_push.specs.Keys.{guid_of, attached_at, port_of}
 use Rattle.table_push.specs.Nodes.{with_infos, with_switches}
 use Rattle.table_push.specs.Pushes.{LeadsToPort}
 use Rattle.table_push.specs.declared.ports.PortChange.{PortChange}
+use Rattle.table_push.specs.declared.ports.Round.{Round}
+use Rattle.table_push.specs.declared.ports.Round.TheVariants.{Arming, Activating}
 use Rattle.switch_model.specs.SwitchState.{SwitchState}
 use Rattle.updn_routes.specs.Subnet.{RoutesState, place_of}
 
@@ -40,7 +42,7 @@ with_state state info = record info { port_state = port_state_code state }
 abbrev pub with_lid_and_enforcement : PortChange → PortInfo → PortInfo
 with_lid_and_enforcement change info = enforces change.enforcement (with_end_set change.lid info)
 
--- a port that becomes Active carries packets
+-- a port that becomes Active carries packets, once both rounds are over
 abbrev pub changed : PortChange → PortInfo → PortInfo
 changed change info = if change.active then with_state Active (with_lid_and_enforcement change info) else with_lid_and_enforcement change info
 
@@ -85,12 +87,29 @@ ports_pushed routes fabric =
     with_switches (λ guid. set_top (length routes.lids)) (with_infos (λ guid number. changed (change_wanted routes guid number)) fabric)
 
 -- ---- while it is written
--- the state that a port is asked for first: from Initialize it becomes Active by way of Armed
-abbrev pub state_asked : Bool → ℕ → PortState
-state_asked active state =
-    if active then (if state == port_state_code Initialize then Armed
-    else (if state == port_state_code Armed then Active else NoChange))
-    else NoChange
+-- from Initialize a port becomes Active by way of Armed, and becomes Active only while the port at the other end of its cable is
+-- Armed or Active: so first all become Armed, and all else is set
+abbrev pub armed : PortChange → PortInfo → PortInfo
+armed change info =
+    with_lid_and_enforcement change
+    (if change.active && (info.port_state == port_state_code Initialize) then with_state Armed info else info)
+
+-- and then Active
+abbrev pub activated : PortChange → PortInfo → PortInfo
+activated change info = if change.active then with_state Active info else info
+
+abbrev pub in_round : Round → PortChange → PortInfo → PortInfo
+in_round Arming change info = armed change info
+in_round Activating change info = activated change info
+
+-- the state that a port is asked for in the first round
+abbrev pub first_state : Bool → ℕ → PortState
+first_state active state = if active && (state == port_state_code Initialize) then Armed else NoChange
+
+-- and first in the second, in which it becomes Active
+abbrev pub state_asked : ℕ → PortState
+state_asked state =
+    if state == port_state_code Initialize then Armed else (if state == port_state_code Armed then Active else NoChange)
 
 -- a path leads to the node with that GUID, whose port of that number is asked for and takes the change
 pub record TakesChange (fabric : FabricState) (path : List ℕ) (asked guid number : ℕ) (change : PortChange) : Type 0 where
@@ -102,9 +121,13 @@ pub record TakesChange (fabric : FabricState) (path : List ℕ) (asked guid numb
   -- only a port whose link is up becomes Active
   pub up : change.active ≡ true → (info : PortInfo) → info_at fabric (port leads.at.node number) ≡ Some info → is_up info ≡ true
 
+-- what a round makes of each port
+abbrev pub changed_in : Round → RoutesState → (guid number : ℕ) → PortInfo → PortInfo
+changed_in round routes guid number info = in_round round (change_wanted routes guid number) info
+
 -- where it is reported
-abbrev pub changed_where : (ℕ → ℕ → Bool) → RoutesState → (guid number : ℕ) → PortInfo → PortInfo
-changed_where there routes guid number info = if there guid number then changed (change_wanted routes guid number) info else info
+abbrev pub changed_where : Round → (ℕ → ℕ → Bool) → RoutesState → (guid number : ℕ) → PortInfo → PortInfo
+changed_where round there routes guid number info = if there guid number then changed_in round routes guid number info else info
 
 -- port 0 of the switch at that place, and its ports with links
 abbrev pub at_switch : GraphState → ℕ → ℕ → ℕ → Bool

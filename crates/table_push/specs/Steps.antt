@@ -13,9 +13,10 @@ use Rattle.sweep.specs.OfFabric.{IsGraphOf}
 use Rattle.sweep.specs.declared.graph.GraphPort.{GraphPort}
 use Rattle.table_push.specs.Keys.{at_cable, at_switches, guid_of, keys_pushed, keys_where}
 use Rattle.table_push.specs.Nodes.{on_port, with_infos, with_keys}
-use Rattle.table_push.specs.Ports.{at_switches_before, change_wanted, changed, changed_where, has_link}
+use Rattle.table_push.specs.Ports.{at_switches_before, changed_in, changed_where, has_link}
 use Rattle.table_push.specs.Pushes.{Gives, LeadsToPort, Leaves, Stands}
 use Rattle.table_push.specs.declared.fault.PushFault.{PushFault}
+use Rattle.table_push.specs.declared.ports.Round.{Round}
 use Rattle.updn_routes.specs.Subnet.{RoutesState}
 
 -- ---- one Set
@@ -33,29 +34,29 @@ SetsBlock fabric left path position partition block result =
     TakesAndGives fabric left path MulticastForwardingTable (position * 268435456 + partition) (word_bytes block) result
 
 -- ---- ports
--- where the ports that pass a test are set up, those that pass one more are set up too
-abbrev pub SetsUpMore : RoutesState → (stood left : Option FabricState) → (more : ℕ → ℕ → Bool) → Result (Unit {0}) PushFault → Type 0
-SetsUpMore routes stood left more result =
+-- where a round is over at the ports that pass a test, it is at those that pass one more too
+abbrev pub SetsUpMore : RoutesState → Round → (stood left : Option FabricState) → (more : ℕ → ℕ → Bool) → Result (Unit {0}) PushFault → Type 0
+SetsUpMore routes round stood left more result =
     (fabric : FabricState) (there : ℕ → ℕ → Bool) → IsGraphOf routes.graph fabric → IsGood fabric → ShowsLinks fabric
-    → Stands stood fabric (with_infos (changed_where there routes) fabric)
-    → Leaves result left fabric (with_infos (changed_where (λ guid number. there guid number || more guid number) routes) fabric)
+    → Stands stood fabric (with_infos (changed_where round there routes) fabric)
+    → Leaves result left fabric (with_infos (changed_where round (λ guid number. there guid number || more guid number) routes) fabric)
 
 -- that port of the switch at that place has a cable to another switch
 abbrev pub at_links : RoutesState → (place guid number : ℕ) → Bool
 at_links routes place guid number = (guid_of routes.graph.switches place == guid) && has_link routes.graph place number
 
 -- those at both ends of the cable of the port of a channel adapter at that place
-abbrev pub SetsUpCable : RoutesState → (stood left : Option FabricState) → (place : ℕ) → Result (Unit {0}) PushFault → Type 0
-SetsUpCable routes stood left place result =
+abbrev pub SetsUpCable : RoutesState → Round → (stood left : Option FabricState) → (place : ℕ) → Result (Unit {0}) PushFault → Type 0
+SetsUpCable routes round stood left place result =
     (port : GraphPort) → slice_get routes.graph.ports place ≡ Some port
-    → SetsUpMore routes stood left (λ guid number. at_cable routes.graph.switches guid number port) result
+    → SetsUpMore routes round stood left (λ guid number. at_cable routes.graph.switches guid number port) result
 
--- where those of the switches are, all are
-abbrev pub SetsUpRest : RoutesState → (stood left : Option FabricState) → Result (Unit {0}) PushFault → Type 0
-SetsUpRest routes stood left result =
+-- where it is at those of the switches, it is at all
+abbrev pub SetsUpRest : RoutesState → Round → (stood left : Option FabricState) → Result (Unit {0}) PushFault → Type 0
+SetsUpRest routes round stood left result =
     (fabric : FabricState) → IsGraphOf routes.graph fabric → IsGood fabric → ShowsLinks fabric
-    → Stands stood fabric (with_infos (changed_where (at_switches_before routes.graph (length routes.graph.switches)) routes) fabric)
-    → Leaves result left fabric (with_infos (λ guid number. changed (change_wanted routes guid number)) fabric)
+    → Stands stood fabric (with_infos (changed_where round (at_switches_before routes.graph (length routes.graph.switches)) routes) fabric)
+    → Leaves result left fabric (with_infos (changed_in round routes) fabric)
 
 -- ---- key tables
 -- that block of the table of a port is one of these words, and all else is as it was

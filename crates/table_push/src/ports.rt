@@ -10,7 +10,7 @@ ghost use Rattle.smp_wire.specs.Get.{gives_along};
 ghost use Rattle.smp_wire.specs.Good.{IsGood, ShowsLinks};
 ghost use Rattle.sweep.specs.OfFabric.{IsGraphOf};
 ghost use Rattle.table_push.specs.Nodes.{on_port, with_infos};
-ghost use Rattle.table_push.specs.Ports.{TakesChange, at_switch, at_switches_before, changed, changed_where, with_end_set, enforces, ports_pushed, state_asked, with_lid_and_enforcement, with_state};
+ghost use Rattle.table_push.specs.Ports.{TakesChange, activated, armed, at_switch, at_switches_before, changed_in, changed_where, with_end_set, enforces, first_state, in_round, ports_pushed, state_asked, with_lid_and_enforcement, with_state};
 ghost use Rattle.table_push.specs.Pushes.{Leaves};
 ghost use Rattle.table_push.specs.Steps.{SetsUpCable, SetsUpMore, SetsUpRest, TakesAndGives, at_links};
 
@@ -33,6 +33,16 @@ pub struct PortChange {
     active: bool,
 }
 
+/// A port becomes Active only while the port at the other end of its cable is Armed or Active, so all ports are set up in
+/// two rounds.
+#[derive(Clone, Copy)]
+pub(crate) enum Round {
+    /// All but that a port becomes Active; one that is to become Active becomes Armed.
+    Arming,
+    /// That.
+    Activating,
+}
+
 /// Sets up all ports: each end port has its prefix, its LID, LMC 0 and the subnet manager's LID, each port with a cable becomes
 /// Active, the ports of switches that channel adapters are attached to enforce partitions and those between switches do not, and
 /// LinearFDBTop of each switch is the greatest LID.
@@ -43,31 +53,49 @@ pub fn push_ports<W: SmpWire>(wire: &mut W, routes: &Routes) -> Result<(), PushF
         → Leaves result (W.fabric wire.new) fabric (ports_pushed routes.now fabric)) }
 {
     let mut transaction_id = 0;
-    match to_switches(wire, &mut transaction_id, routes) {
+    match to_ports(wire, &mut transaction_id, routes, Round::Arming) {
         Ok(()) => {}
         Err(fault) => return Err(fault),
     }
-    match to_cables(wire, &mut transaction_id, routes) {
+    match to_ports(wire, &mut transaction_id, routes, Round::Activating) {
         Ok(()) => {}
         Err(fault) => return Err(fault),
     }
     set_tops(wire, &mut transaction_id, routes)
 }
 
-/// Sets up port 0 of each switch, and its ports with cables to other switches.
+/// Does one round at all ports.
+fn to_ports<W: SmpWire>(
+    wire: &mut W,
+    transaction_id: &mut u64,
+    routes: &Routes,
+    round: Round,
+) -> Result<(), PushFault>
+    ensures { ForSome (W.fabric wire.old) (λ fabric. IsGraphOf routes.now.graph fabric → IsGood fabric → ShowsLinks fabric
+        → Leaves result (W.fabric wire.new) fabric (with_infos (changed_in round routes.now) fabric)) }
+{
+    match to_switches(wire, transaction_id, routes, round) {
+        Ok(()) => {}
+        Err(fault) => return Err(fault),
+    }
+    to_cables(wire, transaction_id, routes, round)
+}
+
+/// Does a round at port 0 of each switch, and at its ports with cables to other switches.
 fn to_switches<W: SmpWire>(
     wire: &mut W,
     transaction_id: &mut u64,
     routes: &Routes,
+    round: Round,
 ) -> Result<(), PushFault>
     ensures { ForSome (W.fabric wire.old) (λ fabric. IsGraphOf routes.now.graph fabric → IsGood fabric → ShowsLinks fabric
         → Leaves result (W.fabric wire.new) fabric
-        (with_infos (changed_where (at_switches_before routes.now.graph (length routes.now.graph.switches)) routes.now) fabric)) }
+        (with_infos (changed_where round (at_switches_before routes.now.graph (length routes.now.graph.switches)) routes.now) fabric)) }
 {
     let graph = routes.graph();
     graph.known_graph();
     for place in 0..graph.switches().len() {
-        match to_switch(wire, transaction_id, routes, place) {
+        match to_switch(wire, transaction_id, routes, round, place) {
             Ok(()) => {}
             Err(fault) => return Err(fault),
         }
@@ -75,15 +103,16 @@ fn to_switches<W: SmpWire>(
     Ok(())
 }
 
-/// Sets up port 0 of a switch, and its ports with cables to other switches.
+/// Does a round at port 0 of a switch, and at its ports with cables to other switches.
 fn to_switch<W: SmpWire>(
     wire: &mut W,
     transaction_id: &mut u64,
     routes: &Routes,
+    round: Round,
     place: usize,
 ) -> Result<(), PushFault>
     requires { place < length routes.now.graph.switches }
-    ensures { SetsUpMore routes.now (W.fabric wire.old) (W.fabric wire.new)
+    ensures { SetsUpMore routes.now round (W.fabric wire.old) (W.fabric wire.new)
         (λ guid number. at_switch routes.now.graph guid number place) result }
 {
     let graph = routes.graph();
@@ -96,22 +125,24 @@ fn to_switch<W: SmpWire>(
         enforcement: None,
         active: false,
     };
-    match set_port(wire, transaction_id, switch.path.as_slice(), 0, &change) {
+    let path = switch.path.as_slice();
+    match set_port(wire, transaction_id, path, 0, round, &change) {
         Ok(()) => {}
         Err(fault) => return Err(fault),
     }
-    to_links(wire, transaction_id, routes, place)
+    to_links(wire, transaction_id, routes, round, place)
 }
 
-/// Sets up the ports of a switch with cables to other switches.
+/// Does a round at the ports of a switch with cables to other switches.
 fn to_links<W: SmpWire>(
     wire: &mut W,
     transaction_id: &mut u64,
     routes: &Routes,
+    round: Round,
     place: usize,
 ) -> Result<(), PushFault>
     requires { place < length routes.now.graph.switches }
-    ensures { SetsUpMore routes.now (W.fabric wire.old) (W.fabric wire.new) (at_links routes.now place) result }
+    ensures { SetsUpMore routes.now round (W.fabric wire.old) (W.fabric wire.new) (at_links routes.now place) result }
 {
     let graph = routes.graph();
     graph.known_graph();
@@ -123,7 +154,14 @@ fn to_links<W: SmpWire>(
         active: true,
     };
     for index in 0..links.len() {
-        match set_port(wire, transaction_id, path, links[index].port, &change) {
+        match set_port(
+            wire,
+            transaction_id,
+            path,
+            links[index].port,
+            round,
+            &change,
+        ) {
             Ok(()) => {}
             Err(fault) => return Err(fault),
         }
@@ -131,18 +169,19 @@ fn to_links<W: SmpWire>(
     Ok(())
 }
 
-/// Sets up the ports at both ends of each cable between a switch and a channel adapter.
+/// Does a round at both ends of each cable between a switch and a channel adapter.
 fn to_cables<W: SmpWire>(
     wire: &mut W,
     transaction_id: &mut u64,
     routes: &Routes,
+    round: Round,
 ) -> Result<(), PushFault>
-    ensures { SetsUpRest routes.now (W.fabric wire.old) (W.fabric wire.new) result }
+    ensures { SetsUpRest routes.now round (W.fabric wire.old) (W.fabric wire.new) result }
 {
     let graph = routes.graph();
     graph.known_graph();
     for place in 0..graph.ports().len() {
-        match to_cable(wire, transaction_id, routes, place) {
+        match to_cable(wire, transaction_id, routes, round, place) {
             Ok(()) => {}
             Err(fault) => return Err(fault),
         }
@@ -150,15 +189,16 @@ fn to_cables<W: SmpWire>(
     Ok(())
 }
 
-/// Sets up a port of a channel adapter, and the port of a switch that it is attached to.
+/// Does a round at a port of a channel adapter, and at the port of a switch that it is attached to.
 fn to_cable<W: SmpWire>(
     wire: &mut W,
     transaction_id: &mut u64,
     routes: &Routes,
+    round: Round,
     place: usize,
 ) -> Result<(), PushFault>
     requires { place < length routes.now.graph.ports }
-    ensures { SetsUpCable routes.now (W.fabric wire.old) (W.fabric wire.new) place result }
+    ensures { SetsUpCable routes.now round (W.fabric wire.old) (W.fabric wire.new) place result }
 {
     let graph = routes.graph();
     graph.known_graph();
@@ -176,6 +216,7 @@ fn to_cable<W: SmpWire>(
         transaction_id,
         switch.path.as_slice(),
         port.at.port,
+        round,
         &before,
     ) {
         Ok(()) => {}
@@ -187,12 +228,32 @@ fn to_cable<W: SmpWire>(
         active: true,
     };
     let path = switch.path.then(port.at.port);
-    set_port(wire, transaction_id, path.as_slice(), 0, &own)
+    set_port(wire, transaction_id, path.as_slice(), 0, round, &own)
 }
 
-/// Changes PortInfo of a port of the node at the end of a path. A switch is asked for its port of that number; a port of
-/// a channel adapter is asked for port 0, itself.
+/// Does a round at a port of the node at the end of a path. A switch is asked for its port of that number; a port of a channel
+/// adapter is asked for port 0, itself.
 fn set_port<W: SmpWire>(
+    wire: &mut W,
+    transaction_id: &mut u64,
+    path: &[u8],
+    asked: u8,
+    round: Round,
+    change: &PortChange,
+) -> Result<(), PushFault>
+    requires { length path.now ≤ 63 }
+    ensures { ForSome (W.fabric wire.old) (λ fabric. (guid number : ℕ) → IsGood fabric
+        → TakesChange fabric path.now asked guid number change.now
+        → Leaves result (W.fabric wire.new) fabric (with_infos (on_port guid number (in_round round change.now)) fabric)) }
+{
+    match round {
+        Round::Arming => arm(wire, transaction_id, path, asked, change),
+        Round::Activating => activate(wire, transaction_id, path, asked, change),
+    }
+}
+
+/// Changes PortInfo of a port in all but that it becomes Active; one that is to become Active becomes Armed.
+fn arm<W: SmpWire>(
     wire: &mut W,
     transaction_id: &mut u64,
     path: &[u8],
@@ -202,20 +263,48 @@ fn set_port<W: SmpWire>(
     requires { length path.now ≤ 63 }
     ensures { ForSome (W.fabric wire.old) (λ fabric. (guid number : ℕ) → IsGood fabric
         → TakesChange fabric path.now asked guid number change.now
-        → Leaves result (W.fabric wire.new) fabric (with_infos (on_port guid number (changed change.now)) fabric)) }
+        → Leaves result (W.fabric wire.new) fabric (with_infos (on_port guid number (armed change.now)) fabric)) }
 {
     let held = match held_info(wire, transaction_id, path, asked) {
         Ok(held) => held,
         Err(fault) => return Err(fault),
     };
     let info = change.with_lid_and_enforcement(&held);
-    let state = state_asked(change.active, held.port_state);
-    match set_info(wire, transaction_id, path, asked, &info, state) {
+    let state = first_state(change.active, held.port_state);
+    set_info(wire, transaction_id, path, asked, &info, state)
+}
+
+/// Makes a port Active that is to be, unless it is. One that has come back to Initialize becomes Armed before.
+fn activate<W: SmpWire>(
+    wire: &mut W,
+    transaction_id: &mut u64,
+    path: &[u8],
+    asked: u8,
+    change: &PortChange,
+) -> Result<(), PushFault>
+    requires { length path.now ≤ 63 }
+    ensures { ForSome (W.fabric wire.old) (λ fabric. (guid number : ℕ) → IsGood fabric
+        → TakesChange fabric path.now asked guid number change.now
+        → Leaves result (W.fabric wire.new) fabric (with_infos (on_port guid number (activated change.now)) fabric)) }
+{
+    if !change.active {
+        return Ok(());
+    }
+    let held = match held_info(wire, transaction_id, path, asked) {
+        Ok(held) => held,
+        Err(fault) => return Err(fault),
+    };
+    let state = state_asked(held.port_state);
+    match state {
+        PortState::NoChange => return Ok(()),
+        _ => {}
+    }
+    match set_info(wire, transaction_id, path, asked, &held, state) {
         Ok(()) => {}
         Err(fault) => return Err(fault),
     }
     match state {
-        PortState::Armed => set_info(wire, transaction_id, path, asked, &info, PortState::Active),
+        PortState::Armed => set_info(wire, transaction_id, path, asked, &held, PortState::Active),
         _ => Ok(()),
     }
 }
@@ -323,13 +412,22 @@ fn enforces(enforcement: Option<bool>, info: &PortInfo) -> PortInfo
     }
 }
 
-/// The state that a port of this state is asked for first, if it is to become Active, or is to keep its state.
-fn state_asked(active: bool, state: u8) -> PortState
-    ensures { result ≡ state_asked active state }
+/// The state that a port of this state is asked for in the first round, if it is to become Active, or is to keep its state.
+fn first_state(active: bool, state: u8) -> PortState
+    ensures { result ≡ first_state active state }
 {
-    if !active {
+    if active && state == PortState::Initialize.code() {
+        PortState::Armed
+    } else {
         PortState::NoChange
-    } else if state == PortState::Initialize.code() {
+    }
+}
+
+/// The state that a port of this state is asked for first in the second round, in which it becomes Active.
+fn state_asked(state: u8) -> PortState
+    ensures { result ≡ state_asked state }
+{
+    if state == PortState::Initialize.code() {
         PortState::Armed
     } else if state == PortState::Armed.code() {
         PortState::Active

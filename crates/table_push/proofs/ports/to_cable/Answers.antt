@@ -30,8 +30,8 @@ returns-in-Err g c port at fabric there of good shows stands =
     c.ports.ensures c.switches.ensures c.requires in
     let path = c.as_slice.ensures.value ∙ ap (λ (one : GraphSwitch). one.path) (c.index-switches-port.is ∙ h.same _) in
     absurd (no_fault c.in-Err.fault _ fabric _
-    (before_reported _ _ _ fabric c.args.routes.now there c.args.place _ good shows h.is of h.at h.attachment stands
-    (changes_along _ _ _ _ _ _ _ path c.in-Err.ensures)))
+    (before_reported _ _ _ _ fabric c.args.routes.now there c.args.place _ good shows h.is of h.at h.attachment stands
+    (changes_along _ _ _ _ _ _ _ _ path c.in-Err.ensures)))
 
 pub returns : goal.returns
 returns g c port at fabric there of good shows stands =
@@ -40,10 +40,10 @@ returns g c port at fabric there of good shows stands =
     let one = get_or c.ports.result.now c.args.place no_port in
     let switch = c.index-switches-port.is ∙ h.same _ in
     let path = c.as_slice.ensures.value ∙ ap (λ (s : GraphSwitch). s.path) switch in
-    let first = before_reported _ _ _ fabric c.args.routes.now there c.args.place one good shows h.is of h.at h.attachment stands
-    (changes_along _ _ _ _ _ one.at.port _ path c.in-Ok.ensures) in
+    let first = before_reported _ _ _ _ fabric c.args.routes.now there c.args.place one good shows h.is of h.at h.attachment stands
+    (changes_along _ _ _ _ _ _ one.at.port _ path c.in-Ok.ensures) in
     let longer = c.as_slice-2.ensures.value ∙ c.then-path.ensures ∙ ap (λ (s : GraphSwitch). s.path ++ one.at.port ∷ []) switch in
-    let second = adapter_reported _ _ _ fabric c.args.routes.now _ c.args.place one _ good shows h.is of h.at h.attachment (omega (arith, c.known_distinct.ensures.few, ap length c.lids-lids.ensures))
+    let second = adapter_reported _ _ _ _ fabric c.args.routes.now _ c.args.place one _ good shows h.is of h.at h.attachment (omega (arith, c.known_distinct.ensures.few, ap length c.lids-lids.ensures))
     (adapter_own one.port_guid _ _ _ c.lid_of.ensures c.lids-lids.ensures) first.stands
-    (changes_along _ _ _ _ _ 0 _ longer c.set_port-2.ensures) in
-    cable_reported _ _ fabric c.args.routes.now there one port (same_Some one port (sym h.at ∙ at)) second
+    (changes_along _ _ _ _ _ _ 0 _ longer c.set_port-2.ensures) in
+    cable_reported _ _ _ fabric c.args.routes.now there one port (same_Some one port (sym h.at ∙ at)) second

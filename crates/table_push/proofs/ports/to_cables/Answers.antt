@@ -7,7 +7,7 @@ use Rattle.table_push.proofs.PortCableLemmas.{at_first, cables_begin, cables_end
 use Rattle.table_push.proofs.ports.to_cables.Goals as goal
 
 pub loop-place-init : goal.loop-place-init
-loop-place-init g c fabric of good shows stands = cables_begin _ fabric c.args.routes.now stands
+loop-place-init g c fabric of good shows stands = cables_begin c.args.round _ fabric c.args.routes.now stands
 
 pub returns-in-Err : goal.returns-in-Err
 returns-in-Err g c fabric of good shows stands =
@@ -26,12 +26,12 @@ loop-place-preserved g c fabric of good shows stands =
     let within : place < length ports =
     omega (arith, c.loop-place-test.true, ap length c.ports-place-end.ensures, ap (λ (graph : GraphState). length graph.ports) c.graph-graph.ensures) in
     let there = slice_get-get_or ports place no_port within in
-    (cables_more _ _ fabric c.args.routes.now place (get_or ports place no_port) within there
+    (cables_more _ _ _ fabric c.args.routes.now place (get_or ports place no_port) within there
     (c.in-Ok.ensures (get_or ports place no_port) there fabric (at_first c.args.routes.now place) of good shows (c.loop-place.invariant fabric of good shows stands))).stands
 
 pub returns : goal.returns
 returns g c fabric of good shows stands =
     let long = ap (λ (graph : GraphState). length graph.ports) c.graph-graph.ensures in
     let count = ap length c.ports-place-end.ensures in
-    cables_end _ fabric c.args.routes.now c.loop-place.place (omega (arith, c.loop-place-test.false, c.loop-place.auto.place-end, long, count))
+    cables_end _ _ fabric c.args.routes.now c.loop-place.place (omega (arith, c.loop-place-test.false, c.loop-place.auto.place-end, long, count))
     (c.loop-place.invariant fabric of good shows stands)

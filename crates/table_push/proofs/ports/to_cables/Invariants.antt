@@ -13,5 +13,5 @@ abbrev pub invariant-loop-place : goal.invariant-loop-place
 invariant-loop-place g l =
     (fabric : FabricState) → IsGraphOf l.fn.routes.graph fabric → IsGood fabric → ShowsLinks fabric
     → Stands (g.W.SmpWire.fabric l.fn.wire) fabric
-    (with_infos (changed_where (at_switches_before l.fn.routes.graph (length l.fn.routes.graph.switches)) l.fn.routes) fabric)
-    → Stands (g.W.SmpWire.fabric l.wire) fabric (with_infos (changed_where (at_first l.fn.routes l.place) l.fn.routes) fabric)
+    (with_infos (changed_where l.fn.round (at_switches_before l.fn.routes.graph (length l.fn.routes.graph.switches)) l.fn.routes) fabric)
+    → Stands (g.W.SmpWire.fabric l.wire) fabric (with_infos (changed_where l.fn.round (at_first l.fn.routes l.place) l.fn.routes) fabric)

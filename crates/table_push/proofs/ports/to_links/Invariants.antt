@@ -13,6 +13,6 @@ use Rattle.table_push.proofs.ports.to_links.Given as goal
 abbrev pub invariant-loop-index : goal.invariant-loop-index
 invariant-loop-index g l =
     (fabric : FabricState) (there : ℕ → ℕ → Bool) → IsGraphOf l.fn.routes.graph fabric → IsGood fabric → ShowsLinks fabric
-    → Stands (g.W.SmpWire.fabric l.fn.wire) fabric (with_infos (changed_where there l.fn.routes) fabric)
+    → Stands (g.W.SmpWire.fabric l.fn.wire) fabric (with_infos (changed_where l.fn.round there l.fn.routes) fabric)
     → Stands (g.W.SmpWire.fabric l.wire) fabric
-    (with_infos (changed_where (with_links there (guid_of l.fn.routes.graph.switches l.fn.place) (take l.index l.links)) l.fn.routes) fabric)
+    (with_infos (changed_where l.fn.round (with_links there (guid_of l.fn.routes.graph.switches l.fn.place) (take l.index l.links)) l.fn.routes) fabric)

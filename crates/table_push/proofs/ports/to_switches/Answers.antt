@@ -6,7 +6,7 @@ use Rattle.table_push.proofs.PortCableLemmas.{switches_begin, switches_end, swit
 use Rattle.table_push.proofs.ports.to_switches.Goals as goal
 
 pub loop-place-init : goal.loop-place-init
-loop-place-init g c fabric stands of good shows = switches_begin _ fabric c.args.routes.now stands good
+loop-place-init g c fabric stands of good shows = switches_begin c.args.round _ fabric c.args.routes.now stands good
 
 pub returns-in-Err : goal.returns-in-Err
 returns-in-Err g c x stands of good shows =
@@ -15,12 +15,12 @@ returns-in-Err g c x stands of good shows =
 
 pub loop-place-preserved : goal.loop-place-preserved
 loop-place-preserved g c x stands of good shows =
-    (switches_more _ _ x c.args.routes.now c.loop-place.place
+    (switches_more _ _ _ x c.args.routes.now c.loop-place.place
     (c.in-Ok.ensures x (at_switches_before c.args.routes.now.graph c.loop-place.place) of good shows (c.loop-place.invariant x stands of good shows))).stands
 
 pub returns : goal.returns
 returns g c x stands of good shows =
     let long = ap (λ (graph : GraphState). length graph.switches) c.graph-graph.ensures in
     let count = ap length c.switches-place-end.ensures in
-    switches_end _ x c.args.routes.now c.loop-place.place (length c.args.routes.now.graph.switches)
+    switches_end _ _ x c.args.routes.now c.loop-place.place (length c.args.routes.now.graph.switches)
     (omega (arith, c.loop-place-test.false, c.loop-place.auto.place-end, long, count)) (c.loop-place.invariant x stands of good shows)

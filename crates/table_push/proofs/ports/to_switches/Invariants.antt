@@ -11,4 +11,4 @@ use Rattle.table_push.proofs.ports.to_switches.Given as goal
 abbrev pub invariant-loop-place : goal.invariant-loop-place
 invariant-loop-place g l =
     (fabric : FabricState) → g.W.SmpWire.fabric l.fn.wire ≡ Some fabric → IsGraphOf l.fn.routes.graph fabric → IsGood fabric → ShowsLinks fabric
-    → Stands (g.W.SmpWire.fabric l.wire) fabric (with_infos (changed_where (at_switches_before l.fn.routes.graph l.place) l.fn.routes) fabric)
+    → Stands (g.W.SmpWire.fabric l.wire) fabric (with_infos (changed_where l.fn.round (at_switches_before l.fn.routes.graph l.place) l.fn.routes) fabric)
