@@ -124,7 +124,8 @@ impl<'a> Net<'a> {
         Ok(())
     }
 
-    fn channels(&self, alloc: Global) -> Result<Vec<PortRef>, AllocError>
+    /// The ports of switches that have a cable to a switch, in the order of switches, and then of ports.
+    pub fn channels(&self, alloc: Global) -> Result<Vec<PortRef>, AllocError>
         ensures { IfOk result (λ all. all.items ≡ channels self.now) }
     {
         let mut channels = Vec::new(alloc);

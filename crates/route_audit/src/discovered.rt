@@ -341,7 +341,7 @@ fn end_index(alloc: Global, found: &Discovery) -> Result<EndIndex, AllocError>
 impl Plan {
     /// What an audit takes of a discovery.
     #[tactic(auto, unfolding(crate::specs::Plan::plan_found))]
-    pub(crate) fn found(alloc: Global, found: &Discovery) -> Result<Plan, AllocError>
+    pub fn found(alloc: Global, found: &Discovery) -> Result<Plan, AllocError>
         ensures { IfOk result (λ plan. plan ≡ plan_found found.now) }
     {
         let nodes = found_nodes(alloc, found.nodes())?;

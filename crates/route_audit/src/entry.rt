@@ -7,7 +7,7 @@ use std::marker::Model;
 
 /// What a table says of a LID.
 #[derive(Clone, Copy)]
-pub(crate) enum Entry {
+pub enum Entry {
     /// It leads out of this port; 0 is the switch itself.
     Out(u8),
     /// It leads nowhere.

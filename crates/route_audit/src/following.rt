@@ -15,7 +15,7 @@ use std::marker::Model;
 
 /// What a switch does with a packet.
 #[derive(Clone, Copy)]
-pub(crate) enum Turn {
+pub enum Turn {
     /// It goes on at the switch there.
     Goes(usize),
     /// It has come to this end port.
@@ -30,7 +30,7 @@ pub(crate) enum Turn {
 
 /// What comes of packets from a switch to a LID.
 #[derive(Clone, Copy)]
-pub(crate) enum Fate {
+pub enum Fate {
     /// They come to the end port that has the LID.
     Reached,
     /// A switch has no entry.
@@ -169,7 +169,7 @@ impl<'a> Net<'a> {
     }
 
     /// What comes of packets from the switch there to the LID, which this end port has.
-    pub(crate) fn fate(&self, lid: u16, end: PortRef, place: usize) -> Fate
+    pub fn fate(&self, lid: u16, end: PortRef, place: usize) -> Fate
         ensures { result ≡ fate self.now lid end place }
     {
         fate_by(end, self.end_from(lid, place))

@@ -31,9 +31,14 @@ mod verdict;
 mod wrong_rules;
 
 pub use crate::auditing::{audit, audit_discovery};
+pub use crate::entry::Entry;
+pub use crate::following::{Fate, Turn};
 pub use crate::laws::{
     channels_are_reported, counts_add_up, each_trouble_has_a_line, lids_are_taken,
     loops_are_closed_by_their_lids, loops_never_end, no_cycle_is_missed, owners_are_found,
     reported_loops_go_round, reported_loops_wait, safe_routes_are_reported, ways_are_followed,
 };
+pub use crate::lids::Aim;
+pub use crate::net::Net;
 pub use crate::outcome::Audit;
+pub use crate::plan::{Plan, PlanNode, ports_at};

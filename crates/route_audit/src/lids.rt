@@ -15,12 +15,13 @@ use std::alloc::{AllocError, Global};
 
 /// What is known of a LID.
 #[derive(Clone, Copy)]
-pub(crate) struct Aim {
-    pub(crate) lid: u16,
+pub struct Aim {
+    /// The LID.
+    pub lid: u16,
     /// The GUID of the end port that has it, if a row says one, or the discovery.
-    pub(crate) guid: Option<u64>,
+    pub guid: Option<u64>,
     /// The end port of this GUID, if the fabric has it, of the kind that rows say.
-    pub(crate) end: Option<PortRef>,
+    pub end: Option<PortRef>,
 }
 
 /// Whether it is a channel adapter's or a switch's.
@@ -131,7 +132,7 @@ impl<'a> Net<'a> {
     }
 
     /// What is known of each LID that a row names or the discovery reports, as LIDs rise.
-    pub(crate) fn aims(&self, alloc: Global) -> Result<Vec<Aim>, AllocError>
+    pub fn aims(&self, alloc: Global) -> Result<Vec<Aim>, AllocError>
         ensures { IfOk result (λ all. all.items ≡ aims self.now) }
     {
         let index = LidIndex::of(alloc, self)?;

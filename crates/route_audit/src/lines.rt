@@ -126,7 +126,8 @@ impl<'a> Net<'a> {
         text.extend_from_slice(name_at(self.nodes(), place))
     }
 
-    pub(crate) fn push_port(&self, text: &mut Vec<u8>, port: PortRef) -> Result<(), AllocError>
+    /// Adds a port by the name of its node, as `A/3`.
+    pub fn push_port(&self, text: &mut Vec<u8>, port: PortRef) -> Result<(), AllocError>
         ensures { OnOk result (text.new.items ≡ text.old.items ++ port_text self.now port) }
     {
         push_port_name(text, name_at(self.nodes(), port.node), port.port)

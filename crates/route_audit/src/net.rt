@@ -24,7 +24,7 @@ use std::marker::Model;
 
 /// A fabric and a dump, with entries and the far ends of cables looked up by their numbers.
 #[derive(Drop)]
-pub(crate) struct Net<'a> {
+pub struct Net<'a> {
     inputs: Inputs<'a>,
     // Of each node the entries by LID, up to the top of its table.
     entries: Vec<EntryList>,
@@ -48,7 +48,8 @@ impl<'a> Model for Net<'a> {
 }
 
 impl<'a> Net<'a> {
-    pub(crate) fn new(alloc: Global, plan: &'a Plan, dump: &'a Dump) -> Result<Net<'a>, AllocError>
+    /// A fabric and a dump. It can only run out of memory.
+    pub fn new(alloc: Global, plan: &'a Plan, dump: &'a Dump) -> Result<Net<'a>, AllocError>
         ensures { IfOk result (λ net. net ≡ record { plan = plan.now; dump = dump.now }) }
     {
         let inputs = Inputs::new(alloc, plan, dump)?;
@@ -69,7 +70,8 @@ impl<'a> Net<'a> {
         self.inputs.dump()
     }
 
-    pub(crate) fn nodes(&self) -> &[PlanNode]
+    /// Its nodes.
+    pub fn nodes(&self) -> &[PlanNode]
         ensures { result.now ≡ self.now.plan.nodes }
     {
         self.inputs.nodes()
@@ -102,7 +104,8 @@ impl<'a> Net<'a> {
         self.inputs.port_of(guid)
     }
 
-    pub(crate) fn switches(&self) -> &[usize]
+    /// The places of its switches among the nodes.
+    pub fn switches(&self) -> &[usize]
         ensures { result.now ≡ switches self.now.plan.nodes }
     {
         self.inputs.switches()
@@ -114,7 +117,8 @@ impl<'a> Net<'a> {
         self.inputs.is_switch_at(place)
     }
 
-    pub(crate) fn is_host(&self, place: usize) -> bool
+    /// Whether the node there is neither a switch nor the aggregation node of one.
+    pub fn is_host(&self, place: usize) -> bool
         ensures { result ≡ is_host self.now.plan place }
     {
         self.inputs.is_host(place)
@@ -126,7 +130,8 @@ impl<'a> Net<'a> {
         end_at(&self.ends, here)
     }
 
-    pub(crate) fn far_end(&self, here: PortRef) -> Option<PortRef>
+    /// The port at the other end of its cable.
+    pub fn far_end(&self, here: PortRef) -> Option<PortRef>
         ensures { result ≡ far_end self.now.plan.cables here }
     {
         match self.known_end(here) {
@@ -157,7 +162,7 @@ impl<'a> Net<'a> {
     }
 
     /// The entry of a LID in the table of the switch there.
-    pub(crate) fn entry(&self, lid: u16, place: usize) -> Entry
+    pub fn entry(&self, lid: u16, place: usize) -> Entry
         ensures { result ≡ entry self.now lid place }
     {
         match self.known_entry(lid, place) {
@@ -173,7 +178,7 @@ impl<'a> Net<'a> {
     }
 
     /// What becomes of a packet that leaves the switch there by this port.
-    pub(crate) fn turn_out(&self, place: usize, number: u8) -> Turn
+    pub fn turn_out(&self, place: usize, number: u8) -> Turn
         ensures { result ≡ turn_by self.now place (Out number) }
     {
         match self.known_turn(place, number) {

@@ -12,7 +12,7 @@ use topo_file::{LargeTopology, Node};
 
 /// A node: a switch, or what forwards nothing.
 #[derive(Drop)]
-pub(crate) struct PlanNode {
+pub struct PlanNode {
     pub(crate) name: Vec<u8>,
     pub(crate) node_type: NodeType,
     pub(crate) guid: u64,
@@ -43,7 +43,7 @@ impl PlanNode {
 
 /// The nodes and cables of a fabric, and its end ports by their GUIDs.
 #[derive(Drop)]
-pub(crate) struct Plan {
+pub struct Plan {
     pub(crate) nodes: Vec<PlanNode>,
     pub(crate) cables: Vec<Cable>,
     /// Those that join no switch.
@@ -74,7 +74,7 @@ pub(crate) fn is_switch_at(nodes: &[PlanNode], place: usize) -> bool
 }
 
 /// How many ports the node there has.
-pub(crate) fn ports_at(nodes: &[PlanNode], place: usize) -> u8
+pub fn ports_at(nodes: &[PlanNode], place: usize) -> u8
     ensures { result ≡ ports_at nodes.now place }
 {
     match nodes.get(place) {
@@ -219,7 +219,7 @@ impl Plan {
     }
 
     /// What an audit takes of a topology.
-    pub(crate) fn of(alloc: Global, topology: &LargeTopology) -> Result<Plan, AllocError>
+    pub fn of(alloc: Global, topology: &LargeTopology) -> Result<Plan, AllocError>
         ensures { IfOk result (λ plan. plan ≡ plan_of topology.now) }
     {
         let ends = ends_of(alloc, topology.nodes())?;
