@@ -70,18 +70,18 @@ pub is_listed : (nodes : List Node) (place : ℕ) → is_switch_at nodes place �
 is_listed nodes place is = in_kept (is_switch_at nodes) place (range_with_len 0 (length nodes)) is (in_range place 0 (length nodes) (omega arith) (let less = within_nodes nodes place is in omega (arith, less)))
 
 -- ---- marks of the switches from which it ends within so many
-same_at : (f g : ℕ → Bool) (k : ℕ) (xs : List ℕ) → map f xs ≡ map g xs → list_any (λ n. n == k) xs ≡ true → f k ≡ g k
+pub same_at : (f g : ℕ → Bool) (k : ℕ) (xs : List ℕ) → map f xs ≡ map g xs → list_any (λ n. n == k) xs ≡ true → f k ≡ g k
 same_at f g k [] same there = absurd (false≢true there)
 same_at f g k (x ∷ xs) same there = elim (cases_Bool (x == k)) [
   | inl here ↦ let is : k ≡ x = grind (arith, nat_tests, here) in let first : f x ≡ g x = cc in ap f is ∙ first ∙ ap g (sym is)
   | inr other ↦ let rest : map f xs ≡ map g xs = cc in same_at f g k xs rest (rw other at there)
 ]
 
-map_alike : (f g : ℕ → Bool) (xs : List ℕ) → ((k : ℕ) → f k ≡ g k) → map f xs ≡ map g xs
+pub map_alike : (f g : ℕ → Bool) (xs : List ℕ) → ((k : ℕ) → f k ≡ g k) → map f xs ≡ map g xs
 map_alike f g [] same = refl
 map_alike f g (x ∷ xs) same = rw (same x, map_alike f g xs same) refl
 
-below_map : (f g : ℕ → Bool) (xs : List ℕ) → ((k : ℕ) → f k ≡ true → g k ≡ true) → are_below (map f xs) (map g xs) ≡ true
+pub below_map : (f g : ℕ → Bool) (xs : List ℕ) → ((k : ℕ) → f k ≡ true → g k ≡ true) → are_below (map f xs) (map g xs) ≡ true
 below_map f g [] more = refl
 below_map f g (x ∷ xs) more = elim (cases_Bool (f x)) [
   | inl here ↦ rw (here, more x here) (below_map f g xs more)
@@ -126,7 +126,7 @@ growing net lid = record {
   follows = λ n m same. next_marks net lid n m same;
 }
 
-below_at : (f g : ℕ → Bool) (k : ℕ) (xs : List ℕ) → are_below (map f xs) (map g xs) ≡ true → list_any (λ n. n == k) xs ≡ true → f k ≡ true → g k ≡ true
+pub below_at : (f g : ℕ → Bool) (k : ℕ) (xs : List ℕ) → are_below (map f xs) (map g xs) ≡ true → list_any (λ n. n == k) xs ≡ true → f k ≡ true → g k ≡ true
 below_at f g k [] below there is = absurd (false≢true there)
 below_at f g k (x ∷ xs) below there is = elim (cases_Bool (x == k)) [
   | inl here ↦ let same : k ≡ x = grind (arith, nat_tests, here) in
