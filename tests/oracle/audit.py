@@ -293,14 +293,15 @@ class Net:
             kinds = [("reached", "reached"), ("hole", "holes"), ("nowhere", "nowhere"), ("wrong", "wrong"), ("loop", "loops"), ("unknown", "unknown")]
             lines.append(f"{title}: {len(pairs)} pairs, " + ", ".join(f"{fates[kind]} {word}" for kind, word in kinds) + words)
         guids = {self.nodes[place].guid for place in self.switches}
+        deciding = [self.fate(*pair) for pair in groups[0][1]]
         reasons = [
             word
             for word, holds in [
                 ("no-lid", not unnamed),
-                ("unreached", all(self.fate(*pair) == "reached" for pair in groups[0][1])),
+                ("unreached", all(fate in ("reached", "unknown") for fate in deciding)),
                 ("deadlock", not ring),
                 ("mismatch", self.tables and guids == set(self.tables) and not any(map(self.lacks, self.lids))),
-                ("unknown", all(self.knows_next(place, lid) for place in self.switches for lid in others)),
+                ("unknown", "unknown" not in deciding and all(self.knows_next(place, lid) for place in self.switches for lid in others)),
             ]
             if not holds
         ]

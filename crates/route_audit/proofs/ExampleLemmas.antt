@@ -50,7 +50,7 @@ attached_are_reported = record { first = refl; second = refl }
 
 pub verdicts_are_reported : VerdictsAreReported
 unfolding reasons safe_words verdict_line
-verdicts_are_reported = record { safe = refl; lids = refl; reached = refl; free = refl; same = refl; known = refl; none = refl }
+verdicts_are_reported = record { safe = refl; lids = refl; reached = refl; free = refl; same = refl; known = refl; entries = refl; none = refl }
 
 pub counts_are_reported : CountsAreReported
 unfolding aggregation_line count_line counts_by digits lost_part other_part reached_part

@@ -1,5 +1,5 @@
 -- What entries, ports and lines are, in examples.
-use Rattle.std.specs.Prelude.{ℕ, ◌≡◌, Bool, true, false, List, [], ◌∷◌, ◌++◌, codes, Some, None}
+use Rattle.std.specs.Prelude.{ℕ, ◌≡◌, Bool, true, false, not, List, [], ◌∷◌, ◌++◌, codes, Some, None}
 use Rattle.dump_file.specs.declared.destination.Destination.{Destination}
 use Rattle.dump_file.specs.declared.destination.Destination.TheVariants.{ChannelAdapter as AdapterKind, FurtherLid, Nobody, Router, Switch as SwitchKind}
 use Rattle.dump_file.specs.declared.table.Table.{Table}
@@ -129,8 +129,20 @@ pub record CountsAreReported : Type 0 where
       ++ codes "audit: 2 pairs, 0 reached, 0 holes, 0 nowhere, 0 wrong, 2 loops, 0 unknown, deadlock\n"
 
 -- ---- the last line
-abbrev a_verdict : Bool → Bool → Bool → Bool → Bool → Verdict
-a_verdict lids reached free same known = record { has_lids = lids; is_reached = reached; is_free = free; is_same = same; is_known = known }
+abbrev pub a_verdict : Bool → Bool → Bool → Bool → Bool → Verdict
+a_verdict lids reached free same known = record {
+  has_lids = lids;
+  is_reached = reached;
+  is_free = free;
+  is_same = same;
+  is_known = known;
+  loses = not reached;
+  lacks_entries = false;
+}
+
+-- pairs that are not reached since entries are unknown
+abbrev pub lacking : Verdict
+lacking = record (a_verdict true false true true true) { loses = false; lacks_entries = true }
 
 abbrev the_rest : List ℕ
 the_rest = codes ", as if all packets used one virtual lane; multicast is not judged\n"
@@ -142,4 +154,5 @@ pub record VerdictsAreReported : Type 0 where
   pub free : verdict_line (a_verdict true true false true true) ≡ codes "verdict: not safe (deadlock)" ++ the_rest
   pub same : verdict_line (a_verdict true true true false true) ≡ codes "verdict: not safe (mismatch)" ++ the_rest
   pub known : verdict_line (a_verdict true true true true false) ≡ codes "verdict: not safe (unknown)" ++ the_rest
+  pub entries : verdict_line lacking ≡ codes "verdict: not safe (unknown)" ++ the_rest
   pub none : verdict_line (a_verdict false false false false false) ≡ codes "verdict: not safe (no-lid, unreached, deadlock, mismatch, unknown)" ++ the_rest

@@ -1,5 +1,5 @@
 -- The verdict of an audit: what safe routes are, and the last line.
-use Rattle.std.specs.Prelude.{ℕ, ◌==◌, ◌&&◌, Bool, true, false, not, List, [], ◌∷◌, ◌++◌, codes, filter, length, map, if◌then◌else◌, is_none, Option}
+use Rattle.std.specs.Prelude.{ℕ, ◌==◌, ◌&&◌, ◌||◌, Bool, true, false, not, List, [], ◌∷◌, ◌++◌, codes, filter, length, map, if◌then◌else◌, is_none, Option}
 use Rattle.std.specs.List.{list_all, list_any}
 use Rattle.dump_file.specs.declared.table.Table.{Table}
 use Rattle.fabric_parts.specs.declared.cable.PortRef.{PortRef}
@@ -12,7 +12,9 @@ use Rattle.route_audit.specs.declared.following.Turn.TheVariants as turns
 use Rattle.route_audit.specs.Following.{turn}
 use Rattle.route_audit.specs.Lines.{has_switch}
 use Rattle.route_audit.specs.Net.{NetState, has_table}
-use Rattle.route_audit.specs.Pairs.{all_reached, between_hosts, pairs_by}
+use Rattle.route_audit.specs.declared.following.Fate.TheVariants as fates
+use Rattle.route_audit.specs.declared.pairs.Pair.{Pair}
+use Rattle.route_audit.specs.Pairs.{all_reached, between_hosts, is_fate, pairs_by}
 
 -- ---- the dump and the fabric name the same switches and ports of adapters
 -- each switch has a table, and there is one
@@ -45,6 +47,16 @@ knows_all net lids place = list_all (knows_next net place) lids
 abbrev pub knows_entries : NetState → List ℕ → Bool
 knows_entries net lids = list_all (knows_all net lids) (switches net.plan.nodes)
 
+-- ---- a pair that is not reached is lost, unless an entry is unknown
+abbrev pub is_lost : Pair → Bool
+is_lost pair = not (is_fate fates.Reached pair.fate || is_fate fates.Unknown pair.fate)
+
+abbrev pub some_lost : List Pair → Bool
+some_lost pairs = list_any is_lost pairs
+
+abbrev pub some_unknown : List Pair → Bool
+some_unknown pairs = list_any (λ pair. is_fate fates.Unknown pair.fate) pairs
+
 -- ---- the verdict, by the credit loop that was found
 abbrev pub verdict_by : NetState → List Aim → Option (List PortRef) → Verdict
 verdict_by net all ring = record {
@@ -53,13 +65,16 @@ verdict_by net all ring = record {
   is_free = is_none ring;
   is_same = name_the_same net all;
   is_known = knows_entries net (map (λ aim. aim.lid) (filter (is_others net) all));
+  loses = some_lost (between_hosts (pairs_by net all));
+  lacks_entries = some_unknown (between_hosts (pairs_by net all));
 }
 
 abbrev pub verdict_is_safe : Verdict → Bool
 verdict_is_safe verdict = verdict.has_lids && (verdict.is_reached && (verdict.is_free && (verdict.is_same && verdict.is_known)))
 
 -- ---- the last line
--- `verdict: safe, as if ..`, or `verdict: not safe (no-lid, deadlock), as if ..`, with each reason
+-- `verdict: safe, as if ..`, or `verdict: not safe (no-lid, deadlock), as if ..`, with each reason: of a pair that is not reached
+-- that it is lost, or that an entry is unknown
 abbrev pub with_reason : Bool → List ℕ → List ℕ → List ℕ
 with_reason true word reasons = reasons
 with_reason false word [] = word
@@ -67,10 +82,10 @@ with_reason false word (byte ∷ reasons) = (byte ∷ reasons) ++ codes ", " ++ 
 
 unfoldable pub reasons : Verdict → List ℕ
 reasons verdict =
-    with_reason verdict.is_known (codes "unknown")
+    with_reason (verdict.is_known && not verdict.lacks_entries) (codes "unknown")
     (with_reason verdict.is_same (codes "mismatch")
     (with_reason verdict.is_free (codes "deadlock")
-    (with_reason verdict.is_reached (codes "unreached")
+    (with_reason (not verdict.loses) (codes "unreached")
     (with_reason verdict.has_lids (codes "no-lid") []))))
 
 unfoldable pub safe_words : Verdict → List ℕ

@@ -3,6 +3,7 @@
 ghost use Rattle.std.specs.Prelude.{◌≡◌, ◌++◌, true, filter, IfOk, OnOk};
 ghost use Rattle.route_audit.specs.Pairs.{all_reached, between_hosts, count_of, in_transit, is_fate, pair_at, pairs_at, pairs_by, to_aggregation, to_switches};
 ghost use Rattle.route_audit.specs.Attached.{carries_host};
+ghost use Rattle.route_audit.specs.Verdict.{is_lost, some_lost, some_unknown};
 
 use crate::following::Fate;
 use crate::lids::Aim;
@@ -134,6 +135,24 @@ pub(crate) fn count_of(fate: Fate, pairs: &[Pair]) -> usize
     ensures { result ≡ count_of fate pairs.now }
 {
     pairs.iter().filter(|pair| is_fate(fate, pair.fate)).count()
+}
+
+fn is_lost(pair: &Pair) -> bool
+    ensures { result ≡ is_lost pair.now }
+{
+    !(is_fate(Fate::Reached, pair.fate) || is_fate(Fate::Unknown, pair.fate))
+}
+
+pub(crate) fn some_lost(pairs: &[Pair]) -> bool
+    ensures { result ≡ some_lost pairs.now }
+{
+    pairs.iter().any(is_lost)
+}
+
+pub(crate) fn some_unknown(pairs: &[Pair]) -> bool
+    ensures { result ≡ some_unknown pairs.now }
+{
+    pairs.iter().any(|pair| is_fate(Fate::Unknown, pair.fate))
 }
 
 pub(crate) fn all_reached(pairs: &[Pair]) -> bool

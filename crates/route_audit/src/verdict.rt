@@ -12,7 +12,7 @@ use crate::following::Turn;
 use crate::lids::Aim;
 use crate::lines::has_switch;
 use crate::net::Net;
-use crate::pairs::{Pair, all_reached, between_hosts};
+use crate::pairs::{Pair, all_reached, between_hosts, some_lost, some_unknown};
 use dump_file::Table;
 use fabric_parts::PortRef;
 use std::alloc::{AllocError, Global};
@@ -30,6 +30,10 @@ pub(crate) struct Verdict {
     is_same: bool,
     /// Along the same LIDs each switch to which another sends has a known entry.
     is_known: bool,
+    /// Some of those packets are lost.
+    loses: bool,
+    /// Some of them come to an entry that is unknown.
+    lacks_entries: bool,
 }
 
 impl Verdict {
@@ -66,10 +70,11 @@ fn reasons(alloc: Global, verdict: Verdict) -> Result<Vec<u8>, AllocError>
 {
     let mut text = Vec::new(alloc);
     add_reason(&mut text, verdict.has_lids, b"no-lid")?;
-    add_reason(&mut text, verdict.is_reached, b"unreached")?;
+    add_reason(&mut text, !verdict.loses, b"unreached")?;
     add_reason(&mut text, verdict.is_free, b"deadlock")?;
     add_reason(&mut text, verdict.is_same, b"mismatch")?;
-    add_reason(&mut text, verdict.is_known, b"unknown")?;
+    let is_known = verdict.is_known && !verdict.lacks_entries;
+    add_reason(&mut text, is_known, b"unknown")?;
     Ok(text)
 }
 
@@ -193,6 +198,8 @@ impl<'a> Net<'a> {
             is_free: ring.is_none(),
             is_same: self.name_the_same(aims),
             is_known: self.knows_entries(&lids),
+            loses: some_lost(&deciding),
+            lacks_entries: some_unknown(&deciding),
         })
     }
 }
