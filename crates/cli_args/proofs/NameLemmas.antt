@@ -9,7 +9,7 @@ use Rattle.clap.proofs.OnLiterals.{clap_on_literals}
 use Rattle.code_texts.specs.Codes.{code_of}
 use Rattle.code_texts.specs.declared.code.Code.{Code}
 use Rattle.cli_args.specs.Laws.{FilesAreNamedAsGiven, FilesStandInOrder, IsWordOf, NamesKeepTheirBlanks}
-use Rattle.cli_args.specs.Words.{Names, audit_by, audit_keys_by, audit_keys_with, asked_by, asked_by_command, asked_of, asked_or, call_in, compare_by, cuts_by, diff_by, explain_by, file_in, graph_with, guid_by, import_by, is_given, in_subnet, inspect_by, opened_for, run_by, scripts_by, smps_by}
+use Rattle.cli_args.specs.Words.{Names, audit_keys_by, audit_keys_with, asked_by, asked_by_command, asked_of, asked_or, call_in, compare_by, cuts_by, diff_by, dumped, dumped_by, explain_by, file_in, graph_with, guid_by, import_by, is_given, in_subnet, inspect_by, opened_for, run_by, scripts_by, smps_by}
 use Rattle.cli_args.specs.Words.{subcommand_in, text_for, trace_by, work_names}
 use Rattle.cli_args.specs.declared.call.Call.{Call}
 use Rattle.cli_args.specs.declared.call.CutView.TheVariants.{All as AllCuts, One, Picture}
@@ -18,6 +18,8 @@ use Rattle.cli_args.specs.declared.call.Work.{Work}
 use Rattle.cli_args.specs.declared.call.Work.TheVariants.{Check, Compare, Cuts, Diff, Inspect, Run, Shares, Smps}
 use Rattle.cli_args.specs.declared.call.Inspection.{Inspection}
 use Rattle.cli_args.specs.declared.call.Inspection.TheVariants.{Graph, Keys, Tables}
+use Rattle.cli_args.specs.declared.call.DumpView.{DumpView}
+use Rattle.cli_args.specs.declared.call.DumpView.TheVariants as dump_view
 use Rattle.cli_args.specs.declared.call.Subcommand.{Subcommand}
 use Rattle.cli_args.specs.declared.call.Subcommand.TheVariants as command
 
@@ -144,11 +146,11 @@ import_given rows manager call is = by (first_of (codes "NETDISCOVER") rows) ref
     by (Some netdiscover) n None is = absurd cc
     by None n guid is = absurd cc
 
-audit_given : (rows : List Row) → IsGiven rows (audit_by (first_of (codes "FABRIC") rows) (first_of (codes "DUMP") rows))
-audit_given rows call is = by (first_of (codes "FABRIC") rows) refl (first_of (codes "DUMP") rows) refl is
+dumped_given : (view : DumpView) (rows : List Row) → IsGiven rows (dumped view rows)
+dumped_given view rows call is = by (first_of (codes "FABRIC") rows) refl (first_of (codes "DUMP") rows) refl is
   where
     by : (topology : Option Text) → first_of (codes "FABRIC") rows ≡ topology → (dump : Option Text) → first_of (codes "DUMP") rows ≡ dump
-        → audit_by topology dump ≡ Some call → All (IsWordOf rows) (opened_for (Ok call))
+        → dumped_by view topology dump ≡ Some call → All (IsWordOf rows) (opened_for (Ok call))
     by (Some topology) t (Some dump) d is =
         subst (λ (asked : Call Names Text). All (IsWordOf rows) (opened_for (Ok asked))) (same_call _ call is)
         (All-cons (IsWordOf rows) topology (dump ∷ []) (codes "FABRIC", t)
@@ -198,7 +200,8 @@ command_given command.Smp rows = subnet_given rows _ (smps_given rows)
 command_given command.Compare rows = subnet_given rows _ (compare_given rows)
 command_given command.Cuts rows = subnet_given rows _ (cuts_given rows (first_of (codes "PORT") rows) (first_of (codes "PORT2") rows))
 command_given command.Import rows = import_given rows (guid_by (first_of (codes "SM") rows))
-command_given command.Audit rows = audit_given rows
+command_given command.Audit rows = dumped_given dump_view.Audit rows
+command_given command.Load rows = dumped_given dump_view.Load rows
 command_given command.AuditKeys rows = audit_keys_given rows
 command_given command.Explain rows = explain_given rows (first_of (codes "CODE") rows)
 
@@ -218,7 +221,7 @@ files_are_given word rows call is = by (subcommand_in word) is
 
 pub blanks_are_kept : NamesKeepTheirBlanks
 unfolding clap_on_literals asked_of
-blanks_are_kept = record { plain = refl; before = refl; behind = refl; script = refl; looked = refl; dashes = refl; traced = refl; answered = refl; compared = refl; import = refl; audit = refl; audit_keys = refl; dash = refl }
+blanks_are_kept = record { plain = refl; before = refl; behind = refl; script = refl; looked = refl; dashes = refl; traced = refl; answered = refl; compared = refl; import = refl; audit = refl; load = refl; audit_keys = refl; dash = refl }
 
 pub files_stand_in_order : FilesStandInOrder
 unfolding clap_on_literals asked_of
@@ -236,5 +239,6 @@ files_stand_in_order = record {
   compare = refl;
   cuts = refl;
   audit = refl;
+  load = refl;
   audit_keys = refl;
 }

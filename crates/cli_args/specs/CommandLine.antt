@@ -76,6 +76,13 @@ import_command = with_rule (with_rule (new_app (codes "import")) (wanted (codes 
 abbrev pub audit_command : App
 audit_command = with_rule (with_rule (new_app (codes "audit")) (wanted (codes "FABRIC"))) (wanted (codes "DUMP"))
 
+-- `--dump DUMP`, which has to be given
+abbrev pub dump_option : Rule
+dump_option = record (new_rule (codes "DUMP")) { long = Some (codes "dump"); action = Some Set; required = true; value_names = 1 }
+
+abbrev pub load_command : App
+load_command = with_rule (with_rule (new_app (codes "load")) (wanted (codes "FABRIC"))) dump_option
+
 -- `--all`
 abbrev pub all_flag : Rule
 all_flag = record (new_rule (codes "ALL")) { long = Some (codes "all"); action = Some SetTrue }
@@ -116,7 +123,7 @@ with_cables app = with_subcommand (with_subcommand app cuts_command.top) import_
 
 -- with those that judge real fabrics
 abbrev pub with_audits : App → App
-with_audits app = with_subcommand (with_subcommand app audit_command.top) audit_keys_command.top
+with_audits app = with_subcommand (with_subcommand (with_subcommand app audit_command.top) load_command.top) audit_keys_command.top
 
 -- and with the one that explains codes
 abbrev pub fabric_command : App

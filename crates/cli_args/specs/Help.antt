@@ -55,6 +55,9 @@ about_import = codes "Makes a topology from what ibnetdiscover printed of a real
 abbrev pub about_audit : List ℕ
 about_audit = codes "Judges the LFTs of a real fabric: whether its routes are safe"
 
+abbrev pub about_load : List ℕ
+about_load = codes "Prints how many pairs go over each cable of a real fabric"
+
 abbrev pub about_audit_keys : List ℕ
 about_audit_keys = codes "Compares the P_Key tables of a real fabric with a partition file"
 

@@ -16,10 +16,12 @@ use Rattle.cli_args.specs.declared.call.Asked.{Asked}
 use Rattle.cli_args.specs.declared.call.Call.{Call}
 use Rattle.cli_args.specs.declared.call.CutView.{CutView}
 use Rattle.cli_args.specs.declared.call.CutView.TheVariants.{All, One, Picture}
-use Rattle.cli_args.specs.declared.call.Call.TheVariants.{Audit, AuditKeys, Explain, Import, Subnet}
+use Rattle.cli_args.specs.declared.call.Call.TheVariants.{AuditKeys, Dumped, Explain, Import, Subnet}
 use Rattle.cli_args.specs.declared.call.Work.{Work}
 use Rattle.cli_args.specs.declared.call.Inspection.{Inspection}
 use Rattle.cli_args.specs.declared.call.Inspection.TheVariants.{Graph, Keys, Tables, Trace}
+use Rattle.cli_args.specs.declared.call.DumpView.{DumpView}
+use Rattle.cli_args.specs.declared.call.DumpView.TheVariants as dump_view
 use Rattle.cli_args.specs.declared.call.Subcommand.{Subcommand}
 use Rattle.cli_args.specs.declared.call.Subcommand.TheVariants as command
 use Rattle.cli_args.specs.declared.help.TheConstants.{NO_SCRIPT_WITH_CUTS, NO_SECOND_PORT, NO_SUCH_CODE, NO_SUCH_GUID, NO_SUCH_KEYS_GUID, NO_SUCH_NUMBER}
@@ -63,7 +65,7 @@ names asked = record {
 abbrev pub named_call : Call Asked (Bor Text) → Call Names Text
 named_call (Subnet asked) = Subnet (names asked)
 named_call (Import netdiscover manager) = Import netdiscover.now manager
-named_call (Audit topology dump) = Audit topology.now dump.now
+named_call (Dumped view fabric dump) = Dumped view fabric.now dump.now
 named_call (AuditKeys netdiscover pkeys partitions manager all) = AuditKeys netdiscover.now pkeys.now (option_map (λ name. name.now) partitions) manager all
 named_call (Explain code) = Explain code
 
@@ -150,10 +152,13 @@ abbrev pub import_by : Option Text → Option (Option ℕ) → Option (Call Name
 import_by (Some netdiscover) (Some manager) = Some (Import netdiscover manager)
 import_by _ _ = None
 
--- a topology and a dump
-abbrev pub audit_by : Option Text → Option Text → Option (Call Names Text)
-audit_by (Some topology) (Some dump) = Some (Audit topology dump)
-audit_by _ _ = None
+-- a fabric and a dump
+abbrev pub dumped_by : DumpView → Option Text → Option Text → Option (Call Names Text)
+dumped_by view (Some fabric) (Some dump) = Some (Dumped view fabric dump)
+dumped_by view _ _ = None
+
+abbrev pub dumped : DumpView → List Row → Option (Call Names Text)
+dumped view rows = dumped_by view (first_of (codes "FABRIC") rows) (first_of (codes "DUMP") rows)
 
 -- a discovery, answers of smpquery and partitions
 abbrev pub audit_keys_with : Option Text → Option Text → Option Text → Option (Option ℕ) → (all : Bool) → Option (Call Names Text)
@@ -173,7 +178,7 @@ explain_by (Some word) = option_map (λ code. Explain (Some code)) (code_of word
 -- `check` takes no more arguments than its subnet's, `shares` takes a port, and `tables`, `keys`, `trace` and `graph` take a script,
 -- `cuts` two ports;
 -- `diff` needs other partitions, `trace` a packet, `run` a script, `smp` SMPs, and `compare` two scripts and a port; `import` needs a file of
--- its own and takes a GUID, `audit` needs a topology and a dump, `audit-keys` two files of its own and partitions, and takes a GUID, and
+-- its own and takes a GUID, `audit` and `load` need a fabric and a dump, `audit-keys` two files of its own and partitions, and takes a GUID, and
 -- `explain` takes a code
 abbrev pub call_in : Subcommand → List Row → Option (Call Names Text)
 call_in command.Check rows = in_subnet rows (Some Check)
@@ -188,7 +193,8 @@ call_in command.Smp rows = in_subnet rows (smps_by (first_of (codes "SMPS") rows
 call_in command.Compare rows = in_subnet rows (compare_by rows)
 call_in command.Cuts rows = in_subnet rows (cuts_by (first_of (codes "PORT") rows) (first_of (codes "PORT2") rows))
 call_in command.Import rows = import_by (first_of (codes "NETDISCOVER") rows) (guid_by (first_of (codes "SM") rows))
-call_in command.Audit rows = audit_by (first_of (codes "FABRIC") rows) (first_of (codes "DUMP") rows)
+call_in command.Audit rows = dumped dump_view.Audit rows
+call_in command.Load rows = dumped dump_view.Load rows
 call_in command.AuditKeys rows = audit_keys_by rows
 call_in command.Explain rows = explain_by (first_of (codes "CODE") rows)
 
@@ -208,6 +214,7 @@ subcommand_in word =
     else if bytes_eq word (codes "cuts") then Some command.Cuts
     else if bytes_eq word (codes "import") then Some command.Import
     else if bytes_eq word (codes "audit") then Some command.Audit
+    else if bytes_eq word (codes "load") then Some command.Load
     else if bytes_eq word (codes "audit-keys") then Some command.AuditKeys
     else if bytes_eq word (codes "explain") then Some command.Explain
     else None
@@ -287,6 +294,6 @@ abbrev pub opened_for : Asking → List Text
 opened_for (Err text) = []
 opened_for (Ok (Subnet asked)) = all_names asked
 opened_for (Ok (Import netdiscover manager)) = netdiscover ∷ []
-opened_for (Ok (Audit topology dump)) = topology ∷ dump ∷ []
+opened_for (Ok (Dumped view fabric dump)) = fabric ∷ dump ∷ []
 opened_for (Ok (AuditKeys netdiscover pkeys partitions manager all)) = netdiscover ∷ pkeys ∷ option_to_list partitions
 opened_for (Ok (Explain code)) = []

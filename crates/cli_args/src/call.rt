@@ -35,6 +35,8 @@ pub enum Subcommand {
     Import,
     /// `audit`, which judges the routes of a real fabric.
     Audit,
+    /// `load`, which prints how many pairs go over each cable of a real fabric.
+    Load,
     /// `audit-keys`, which compares the P_Key tables of a real fabric with a partition file.
     AuditKeys,
     /// `explain`, which explains codes.
@@ -111,6 +113,15 @@ pub enum Inspection<W> {
     Graph,
 }
 
+/// What to print of the LFTs of a real fabric.
+#[derive(Clone, Copy)]
+pub enum DumpView {
+    /// Whether its routes are safe.
+    Audit,
+    /// How many pairs go over each cable.
+    Load,
+}
+
 /// What a command line asks for.
 #[derive(Drop)]
 pub enum Call<A, W> {
@@ -123,10 +134,12 @@ pub enum Call<A, W> {
         /// The GUID of the SM port, if it is given.
         manager: Option<u64>,
     },
-    /// Judge the LFTs of a real fabric.
-    Audit {
-        /// Its topology.
-        topology: W,
+    /// Look at the LFTs of a real fabric.
+    Dumped {
+        /// What to print of them.
+        view: DumpView,
+        /// What `ibnetdiscover` printed of it, or its topology.
+        fabric: W,
         /// The file that has its LFTs.
         dump: W,
     },

@@ -5,10 +5,10 @@ ghost use Rattle.clap.specs.Words.{App, Rule, app_of, rule_of, subcommand_rows_o
 ghost use Rattle.clap.specs.declared.builder.command.Command.TheViews.{out-Command as fields_of};
 ghost use Rattle.cli_args.specs.CommandLine.{Reads};
 ghost use Rattle.cli_args.specs.CommandLine.{audit_command, audit_keys_command, check_command, compare_command, diff_command, explain_command, fabric_command, graph_command};
-ghost use Rattle.cli_args.specs.CommandLine.{all_flag, cuts_command, cuts_flag, import_command, keys_command, manager_option, optional, run_command, script_option, shares_command};
+ghost use Rattle.cli_args.specs.CommandLine.{all_flag, cuts_command, cuts_flag, dump_option, import_command, load_command, keys_command, manager_option, optional, run_command, script_option, shares_command};
 ghost use Rattle.cli_args.specs.CommandLine.{smp_command, subnet_command, tables_command, trace_command};
 ghost use Rattle.cli_args.specs.CommandLine.{wanted, with_audits, with_cables, with_listings, with_runs};
-ghost use Rattle.cli_args.specs.Help.{about_audit, about_audit_keys, about_check, about_compare, about_cuts, about_diff, about_explain, about_graph, about_import, about_keys};
+ghost use Rattle.cli_args.specs.Help.{about_audit, about_audit_keys, about_check, about_compare, about_cuts, about_diff, about_explain, about_graph, about_import, about_keys, about_load};
 ghost use Rattle.cli_args.specs.Help.{about_program, about_run, about_smp};
 ghost use Rattle.cli_args.specs.Help.{about_shares, about_tables, about_trace, help_of_code, help_of_dlid, help_of_key};
 ghost use Rattle.cli_args.specs.Help.{help_of_compared, help_of_first_script, help_of_partitions, help_of_second_script};
@@ -19,14 +19,14 @@ ghost use Rattle.cli_args.specs.Help.{program_name, program_version, text_in};
 ghost use Rattle.cli_args.specs.Refusals.{IsShown};
 ghost use Rattle.cli_args.specs.Words.{asked_in, asked_of};
 ghost use Rattle.cli_args.specs.declared.help.TheConstants.{AUDIT, AUDIT_KEYS, CHANGES, CODES, COMPARISON, CUTS, GRAPH, IMPORT, KEYS, LISTING, REPORT, SHARES, STATUSES, TABLES};
-ghost use Rattle.cli_args.specs.declared.help.TheConstants.{SMPS, TRACE};
+ghost use Rattle.cli_args.specs.declared.help.TheConstants.{LOAD, SMPS, TRACE};
 
 use crate::call::Refused;
 use crate::help::{
     ABOUT, ABOUT_AUDIT, ABOUT_AUDIT_KEYS, ABOUT_CHECK, ABOUT_COMPARE, ABOUT_CUTS, ABOUT_DIFF,
-    ABOUT_EXPLAIN, ABOUT_GRAPH, ABOUT_IMPORT, ABOUT_KEYS, ABOUT_RUN, ABOUT_SHARES, ABOUT_SMP,
-    ABOUT_TABLES, ABOUT_TRACE, AUDIT, AUDIT_KEYS, CHANGES, CODES, COMPARISON, CUTS, GRAPH, IMPORT,
-    KEYS, LISTING, REPORT, SHARES, SMPS, STATUSES, TABLES, TRACE,
+    ABOUT_EXPLAIN, ABOUT_GRAPH, ABOUT_IMPORT, ABOUT_KEYS, ABOUT_LOAD, ABOUT_RUN, ABOUT_SHARES,
+    ABOUT_SMP, ABOUT_TABLES, ABOUT_TRACE, AUDIT, AUDIT_KEYS, CHANGES, CODES, COMPARISON, CUTS,
+    GRAPH, IMPORT, KEYS, LISTING, LOAD, REPORT, SHARES, SMPS, STATUSES, TABLES, TRACE,
 };
 use clap::error::ErrorKind;
 use clap::{Arg, ArgAction, ArgMatches, Command, Error};
@@ -280,6 +280,19 @@ fn wanted_dump<'a>(alloc: Global) -> Arg<'a>
     wanted(alloc, "DUMP", "The LFTs, as dump_fts prints them")
 }
 
+fn dump_option<'a>(alloc: Global) -> Arg<'a>
+    ensures global { result.global ≡ false }
+    ensures rule { rule_of result ≡ dump_option }
+    ensures help { text_in result.help ≡ Some help_of_dump }
+{
+    Arg::new(alloc, "DUMP")
+        .long("dump")
+        .value_name("DUMP")
+        .required(true)
+        .action(ArgAction::Set)
+        .help("The LFTs, as dump_fts prints them")
+}
+
 fn optional_code<'a>(alloc: Global) -> Arg<'a>
     ensures global { result.global ≡ false }
     ensures rule { rule_of result ≡ optional (codes "CODE") }
@@ -488,6 +501,16 @@ fn audit_command<'a>(alloc: Global) -> Result<Command<'a>, AllocError>
     described(with_arg(found, wanted_dump(alloc)), ABOUT_AUDIT, AUDIT)
 }
 
+/// The command that prints how many pairs go over each cable of a real fabric.
+fn load_command<'a>(alloc: Global) -> Result<Command<'a>, AllocError>
+    ensures words { IfOk result (λ command. app_of command ≡ load_command) }
+    ensures about { IfOk result (λ command. text_in (fields_of command).about ≡ Some about_load) }
+    ensures help { IfOk result (λ command. text_in (fields_of command).after_help ≡ Some LOAD.now) }
+{
+    let found = with_arg(Ok(Command::new(alloc, "load")), wanted_fabric(alloc));
+    described(with_arg(found, dump_option(alloc)), ABOUT_LOAD, LOAD)
+}
+
 /// The command that compares the P_Key tables of a real fabric with a partition file.
 fn audit_keys_command<'a>(alloc: Global) -> Result<Command<'a>, AllocError>
     ensures words { IfOk result (λ command. app_of command ≡ audit_keys_command) }
@@ -561,6 +584,7 @@ fn with_audits<'a>(alloc: Global, command: Command<'a>) -> Result<Command<'a>, A
 {
     let all = command
         .subcommand(audit_command(alloc)?)?
+        .subcommand(load_command(alloc)?)?
         .subcommand(audit_keys_command(alloc)?)?;
     Ok(all)
 }

@@ -36,6 +36,8 @@ pub(crate) const ABOUT_IMPORT: &str =
 pub(crate) const ABOUT_AUDIT: &str =
     "Judges the LFTs of a real fabric: whether its routes are safe";
 
+pub(crate) const ABOUT_LOAD: &str = "Prints how many pairs go over each cable of a real fabric";
+
 pub(crate) const ABOUT_AUDIT_KEYS: &str =
     "Compares the P_Key tables of a real fabric with a partition file";
 
@@ -404,6 +406,32 @@ For example, for your own fabric:
     ""
 );
 
+pub(crate) const LOAD: &str = with_statuses!(
+    "FABRIC is what ibnetdiscover printed, of a fabric of any size, or a topology. The LFTs are followed as
+they are, whichever SM wrote them; nothing is brought up. A pair is a CA port that is attached to a
+switch and sends, and a LID of another CA port. Routers count as CAs, aggregation nodes do not.
+
+Each direction of each cable between two switches has a line with the number of pairs that go over it,
+from the first port to the second. The greatest load comes first:
+  load PORT PORT PAIRS
+
+Then come the greatest load, the least and the mean, and the number of pairs. Lost are those that do
+not reach the port of their LID; they count on the cables that they use, and in a loop once on each:
+  most PAIRS
+  least PAIRS
+  mean PAIRS
+  pairs PAIRS, lost PAIRS
+
+For example, for your own fabric:
+  ibnetdiscover >discovered
+  dump_fts >tables
+  fabric load discovered --dump tables
+
+",
+    "help",
+    ""
+);
+
 pub(crate) const AUDIT_KEYS: &str = with_statuses!(
     "The tables are compared as they are, whichever SM wrote them; nothing is brought up. The status is 0 if
 and only if
@@ -473,7 +501,7 @@ pub(crate) const CODES: &str = with_statuses!(
   SF1 to SF7             an error in a script, or in a PORT of `shares`, `trace`, `compare` or `cuts`
   AR1 to AR4             why a port refuses to send a packet
   ND1 to ND7             an error in what ibnetdiscover printed, in `import`
-  FT1 to FT7             an error in dumped LFTs, in `audit`
+  FT1 to FT7             an error in dumped LFTs, in `audit` and `load`
   KT1 to KT5             an error in answers of smpquery, in `audit-keys`
   SW1 to SW4, UR1, TP1 to TP3
                          why the fabric of a topology cannot be brought up

@@ -11,7 +11,9 @@ mod help;
 mod laws;
 mod words;
 
-pub use crate::call::{Asked, Call, CutView, Inspection, NamedWork, Refused, Subcommand, Work};
+pub use crate::call::{
+    Asked, Call, CutView, DumpView, Inspection, NamedWork, Refused, Subcommand, Work,
+};
 pub use crate::command_line::{Clap, Parser};
 pub use crate::laws::files_are_named_as_given;
 pub use crate::words::{given_words, read_words};

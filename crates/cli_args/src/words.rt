@@ -3,13 +3,15 @@
 ghost use Rattle.std.specs.Prelude.{◌≡◌, ◌^◌, Ok, Some, map, string_bytes, option_map, IfOk, IfErr};
 ghost use Rattle.clap.specs.Words.{first_of, found_of, rows_of, subcommand_rows_of};
 ghost use Rattle.cli_args.specs.Refusals.{IsOfGiven, IsOfWords, ReportsAll};
-ghost use Rattle.cli_args.specs.Words.{asked_in, asked_of, audit_by, call_in, compare_by, cuts_by, diff_by, explain_by, file_in, given_items, guid_by};
+ghost use Rattle.cli_args.specs.Words.{asked_in, asked_of, call_in, compare_by, cuts_by, diff_by, dumped, dumped_by, explain_by, file_in, given_items, guid_by};
 ghost use Rattle.cli_args.specs.Words.{audit_keys_by, import_by, in_subnet};
 ghost use Rattle.text_words.specs.Number.{if_under, number_in};
 ghost use Rattle.cli_args.specs.Words.{graph_by, graph_with, inspect_by, is_given, named_call, named_found, named_inspection};
 ghost use Rattle.cli_args.specs.Words.{named_work, run_by, smps_by, subcommand_in, text_for, trace_by, u16_by};
 
-use crate::call::{Asked, Call, CutView, Inspection, NamedWork, Refused, Subcommand, Work};
+use crate::call::{
+    Asked, Call, CutView, DumpView, Inspection, NamedWork, Refused, Subcommand, Work,
+};
 use crate::command_line::Parser;
 use crate::help::{
     NO_SCRIPT_WITH_CUTS, NO_SECOND_PORT, NO_SUCH_CODE, NO_SUCH_GUID, NO_SUCH_KEYS_GUID,
@@ -99,6 +101,7 @@ fn subcommand_in(word: &str) -> Option<Subcommand>
         "cuts" => Some(Subcommand::Cuts),
         "import" => Some(Subcommand::Import),
         "audit" => Some(Subcommand::Audit),
+        "load" => Some(Subcommand::Load),
         "audit-keys" => Some(Subcommand::AuditKeys),
         "explain" => Some(Subcommand::Explain),
         _ => None,
@@ -142,7 +145,8 @@ fn call_of<'a>(command: Subcommand, found: &ArgMatches<'a>) -> Option<Call<Asked
             in_subnet(found, ends)
         }
         Subcommand::Import => import_by(word_of(found, "NETDISCOVER"), word_of(found, "SM")),
-        Subcommand::Audit => audit_by(word_of(found, "FABRIC"), word_of(found, "DUMP")),
+        Subcommand::Audit => dumped(DumpView::Audit, found),
+        Subcommand::Load => dumped(DumpView::Load, found),
         Subcommand::AuditKeys => audit_keys(found),
         Subcommand::Explain => explain_by(word_of(found, "CODE")),
     }
@@ -309,17 +313,25 @@ fn guid_in(word: &str) -> Option<u64>
     u64::try_from(number_in(word.as_bytes())?).ok()
 }
 
-/// The routes of a topology's fabric, by a dump of its LFTs.
-fn audit_by<'a>(
-    topology: Option<&'a str>,
+/// A look at a fabric, by a dump of its LFTs.
+fn dumped_by<'a>(
+    view: DumpView,
+    fabric: Option<&'a str>,
     dump: Option<&'a str>,
 ) -> Option<Call<Asked<'a>, &'a str>>
-    ensures { option_map named_call result ≡ audit_by (option_map (λ word. word.now) topology.entry) (option_map (λ word. word.now) dump.entry) }
+    ensures { option_map named_call result ≡ dumped_by view (option_map (λ word. word.now) fabric.entry) (option_map (λ word. word.now) dump.entry) }
 {
-    Some(Call::Audit {
-        topology: topology?,
+    Some(Call::Dumped {
+        view,
+        fabric: fabric?,
         dump: dump?,
     })
+}
+
+fn dumped<'a>(view: DumpView, found: &ArgMatches<'a>) -> Option<Call<Asked<'a>, &'a str>>
+    ensures { option_map named_call result ≡ dumped view (rows_of (found_of found.now)) }
+{
+    dumped_by(view, word_of(found, "FABRIC"), word_of(found, "DUMP"))
 }
 
 /// The P_Key tables of a fabric against a partition file.

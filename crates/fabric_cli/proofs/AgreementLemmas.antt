@@ -4,7 +4,7 @@ use Rattle.std.specs.List.{All}
 use Rattle.std.specs.Option.{option_to_list}
 use Rattle.std.proofs.lemmas.List.Elements.{All-head, All-tail}
 use Rattle.cli_args.specs.Words.{Names, work_names}
-use Rattle.cli_args.specs.declared.call.Call.TheVariants.{Audit, AuditKeys, Explain, Import, Subnet}
+use Rattle.cli_args.specs.declared.call.Call.TheVariants.{AuditKeys, Dumped, Explain, Import, Subnet}
 use Rattle.cli_args.specs.declared.call.Work.{Work}
 use Rattle.cli_args.specs.declared.call.Work.TheVariants as work
 use Rattle.fabric_cli.specs.Files.{Contents}
@@ -64,7 +64,7 @@ judged_alike file other (Ok (Subnet names)) same = ap judged_if_read (texts_alik
 judged_alike file other (Ok (Import netdiscover manager)) same =
     ap (λ (read : Result (List ℕ) Ending). ended (import_of_file manager read))
     (bytes_alike file other netdiscover (All-head (λ name. file name ≡ other name) netdiscover [] same))
-judged_alike file other (Ok (Audit topology dump)) same =
+judged_alike file other (Ok (Dumped view topology dump)) same =
     let more = All-tail (λ name. file name ≡ other name) topology (dump ∷ []) same in
     rw (
       bytes_alike file other topology (All-head (λ name. file name ≡ other name) topology (dump ∷ []) same),

@@ -65,6 +65,11 @@ use Rattle.dump_file.specs.Dump.{DumpState, dump_of}
 use Rattle.dump_file.specs.declared.fault.DumpCause.{DumpCause}
 use Rattle.route_audit.specs.Audit.{AuditState, audit, audit_discovery}
 use Rattle.keys_audit.specs.Text.{KeysAuditState, audit_without_partitions, keys_audit}
+use Rattle.cable_load.specs.Text.{load_text, load_text_found}
+use Rattle.cli_args.specs.declared.call.DumpView.{DumpView}
+use Rattle.cli_args.specs.declared.call.DumpView.TheVariants as dump_view
+use Rattle.fabric_cli.specs.declared.outputs.DumpOutput.{DumpOutput}
+use Rattle.fabric_cli.specs.declared.outputs.DumpOutput.TheVariants as dump_output
 use Rattle.fabric_cli.specs.declared.key_audits.KeysOutput.{KeysOutput}
 use Rattle.fabric_cli.specs.declared.key_audits.KeysOutput.TheVariants as keys_output
 use Rattle.pkeys_file.specs.Answers.{answers_of}
@@ -303,27 +308,40 @@ imported manager text = imported_from manager (discovery_of text)
 abbrev pub audit_ending : AuditState → Ending
 audit_ending found = if found.is_safe then complete found.text else warned found.text
 
-abbrev pub audited_by : TopologyState → Result DumpState (AtLine DumpCause) → Ending
-audited_by plan (Ok dump) = audit_ending (audit plan dump)
-audited_by plan (Err at) = faulted 1 (foreign_line (Dump at.cause) at.line)
+-- an output with what it comes to
+abbrev pub dump_ending : DumpOutput → Ending
+dump_ending (dump_output.Audited found) = audit_ending found
+dump_ending (dump_output.Loaded text) = complete text.items
+
+abbrev pub plan_ending : DumpView → TopologyState → DumpState → Ending
+plan_ending dump_view.Audit plan dump = audit_ending (audit plan dump)
+plan_ending dump_view.Load plan dump = complete (load_text plan dump)
+
+abbrev pub found_ending : DumpView → DiscoveryState → DumpState → Ending
+found_ending dump_view.Audit found dump = audit_ending (audit_discovery found dump)
+found_ending dump_view.Load found dump = complete (load_text_found found dump)
+
+abbrev pub viewed_by : DumpView → TopologyState → Result DumpState (AtLine DumpCause) → Ending
+viewed_by view plan (Ok dump) = plan_ending view plan dump
+viewed_by view plan (Err at) = faulted 1 (foreign_line (Dump at.cause) at.line)
 
 -- the topology is checked before the dump
-abbrev pub audited_over : Result TopologyState (AtLine TopologyCause) → List ℕ → Ending
-audited_over (Ok plan) dump = audited_by plan (dump_of dump)
-audited_over (Err at) dump = faulted 1 (topology_line (topology_code at.cause) at.line)
+abbrev pub viewed_over : DumpView → Result TopologyState (AtLine TopologyCause) → List ℕ → Ending
+viewed_over view (Ok plan) dump = viewed_by view plan (dump_of dump)
+viewed_over view (Err at) dump = faulted 1 (topology_line (topology_code at.cause) at.line)
 
-abbrev pub audited_of : DiscoveryState → Result DumpState (AtLine DumpCause) → Ending
-audited_of found (Ok dump) = audit_ending (audit_discovery found dump)
-audited_of found (Err at) = faulted 1 (foreign_line (Dump at.cause) at.line)
+abbrev pub viewed_of : DumpView → DiscoveryState → Result DumpState (AtLine DumpCause) → Ending
+viewed_of view found (Ok dump) = found_ending view found dump
+viewed_of view found (Err at) = faulted 1 (foreign_line (Dump at.cause) at.line)
 
-abbrev pub audited_from : Result DiscoveryState (AtLine DiscoveryCause) → List ℕ → Ending
-audited_from (Ok found) dump = audited_of found (dump_of dump)
-audited_from (Err at) dump = faulted 1 (foreign_line (Discovery at.cause) at.line)
+abbrev pub viewed_from : DumpView → Result DiscoveryState (AtLine DiscoveryCause) → List ℕ → Ending
+viewed_from view (Ok found) dump = viewed_of view found (dump_of dump)
+viewed_from view (Err at) dump = faulted 1 (foreign_line (Discovery at.cause) at.line)
 
 -- a text that heads a node as `ibnetdiscover` does is a discovery, any other a topology
-abbrev pub audited : List ℕ → List ℕ → Ending
-audited fabric dump =
-    if is_discovery fabric then audited_from (discovery_of fabric) dump else audited_over (topology_within Large fabric) dump
+abbrev pub viewed : DumpView → List ℕ → List ℕ → Ending
+viewed view fabric dump =
+    if is_discovery fabric then viewed_from view (discovery_of fabric) dump else viewed_over view (topology_within Large fabric) dump
 
 -- ---- the P_Key tables of a discovery's fabric, which is not brought up, against a partition file
 abbrev pub keys_ending : KeysAuditState → Ending
@@ -460,10 +478,10 @@ abbrev pub import_of_file : Option ℕ → Result (List ℕ) Ending → Ending
 import_of_file manager (Ok text) = imported manager text
 import_of_file manager (Err ending) = ending
 
-abbrev pub audit_of_files : Result (List ℕ) Ending → Result (List ℕ) Ending → Ending
-audit_of_files (Ok plan) (Ok tables) = audited plan tables
-audit_of_files (Ok plan) (Err ending) = ending
-audit_of_files (Err ending) tables = ending
+abbrev pub view_of_files : DumpView → Result (List ℕ) Ending → Result (List ℕ) Ending → Ending
+view_of_files view (Ok fabric) (Ok tables) = viewed view fabric tables
+view_of_files view (Ok fabric) (Err ending) = ending
+view_of_files view (Err ending) tables = ending
 
 abbrev pub keys_of_files : Option ℕ → (all : Bool) → Result (List ℕ) Ending → Result (List ℕ) Ending → Result (Option (List ℕ)) Ending → Ending
 keys_of_files manager all (Ok netdiscover) (Ok pkeys) (Ok partitions) = keys_audited manager all netdiscover pkeys partitions
@@ -476,7 +494,7 @@ abbrev pub judged_for : Contents → Asking → Judged
 judged_for file (Err shown) = ended (refused shown)
 judged_for file (Ok (Subnet names)) = judged_if_read (texts_of file names)
 judged_for file (Ok (call.Import netdiscover manager)) = ended (import_of_file manager (bytes_of file netdiscover))
-judged_for file (Ok (call.Audit topology dump)) = ended (audit_of_files (bytes_of file topology) (bytes_of file dump))
+judged_for file (Ok (call.Dumped view fabric dump)) = ended (view_of_files view (bytes_of file fabric) (bytes_of file dump))
 judged_for file (Ok (call.AuditKeys netdiscover pkeys partitions manager all)) =
     ended (keys_of_files manager all (bytes_of file netdiscover) (bytes_of file pkeys) (bytes_if_named file partitions))
 judged_for file (Ok (Explain code)) = ended (complete (explained code))
@@ -501,7 +519,7 @@ abbrev pub ForSomeBytes : Asking → (Judged → Type 0) → Type 0
 ForSomeBytes (Err shown) Is = Is (ended (refused shown))
 ForSomeBytes (Ok (Subnet names)) Is = (texts : Bytes) × AreFor names texts × Is (to_judge texts)
 ForSomeBytes (Ok (call.Import netdiscover manager)) Is = (text : List ℕ) × Is (ended (imported manager text))
-ForSomeBytes (Ok (call.Audit topology dump)) Is = (plan tables : List ℕ) × Is (ended (audited plan tables))
+ForSomeBytes (Ok (call.Dumped view fabric dump)) Is = (plan tables : List ℕ) × Is (ended (viewed view plan tables))
 ForSomeBytes (Ok (call.AuditKeys netdiscover pkeys partitions manager all)) Is =
     (found answers : List ℕ) × (parts : Option (List ℕ)) × (is_some parts ≡ is_some partitions) × Is (ended (keys_audited manager all found answers parts))
 ForSomeBytes (Ok (Explain code)) Is = Is (ended (complete (explained code)))

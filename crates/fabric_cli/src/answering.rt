@@ -4,12 +4,12 @@
 ghost use Rattle.std.specs.Prelude.{◌≡◌, true, Ok, Result, List, ℕ, option_copied, option_map, IfErr};
 ghost use Rattle.cli_args.specs.declared.call.Work.TheVariants as work;
 ghost use Rattle.fabric_cli.specs.Faults.{IsOfRun, LeavesUnread};
-ghost use Rattle.fabric_cli.specs.Serving.{audit_ending, ending_of, left_in, smps_seen, status_in, ended, texts_in, texts_with, to_judge, Answers, ComesTo, Ending, EndsIn, Judged};
+ghost use Rattle.fabric_cli.specs.Serving.{audit_ending, dump_ending, ending_of, left_in, smps_seen, status_in, ended, texts_in, texts_with, to_judge, Answers, ComesTo, Ending, EndsIn, Judged};
 ghost use Rattle.fabric_cli.specs.Serving.{ForEnding, IsOpenAs, IsOpenScript, OfScript};
 ghost use Rattle.subnet_core.specs.BringUp.{up_in};
 
 use crate::faults::{COMPLETE, FAULT, Stop};
-use crate::outputs::{changed, compared, cut, inspected, listed, shared};
+use crate::outputs::{DumpOutput, changed, compared, cut, inspected, listed, shared};
 use crate::reading::OpenFile;
 use crate::texts::Texts;
 use cli_args::Work;
@@ -105,17 +105,18 @@ pub fn written<'a, O: Output>(
     }
 }
 
-/// Writes an audit.
-pub fn written_audit<'a, O: Output>(
+/// Writes what is printed of a dump's LFTs.
+pub fn written_view<'a, O: Output>(
     out: &mut O,
-    made: Result<Audit, Stop<'a>>,
+    made: Result<DumpOutput, Stop<'a>>,
 ) -> Result<Answer, Stop<'a>>
-    ensures exact { (judged : Judged) → EndsIn audit_ending judged made.entry
+    ensures exact { (judged : Judged) → EndsIn dump_ending judged made.entry
         → Answers judged result (O.is_sure out.old) (O.contents out.old) (O.contents out.new) }
     ensures unread { IfErr made.entry IsOfRun → IfErr result (LeavesUnread (λ _. ⊥)) }
 {
     match made {
-        Ok(audit) => written_as(out, audit.text(), answer_of(&audit)),
+        Ok(DumpOutput::Audited(audit)) => written_as(out, audit.text(), answer_of(&audit)),
+        Ok(DumpOutput::Loaded(text)) => written_as(out, text.as_slice(), Answer::Complete),
         Err(stop) => Err(stop),
     }
 }

@@ -8,7 +8,7 @@ ghost use Rattle.cli_args.specs.declared.call.Inspection.TheVariants.{Graph as I
 ghost use Rattle.cli_args.specs.declared.call.Work.TheVariants as work;
 ghost use Rattle.fabric_cli.specs.Faults.{IsOfRun};
 ghost use Rattle.fabric_cli.specs.Serving.{asked_port, changes_in, looked_at, second_stop, shares_in, texts_with, traced};
-ghost use Rattle.fabric_cli.specs.Serving.{ComesTo, CutComes, EndsIn, audit_ending, audited, audited_by, audited_from, audited_of, audited_over, comparison_text, discovery_stop, dump_stop};
+ghost use Rattle.fabric_cli.specs.Serving.{ComesTo, CutComes, EndsIn, comparison_text, discovery_stop, dump_ending, dump_stop, found_ending, plan_ending, viewed, viewed_by, viewed_from, viewed_of, viewed_over};
 ghost use Rattle.fabric_cli.specs.Serving.{ended, import_stop, imported, imported_as, topology_stop, yes_or_no};
 ghost use Rattle.dump_file.specs.Dump.{dump_of};
 ghost use Rattle.fabric_parts.specs.declared.limits.Limits.TheVariants.{Large};
@@ -22,8 +22,9 @@ ghost use Rattle.subnet_core.specs.Inventory.{large_inventory_of};
 
 use crate::faults::{ForeignCause, Stop};
 use cable_cuts::{cut_text, cuts_text, needed};
-use cli_args::{CutView, Inspection};
-use dump_file::DumpFault;
+use cable_load::{load_text, load_text_found};
+use cli_args::{CutView, DumpView, Inspection};
+use dump_file::{Dump, DumpFault};
 use fabric_graph::graph_text;
 use fabric_parts::Limits;
 use fabric_tables::{keys_text, tables_text};
@@ -398,54 +399,118 @@ pub fn import_stop<'a>(error: ImportFault) -> Stop<'a>
     }
 }
 
-/// The audit of a dump's LFTs for a topology, or for what `ibnetdiscover` printed.
-pub fn audited<'a>(alloc: Global, fabric: &[u8], dump: &[u8]) -> Result<Audit, Stop<'a>>
-    ensures exact { EndsIn audit_ending (ended (audited fabric.now dump.now)) result }
+/// What is printed of a dump's LFTs.
+#[derive(Drop)]
+pub enum DumpOutput {
+    /// Whether the routes are safe.
+    Audited(Audit),
+    /// How many pairs go over each cable.
+    Loaded(Vec<u8>),
+}
+
+/// A look at a dump's LFTs for a topology, or for what `ibnetdiscover` printed.
+pub fn viewed<'a>(
+    alloc: Global,
+    view: DumpView,
+    fabric: &[u8],
+    dump: &[u8],
+) -> Result<DumpOutput, Stop<'a>>
+    ensures exact { EndsIn dump_ending (ended (viewed view fabric.now dump.now)) result }
     ensures fault { IfErr result IsOfRun }
 {
     if is_discovery(fabric) {
-        return audited_from(alloc, fabric, dump);
+        return viewed_from(alloc, view, fabric, dump);
     }
-    audited_over_topology(alloc, fabric, dump)
+    viewed_over_topology(alloc, view, fabric, dump)
 }
 
-fn audited_over_topology<'a>(alloc: Global, topology: &[u8], dump: &[u8]) -> Result<Audit, Stop<'a>>
-    ensures exact { EndsIn audit_ending (ended (audited_over (topology_within Large topology.now) dump.now)) result }
+fn viewed_over_topology<'a>(
+    alloc: Global,
+    view: DumpView,
+    topology: &[u8],
+    dump: &[u8],
+) -> Result<DumpOutput, Stop<'a>>
+    ensures exact { EndsIn dump_ending (ended (viewed_over view (topology_within Large topology.now) dump.now)) result }
     ensures fault { IfErr result IsOfRun }
 {
     match topo_file::read_within(alloc, topology, Limits::Large) {
-        Ok(plan) => audited_over(alloc, &plan, dump),
+        Ok(plan) => viewed_over(alloc, view, &plan, dump),
         Err(fault) => Err(topology_stop(fault)),
     }
 }
 
-fn audited_from<'a>(alloc: Global, netdiscover: &[u8], dump: &[u8]) -> Result<Audit, Stop<'a>>
-    ensures exact { EndsIn audit_ending (ended (audited_from (discovery_of netdiscover.now) dump.now)) result }
+fn viewed_from<'a>(
+    alloc: Global,
+    view: DumpView,
+    netdiscover: &[u8],
+    dump: &[u8],
+) -> Result<DumpOutput, Stop<'a>>
+    ensures exact { EndsIn dump_ending (ended (viewed_from view (discovery_of netdiscover.now) dump.now)) result }
     ensures fault { IfErr result IsOfRun }
 {
     match netdiscover_file::read(alloc, netdiscover) {
-        Ok(found) => audited_of(alloc, &found, dump),
+        Ok(found) => viewed_of(alloc, view, &found, dump),
         Err(fault) => Err(discovery_stop(fault)),
     }
 }
 
-fn audited_of<'a>(alloc: Global, found: &Discovery, dump: &[u8]) -> Result<Audit, Stop<'a>>
-    ensures exact { EndsIn audit_ending (ended (audited_of found.now (dump_of dump.now))) result }
+fn viewed_of<'a>(
+    alloc: Global,
+    view: DumpView,
+    found: &Discovery,
+    dump: &[u8],
+) -> Result<DumpOutput, Stop<'a>>
+    ensures exact { EndsIn dump_ending (ended (viewed_of view found.now (dump_of dump.now))) result }
     ensures fault { IfErr result IsOfRun }
 {
     match dump_file::read(alloc, dump) {
-        Ok(dump) => Ok(audit_discovery(alloc, found, &dump)?),
+        Ok(dump) => found_output(alloc, view, found, &dump),
         Err(fault) => Err(dump_stop(fault)),
     }
 }
 
-fn audited_over<'a>(alloc: Global, plan: &LargeTopology, dump: &[u8]) -> Result<Audit, Stop<'a>>
-    ensures exact { EndsIn audit_ending (ended (audited_by plan.now (dump_of dump.now))) result }
+fn found_output<'a>(
+    alloc: Global,
+    view: DumpView,
+    found: &Discovery,
+    dump: &Dump,
+) -> Result<DumpOutput, Stop<'a>>
+    ensures exact { EndsIn dump_ending (ended (found_ending view found.now dump.now)) result }
+    ensures fault { IfErr result IsOfRun }
+{
+    match view {
+        DumpView::Audit => Ok(DumpOutput::Audited(audit_discovery(alloc, found, dump)?)),
+        DumpView::Load => Ok(DumpOutput::Loaded(load_text_found(alloc, found, dump)?)),
+    }
+}
+
+fn viewed_over<'a>(
+    alloc: Global,
+    view: DumpView,
+    plan: &LargeTopology,
+    dump: &[u8],
+) -> Result<DumpOutput, Stop<'a>>
+    ensures exact { EndsIn dump_ending (ended (viewed_by view plan.now (dump_of dump.now))) result }
     ensures fault { IfErr result IsOfRun }
 {
     match dump_file::read(alloc, dump) {
-        Ok(dump) => Ok(audit(alloc, plan, &dump)?),
+        Ok(dump) => plan_output(alloc, view, plan, &dump),
         Err(fault) => Err(dump_stop(fault)),
+    }
+}
+
+fn plan_output<'a>(
+    alloc: Global,
+    view: DumpView,
+    plan: &LargeTopology,
+    dump: &Dump,
+) -> Result<DumpOutput, Stop<'a>>
+    ensures exact { EndsIn dump_ending (ended (plan_ending view plan.now dump.now)) result }
+    ensures fault { IfErr result IsOfRun }
+{
+    match view {
+        DumpView::Audit => Ok(DumpOutput::Audited(audit(alloc, plan, dump)?)),
+        DumpView::Load => Ok(DumpOutput::Loaded(load_text(alloc, plan, dump)?)),
     }
 }
 

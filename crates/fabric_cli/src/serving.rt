@@ -4,7 +4,7 @@ ghost use Rattle.std.specs.Prelude.{◌≡◌, ◌≢◌, ◌⊎◌, ◌∷◌, 
 ghost use Rattle.std.specs.Io.KnownBytes.{Appends};
 ghost use Rattle.std.specs.Process.{exit_status};
 ghost use Rattle.cli_args.specs.Words.{all_names, asked_by_given, asking, asking_by_clap, given_texts, names, opened_for};
-ghost use Rattle.cli_args.specs.declared.call.Call.TheVariants.{Audit as ToAudit, AuditKeys as ToAuditKeys, Import as ToImport, Subnet as InSubnet};
+ghost use Rattle.cli_args.specs.declared.call.Call.TheVariants.{AuditKeys as ToAuditKeys, Dumped as ToView, Import as ToImport, Subnet as InSubnet};
 ghost use Rattle.fabric_cli.specs.Faults.{line_of, memory_line, status_of, NamesUnread};
 ghost use Rattle.fabric_cli.specs.Files.{OpensAll, OpensInOrder};
 ghost use Rattle.fabric_cli.specs.Serving.{judged_for, judged_if_read, texts_of, Answers, AppendsSomeFor, EndsAs, EndsFor, ForSomeBytes};
@@ -12,14 +12,14 @@ ghost use Rattle.fabric_cli.specs.Serving.{IsRefusedFor, IsReported, ReportsStop
 ghost use Rattle.fabric_cli.specs.KeyFiles.{keys_call, keys_names};
 ghost use Rattle.text_streams.specs.Writing.{Writes};
 
-use crate::answering::{Answer, answered_of_texts, written, written_audit};
+use crate::answering::{Answer, answered_of_texts, written, written_view};
 use crate::faults::{MEMORY_LINE, REFUSED, Stop};
 use crate::files::Files;
 use crate::key_audits::{KeysFiles, keys_audited, read_keys_files, written_keys};
-use crate::outputs::{audited, imported, text_or_stop};
+use crate::outputs::{imported, text_or_stop, viewed};
 use crate::reading::{read_file, read_two};
 use crate::texts::read_texts;
-use cli_args::{Asked, Call, Clap, Parser, given_words, read_words};
+use cli_args::{Asked, Call, Clap, DumpView, Parser, given_words, read_words};
 use code_texts::explained;
 use std::alloc::Global;
 use std::env::Args;
@@ -155,8 +155,8 @@ fn answered<'a, P: Parser, F: Files, O: Output>(
                 manager,
             },
         ) => answered_of_discovery(alloc, netdiscover, manager, files, out),
-        Ok(Call::Audit { topology, dump }) => {
-            answered_of_dump(alloc, topology, dump, files, out)
+        Ok(Call::Dumped { view, fabric, dump }) => {
+            answered_of_dump(alloc, view, fabric, dump, files, out)
         }
         Ok(
             Call::AuditKeys {
@@ -201,27 +201,28 @@ fn answered_of_discovery<'a, F: Files, O: Output>(
     }
 }
 
-/// Writes the audit of a topology and a dump, which are two files.
+/// Writes what is asked for of a fabric and a dump, which are two files.
 fn answered_of_dump<'a, F: Files, O: Output>(
     alloc: Global,
-    topology: &'a str,
+    view: DumpView,
+    fabric: &'a str,
     dump: &'a str,
     files: &mut F,
     out: &mut O,
 ) -> Result<Answer, Stop<'a>>
-    ensures order { OpensInOrder (F.opened files.old) (F.opened files.new) (topology.entry.now ∷ dump.entry.now ∷ []) }
-    ensures all { IsReported result → OpensAll (F.opened files.old) (F.opened files.new) (topology.entry.now ∷ dump.entry.now ∷ []) }
-    ensures exact { IfSome (F.reported files.old) (λ file. Answers (judged_for file (Ok (ToAudit topology.entry.now dump.entry.now))) result
+    ensures order { OpensInOrder (F.opened files.old) (F.opened files.new) (fabric.entry.now ∷ dump.entry.now ∷ []) }
+    ensures all { IsReported result → OpensAll (F.opened files.old) (F.opened files.new) (fabric.entry.now ∷ dump.entry.now ∷ []) }
+    ensures exact { IfSome (F.reported files.old) (λ file. Answers (judged_for file (Ok (ToView view fabric.entry.now dump.entry.now))) result
         (O.is_sure out.old) (O.contents out.old) (O.contents out.new)) }
-    ensures any_files { IsReported result → ForSomeBytes (Ok (ToAudit topology.entry.now dump.entry.now))
+    ensures any_files { IsReported result → ForSomeBytes (Ok (ToView view fabric.entry.now dump.entry.now))
         (λ judged. Answers judged result (O.is_sure out.old) (O.contents out.old) (O.contents out.new)) }
     ensures unread { IfErr result (NamesUnread (F.reported files.old) (F.reads files.old)
-        (F.opened files.old) (F.opened files.new) (topology.entry.now ∷ dump.entry.now ∷ [])) }
+        (F.opened files.old) (F.opened files.new) (fabric.entry.now ∷ dump.entry.now ∷ [])) }
 {
-    match read_two(alloc, files, topology, dump) {
+    match read_two(alloc, files, fabric, dump) {
         Ok((plan, tables)) => {
-            let found = audited(alloc, plan.as_slice(), tables.as_slice());
-            written_audit(out, found)
+            let made = viewed(alloc, view, plan.as_slice(), tables.as_slice());
+            written_view(out, made)
         }
         Err(stop) => Err(stop),
     }

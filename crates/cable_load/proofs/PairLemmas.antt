@@ -1,0 +1,152 @@
+-- Pairs, counted by the switches from which they come.
+use Rattle.std.proofs.Common.{◌≡◌, ◌∙◌, inl, inr, ap, refl, sym, ℕ, suc, ◌+◌, ◌*◌, ◌<◌, ◌≤◌, Bool, true, false, cond, not, ◌&&◌, List, [], ◌∷◌, flat_map, length, arith}
+use Rattle.std.proofs.Common.{Option}
+use Rattle.std.specs.List.{count_by}
+use Rattle.std.specs.Option.{option_and_then, option_map_or}
+use Rattle.std.proofs.lemmas.Bool.{cases_Bool, cases_lt}
+use Rattle.std.proofs.lemmas.List.{get_or_past}
+use Rattle.std.proofs.lemmas.List.Sums.{sum_by-cons}
+use Rattle.std.proofs.lemmas.Option.{slice_get_past}
+use Rattle.fabric_parts.specs.Cable.{is_same_port, port}
+use Rattle.fabric_parts.specs.declared.cable.PortRef.{PortRef}
+use Rattle.topo_file.specs.Node.{ports_at}
+use Rattle.topo_file.specs.declared.node.Node.{Node}
+use Rattle.route_audit.specs.declared.entry.Entry.{Entry}
+use Rattle.route_audit.specs.declared.entry.Entry.TheVariants.{Unreported}
+use Rattle.route_audit.specs.Channels.{is_out, leaves_by}
+use Rattle.route_audit.specs.Net.{NetState, entry, entry_in, table_of}
+use Rattle.route_audit.specs.declared.following.Fate.TheVariants as fates
+use Rattle.route_audit.specs.Following.{fate}
+use Rattle.route_audit.specs.Pairs.{is_fate}
+use Rattle.cable_load.specs.Counts.{counts_of, lost_from}
+use Rattle.cable_load.specs.Sources.{Entrance, Pair, pair_from, pairs_in}
+use Rattle.cable_load.specs.Walk.{is_other, of_pairs, on_way, others, sum_at, AreSums, GrowBy}
+use Rattle.cable_load.specs.Ways.{goes_over, is_lost, is_on, way}
+use Rattle.cable_load.proofs.SumLemmas.{grow_same}
+
+abbrev pair_of : (lid : ℕ) → (end : PortRef) → (place : ℕ) → (source : PortRef) → Pair
+pair_of lid end place source = record { source = source; place = place; lid = lid; end = end }
+
+-- ---- one port more
+zero_more : (n : ℕ) → 0 + n ≡ n
+zero_more n = omega arith
+
+others_own : (end source : PortRef) (ports : List PortRef) → is_same_port source end ≡ true → others end (source ∷ ports) ≡ others end ports
+others_own end source ports own = sum_by-cons (λ port. cond (is_other end port) 1 0) source ports ∙ ap (λ (b : Bool). cond (not b) 1 0 + others end ports) own ∙ zero_more (others end ports)
+
+others_more : (end source : PortRef) (ports : List PortRef) → is_same_port source end ≡ false → others end (source ∷ ports) ≡ 1 + others end ports
+others_more end source ports other = sum_by-cons (λ port. cond (is_other end port) 1 0) source ports ∙ ap (λ (b : Bool). cond (not b) 1 0 + others end ports) other
+
+pairs_own : (lid : ℕ) (end : PortRef) (place : ℕ) (source : PortRef) (ports : List PortRef) → is_same_port source end ≡ true
+    → flat_map (pair_from lid end place) (source ∷ ports) ≡ flat_map (pair_from lid end place) ports
+pairs_own lid end place source ports own = rw own refl
+
+pairs_more : (lid : ℕ) (end : PortRef) (place : ℕ) (source : PortRef) (ports : List PortRef) → is_same_port source end ≡ false
+    → flat_map (pair_from lid end place) (source ∷ ports) ≡ pair_of lid end place source ∷ flat_map (pair_from lid end place) ports
+pairs_more lid end place source ports other = rw other refl
+
+-- ---- those from one switch: all pass the test, or none
+one_more : (b : Bool) (n : ℕ) → cond b 1 0 + cond b n 0 ≡ cond b (1 + n) 0
+one_more true n = refl
+one_more false n = refl
+
+none_none : (b : Bool) (n : ℕ) → n ≡ cond b n n
+none_none true n = refl
+none_none false n = refl
+
+pub count_pairs : (q : Pair → Bool) (v : Bool) (lid : ℕ) (end : PortRef) (place : ℕ) (ports : List PortRef) → ((source : PortRef) → q (pair_of lid end place source) ≡ v)
+    → count_by q (flat_map (pair_from lid end place) ports) ≡ cond v (others end ports) 0
+count_pairs q v lid end place [] same = none_none v 0
+count_pairs q v lid end place (source ∷ ports) same = elim (cases_Bool (is_same_port source end)) [
+  | inl own ↦
+      ap (count_by q) (pairs_own lid end place source ports own) ∙ count_pairs q v lid end place ports same
+      ∙ ap (λ (n : ℕ). cond v n 0) (sym (others_own end source ports own))
+  | inr other ↦
+      ap (count_by q) (pairs_more lid end place source ports other)
+      ∙ sum_by-cons (λ pair. cond (q pair) 1 0) (pair_of lid end place source) (flat_map (pair_from lid end place) ports)
+      ∙ ap (λ (b : Bool). cond b 1 0 + count_by q (flat_map (pair_from lid end place) ports)) (same source)
+      ∙ ap (λ (n : ℕ). cond v 1 0 + n) (count_pairs q v lid end place ports same)
+      ∙ one_more v (others end ports)
+      ∙ ap (λ (n : ℕ). cond v n 0) (sym (others_more end source ports other))
+]
+
+pub length_pairs : (lid : ℕ) (end : PortRef) (place : ℕ) (ports : List PortRef) → length (flat_map (pair_from lid end place) ports) ≡ others end ports
+length_pairs lid end place [] = refl
+length_pairs lid end place (source ∷ ports) = elim (cases_Bool (is_same_port source end)) [
+  | inl own ↦
+      ap (λ (pairs : List Pair). length pairs) (pairs_own lid end place source ports own) ∙ length_pairs lid end place ports ∙ sym (others_own end source ports own)
+  | inr other ↦
+      let rest = length_pairs lid end place ports in
+      let more = others_more end source ports other in
+      let long : suc (length (flat_map (pair_from lid end place) ports)) ≡ others end (source ∷ ports) = omega (arith, rest, more) in
+      ap (λ (pairs : List Pair). length pairs) (pairs_more lid end place source ports other) ∙ long
+]
+
+-- ---- what their walk adds is theirs
+pub walk_is : (net : NetState) (lid : ℕ) (end : PortRef) (one : Entrance) (weight : ℕ) (before after : List ℕ) → weight ≡ others end one.ports
+    → GrowBy (on_way net lid one.place weight) before after → GrowBy (of_pairs net (pairs_in lid end one)) before after
+walk_is net lid end one weight before after is grown =
+    grow_same (on_way net lid one.place weight) (of_pairs net (pairs_in lid end one)) before after
+    (λ place number _ _.
+    ap (λ (n : ℕ). on_way net lid one.place n place number) is
+    ∙ sym (count_pairs (goes_over net (port place number)) (is_on place (way net lid one.place) && leaves_by net (port place number) lid) lid end one.place one.ports (λ source. refl)))
+    grown
+
+pub none_is : (net : NetState) (lid : ℕ) (end : PortRef) (one : Entrance) (sums : List ℕ) → others end one.ports ≡ 0 → GrowBy (of_pairs net (pairs_in lid end one)) sums sums
+none_is net lid end one sums none = record {
+  long = refl;
+  each = λ place number within low.
+      let on = is_on place (way net lid one.place) && leaves_by net (port place number) lid in
+      let nothing : of_pairs net (pairs_in lid end one) place number ≡ 0 =
+      count_pairs (goes_over net (port place number)) on lid end one.place one.ports (λ source. refl) ∙ ap (λ (n : ℕ). cond on n 0) none ∙ sym (none_none on 0) in
+      omega (arith, nothing);
+}
+
+-- ---- a node that is not there has no entry
+no_entry : (net : NetState) (lid place : ℕ) → length net.plan.nodes ≤ place → entry net lid place ≡ Unreported
+no_entry net lid place past =
+    ap (λ (node : Option Node). option_map_or (entry_in (ports_at net.plan.nodes place) lid) (option_and_then (λ n. table_of n.guid net.dump.tables) node) Unreported)
+    (slice_get_past net.plan.nodes place past)
+
+none_over : (net : NetState) (place number : ℕ) (pairs : List Pair) → length net.plan.nodes ≤ place → of_pairs net pairs place number ≡ 0
+none_over net place number [] past = refl
+none_over net place number (pair ∷ pairs) past =
+    sum_by-cons (λ one. cond (goes_over net (port place number) one) 1 0) pair pairs
+    ∙ ap (λ (e : Entry). cond (is_on place (way net pair.lid pair.place) && is_out number e) 1 0 + of_pairs net pairs place number) (no_entry net pair.lid place past)
+    ∙ off (is_on place (way net pair.lid pair.place)) (of_pairs net pairs place number) ∙ none_over net place number pairs past
+  where
+    off : (b : Bool) (n : ℕ) → cond (b && false) 1 0 + n ≡ n
+    off true n = omega arith
+    off false n = omega arith
+
+-- ---- the sums of some pairs
+pub record HasSums (net : NetState) (pairs : List Pair) (sums : List ℕ) : Type 0 where
+  pub long : length sums ≡ length net.plan.nodes * 256
+  pub each : (place number : ℕ) → place * 256 + number < length sums → number < 256 → sum_at sums place number ≡ of_pairs net pairs place number
+
+pub sums_are : (net : NetState) (pairs : List Pair) (sums : List ℕ) → HasSums net pairs sums → AreSums net pairs sums
+sums_are net pairs sums has place number low = elim (cases_lt place (length net.plan.nodes)) [
+  | inl less ↦
+      let long = has.long in
+      let within : place * 256 + number < length sums = omega (arith, less, low, long) in
+      has.each place number within low
+  | inr past ↦
+      let long = has.long in
+      let beyond : length sums ≤ place * 256 + number = omega (arith, past, long) in
+      get_or_past sums (place * 256 + number) 0 beyond ∙ sym (none_over net place number pairs past)
+]
+
+-- ---- counts of those from one switch to one LID
+pub counts_from : (net : NetState) (lid : ℕ) (end : PortRef) (one : Entrance) (count lost : ℕ) → count ≡ others end one.ports → lost ≡ lost_from net one.place lid end count
+    → record { pairs = count; lost = lost } ≡ counts_of net (pairs_in lid end one)
+counts_from net lid end one count lost is lost_is =
+    let reached = is_fate fates.Reached (fate net lid end one.place) in
+    let all : count ≡ length (pairs_in lid end one) = is ∙ sym (length_pairs lid end one.place one.ports) in
+    let some : lost ≡ count_by (is_lost net) (pairs_in lid end one) =
+    lost_is ∙ turned reached count ∙ ap (λ (n : ℕ). cond (not reached) n 0) is
+    ∙ sym (count_pairs (is_lost net) (not reached) lid end one.place one.ports (λ source. refl)) in
+    ap (λ (n : ℕ). record { pairs = n; lost = lost }) all ∙ ap (λ (n : ℕ). record { pairs = length (pairs_in lid end one); lost = n }) some
+  where
+    turned : (b : Bool) (n : ℕ) → cond b 0 n ≡ cond (not b) n 0
+    turned true n = refl
+    turned false n = refl

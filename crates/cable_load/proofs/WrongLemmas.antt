@@ -1,0 +1,20 @@
+-- What is wrong with the wrong rules.
+use Rattle.std.proofs.Common.{◌≡◌, refl, sym, ◌≤◌, [], ◌∷◌, arith}
+use Rattle.std.proofs.lemmas.Bool.{false≢true}
+use Rattle.fabric_parts.specs.Cable.{port}
+use Rattle.cable_load.specs.WrongRules.{LostPairsLoad, PairsCountOnce, UnusedChannelsHaveALine, WaysGoOn, to_k, two_switches}
+
+-- A sends LID 2 to B
+pub ways_go_on : WaysGoOn
+ways_go_on law = false≢true (law.comes (two_switches 2 1) 2 0 1 (1 ∷ []) refl (refl, refl))
+
+-- A sends LID 2 to B, which has no port 9
+pub lost_pairs_load : LostPairsLoad
+lost_pairs_load law = false≢true (sym (law (two_switches 2 9) to_k (port 0 2)))
+
+pub pairs_count_once : PairsCountOnce
+pairs_count_once law = let most : 2 ≤ 1 = law (two_switches 2 1) to_k (port 0 2) in absurd (omega (arith, most))
+
+-- nothing goes over the cable from B to A
+pub unused_channels_have_a_line : UnusedChannelsHaveALine
+unused_channels_have_a_line law = let none : 0 ≡ 1 = law (two_switches 2 1) to_k (port 1 2) in absurd (omega (arith, none))

@@ -1,0 +1,57 @@
+-- What is so of all fabrics, dumps and LIDs: the statements of the laws of `src/laws.rt`.
+use Rattle.std.specs.Prelude.{ℕ, ◌≤◌, ◌≡◌, ◌==◌, Bool, true, not, List, count_by, if◌then◌else◌}
+use Rattle.std.specs.List.{list_any}
+use Rattle.fabric_parts.specs.Cable.{is_same_port}
+use Rattle.fabric_parts.specs.declared.cable.PortRef.{PortRef}
+use Rattle.topo_file.specs.Node.{is_switch_at}
+use Rattle.route_audit.specs.declared.lids.Aim.{Aim}
+use Rattle.route_audit.specs.Channels.{channels}
+use Rattle.route_audit.specs.Laws.{ComesBy}
+use Rattle.route_audit.specs.Net.{NetState}
+use Rattle.cable_load.specs.declared.loaded.Loaded.{Loaded}
+use Rattle.cable_load.specs.Loads.{load, loads, pair_count}
+use Rattle.cable_load.specs.Order.{ordered}
+use Rattle.cable_load.specs.Sources.{pairs_by}
+use Rattle.cable_load.specs.Ways.{goes_over, is_on, way}
+
+-- ---- the switches of a way
+-- packets come there over these switches, however many, exactly where the switch is on the way
+pub record FollowsWays (ways : NetState → (lid place : ℕ) → List ℕ) : Type 0 where
+  pub comes : (net : NetState) (lid place there : ℕ) (over : List ℕ) → is_switch_at net.plan.nodes place ≡ true → ComesBy net lid place over there
+      → is_on there (ways net lid place) ≡ true
+  pub there : (net : NetState) (lid place there : ℕ) → is_on there (ways net lid place) ≡ true → (over : List ℕ) × ComesBy net lid place over there
+
+abbrev pub WaysAreWhole : Type 0
+WaysAreWhole = FollowsWays way
+
+-- ---- loads
+-- a port has no load exactly where no pair goes over it
+abbrev pub ReportsUnused : (NetState → List Aim → PortRef → ℕ) → Type 0
+ReportsUnused loaded =
+    (net : NetState) (all : List Aim) (at : PortRef) → (loaded net all at == 0) ≡ not (list_any (goes_over net at) (pairs_by net all))
+
+abbrev pub LoadsAreOfPairs : Type 0
+LoadsAreOfPairs = ReportsUnused load
+
+-- no load is more than there are pairs
+abbrev pub StaysWithin : (NetState → List Aim → PortRef → ℕ) → Type 0
+StaysWithin loaded = (net : NetState) (all : List Aim) (at : PortRef) → loaded net all at ≤ pair_count net all
+
+abbrev pub LoadsStayWithin : Type 0
+LoadsStayWithin = StaysWithin load
+
+-- ---- lines
+abbrev pub is_at : PortRef → Loaded → Bool
+is_at at one = is_same_port one.at at
+
+-- each channel has one line, and no other port has one
+abbrev pub NamesEachOnce : (NetState → List Aim → List Loaded) → Type 0
+NamesEachOnce lines =
+    (net : NetState) (all : List Aim) (at : PortRef)
+    → count_by (is_at at) (lines net all) ≡ (if list_any (λ channel. is_same_port channel at) (channels net) then 1 else 0)
+
+abbrev pub lines_of : NetState → List Aim → List Loaded
+lines_of net all = ordered (loads net all)
+
+abbrev pub EachChannelHasOneLine : Type 0
+EachChannelHasOneLine = NamesEachOnce lines_of

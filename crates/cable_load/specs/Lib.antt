@@ -1,0 +1,9 @@
+pub mod Sources
+pub mod Ways
+pub mod Loads
+pub mod Counts
+pub mod Order
+pub mod Text
+pub mod Walk
+pub mod Laws
+pub mod WrongRules

@@ -1,0 +1,48 @@
+-- How many pairs go over each channel. A channel is a port of a switch that has a cable to a switch: a direction of a cable.
+use Rattle.std.specs.Prelude.{ℕ, ◌*◌, ◌/◌, nat_lt, List, count_by, length, map, if◌then◌else◌}
+use Rattle.std.specs.List.{fold, sum_by}
+use Rattle.fabric_parts.specs.declared.cable.PortRef.{PortRef}
+use Rattle.route_audit.specs.declared.lids.Aim.{Aim}
+use Rattle.route_audit.specs.Channels.{channels}
+use Rattle.route_audit.specs.Net.{NetState}
+use Rattle.cable_load.specs.declared.loaded.Loaded.{Loaded}
+use Rattle.cable_load.specs.Sources.{pairs_by}
+use Rattle.cable_load.specs.Ways.{goes_over, is_lost}
+
+-- to these LIDs
+abbrev pub load : NetState → List Aim → PortRef → ℕ
+load net all at = count_by (goes_over net at) (pairs_by net all)
+
+abbrev pub loaded : NetState → List Aim → PortRef → Loaded
+loaded net all at = record { load = load net all at; at = at }
+
+-- in the order of switches, and then of ports
+abbrev pub loads : NetState → List Aim → List Loaded
+loads net all = map (loaded net all) (channels net)
+
+-- ---- counts
+abbrev pub pair_count : NetState → List Aim → ℕ
+pair_count net all = length (pairs_by net all)
+
+abbrev pub lost_count : NetState → List Aim → ℕ
+lost_count net all = count_by (is_lost net) (pairs_by net all)
+
+-- ---- the greatest load, the least, and the sum
+abbrev pub greater : ℕ → Loaded → ℕ
+greater most one = if nat_lt most one.load then one.load else most
+
+abbrev pub lesser : ℕ → Loaded → ℕ
+lesser least one = if nat_lt one.load least then one.load else least
+
+abbrev pub most_of : List Loaded → ℕ
+most_of all = fold greater 0 all
+
+abbrev pub least_of : List Loaded → ℕ
+least_of all = fold lesser (most_of all) all
+
+abbrev pub total_of : List Loaded → ℕ
+total_of all = sum_by (λ one. one.load) all
+
+-- in hundredths, rounded down
+abbrev pub mean_of : List Loaded → ℕ
+mean_of all = total_of all * 100 / length all

@@ -1,0 +1,64 @@
+-- What is printed of the loads of a fabric.
+use Rattle.std.specs.Prelude.{ℕ, ◌/◌, ◌%◌, List, [], ◌∷◌, ◌++◌, codes, decimal, flat_map, Option, Some, None}
+use Rattle.dump_file.specs.Dump.{DumpState}
+use Rattle.fabric_parts.specs.Cable.{far_end}
+use Rattle.fabric_parts.specs.declared.cable.PortRef.{PortRef}
+use Rattle.netdiscover_file.specs.Discovery.{DiscoveryState}
+use Rattle.topo_file.specs.Topology.{TopologyState}
+use Rattle.route_audit.specs.declared.lids.Aim.{Aim}
+use Rattle.route_audit.specs.Lids.{aims}
+use Rattle.route_audit.specs.Lines.{port_text}
+use Rattle.route_audit.specs.Net.{NetState}
+use Rattle.route_audit.specs.Plan.{PlanState, plan_found, plan_of}
+use Rattle.cable_load.specs.declared.loaded.Loaded.{Loaded}
+use Rattle.cable_load.specs.Loads.{least_of, loads, lost_count, mean_of, most_of, pair_count}
+use Rattle.cable_load.specs.Order.{ordered}
+
+-- ---- `load A/3 B/3 12`: the channel's port, the port at the other end of its cable, and how many pairs go over it
+abbrev pub end_text : NetState → Option PortRef → List ℕ
+end_text net (Some at) = port_text net at
+end_text net None = []
+
+unfoldable pub load_line : NetState → Loaded → List ℕ
+load_line net one =
+    codes "load " ++ port_text net one.at ++ codes " " ++ end_text net (far_end net.plan.cables one.at) ++ codes " " ++ decimal one.load ++ 10 ∷ []
+
+-- ---- of all channels, if there is one: `most 12`, `least 4`, `mean 7.33`
+abbrev pub hundredths : ℕ → List ℕ
+hundredths n = decimal (n / 100) ++ codes "." ++ decimal (n % 100 / 10) ++ decimal (n % 10)
+
+unfoldable pub most_line : List Loaded → List ℕ
+most_line all = codes "most " ++ decimal (most_of all) ++ 10 ∷ []
+
+unfoldable pub least_line : List Loaded → List ℕ
+least_line all = codes "least " ++ decimal (least_of all) ++ 10 ∷ []
+
+unfoldable pub mean_line : List Loaded → List ℕ
+mean_line all = codes "mean " ++ hundredths (mean_of all) ++ 10 ∷ []
+
+abbrev pub summary : List Loaded → List ℕ
+summary [] = []
+summary (one ∷ rest) = most_line (one ∷ rest) ++ least_line (one ∷ rest) ++ mean_line (one ∷ rest)
+
+-- ---- `pairs 12, lost 0`: lost are those that do not reach the end port of their LID
+unfoldable pub pairs_line : ℕ → ℕ → List ℕ
+pairs_line count lost = codes "pairs " ++ decimal count ++ codes ", lost " ++ decimal lost ++ 10 ∷ []
+
+-- ---- the whole
+unfoldable pub text_of : NetState → List Loaded → ℕ → ℕ → List ℕ
+text_of net all count lost = flat_map (load_line net) (ordered all) ++ summary all ++ pairs_line count lost
+
+unfoldable pub text_by : NetState → List Aim → List ℕ
+text_by net all = text_of net (loads net all) (pair_count net all) (lost_count net all)
+
+unfoldable pub load_text_of : NetState → List ℕ
+load_text_of net = text_by net (aims net)
+
+abbrev pub load_of_plan : PlanState → DumpState → List ℕ
+load_of_plan plan dump = load_text_of (record { plan = plan; dump = dump })
+
+abbrev pub load_text : TopologyState → DumpState → List ℕ
+load_text topology dump = load_of_plan (plan_of topology) dump
+
+abbrev pub load_text_found : DiscoveryState → DumpState → List ℕ
+load_text_found found dump = load_of_plan (plan_found found) dump

@@ -1,0 +1,69 @@
+-- Wrong rules for what is reported, and the law that each breaks.
+use Rattle.std.specs.Prelude.{ℕ, ◌*◌, ◌==◌, ◌&&◌, not, List, [], ◌∷◌, codes, count_by, filter, Some}
+use Rattle.dump_file.specs.declared.destination.Destination.TheVariants as destinations
+use Rattle.dump_file.specs.declared.table.Table.{Table}
+use Rattle.fabric_parts.specs.Cable.{port}
+use Rattle.fabric_parts.specs.declared.cable.PortRef.{PortRef}
+use Rattle.fabric_parts.specs.declared.node_type.NodeType.{NodeType}
+use Rattle.fabric_parts.specs.declared.node_type.NodeType.TheVariants.{ChannelAdapter, Switch}
+use Rattle.topo_file.specs.declared.node.Node.{Node}
+use Rattle.topo_file.specs.Topology.{TopologyState}
+use Rattle.route_audit.specs.declared.lids.Aim.{Aim}
+use Rattle.route_audit.specs.Net.{NetState}
+use Rattle.route_audit.specs.Plan.{plan_of}
+use Rattle.cable_load.specs.declared.loaded.Loaded.{Loaded}
+use Rattle.cable_load.specs.Laws.{FollowsWays, NamesEachOnce, ReportsUnused, StaysWithin, lines_of}
+use Rattle.cable_load.specs.Loads.{load}
+use Rattle.cable_load.specs.Sources.{pairs_by}
+use Rattle.cable_load.specs.Ways.{goes_over, is_lost, way_within}
+
+-- ---- two switches A and B with a cable from A/2 to B/2, and the hosts h at A/1 and k at B/1
+abbrev pub node : List ℕ → NodeType → ℕ → Node
+node name of guid = record { name = name; node_type = of; guid = guid; ports = 2 }
+
+abbrev pub a_plan : TopologyState
+a_plan = record {
+  nodes = node (codes "A") Switch 16 ∷ node (codes "B") Switch 32 ∷ node (codes "h") ChannelAdapter 256 ∷ node (codes "k") ChannelAdapter 512 ∷ [];
+  cables = record { first = port 0 1; second = port 2 1 } ∷ record { first = port 1 1; second = port 3 1 } ∷ record { first = port 0 2; second = port 1 2 } ∷ [];
+  roots = [];
+  sm = port 2 1;
+}
+
+-- the entry of each switch for LID 2, which is that of k/1
+abbrev pub a_table : (guid number : ℕ) → Table
+a_table guid number =
+    record { line = 1; guid = guid; top = 2; rows = record { lid = 2; port = number; destination = destinations.ChannelAdapter 513 } ∷ [] }
+
+abbrev pub two_switches : (first second : ℕ) → NetState
+two_switches first second = record { plan = plan_of a_plan; dump = record { tables = a_table 16 first ∷ a_table 32 second ∷ [] } }
+
+abbrev pub to_k : List Aim
+to_k = record { lid = 2; guid = Some 513; end = Some (port 3 1) } ∷ []
+
+-- ---- a way ends at its first switch
+abbrev pub one_switch : NetState → (lid place : ℕ) → List ℕ
+one_switch net lid place = way_within net lid 1 place
+
+abbrev pub WaysGoOn : Type 0
+WaysGoOn = FollowsWays one_switch → ⊥
+
+-- ---- pairs that are lost load nothing
+abbrev pub load_of_reached : NetState → List Aim → PortRef → ℕ
+load_of_reached net all at = count_by (λ pair. goes_over net at pair && not (is_lost net pair)) (pairs_by net all)
+
+abbrev pub LostPairsLoad : Type 0
+LostPairsLoad = ReportsUnused load_of_reached → ⊥
+
+-- ---- each pair counts twice
+abbrev pub twice : NetState → List Aim → PortRef → ℕ
+twice net all at = load net all at * 2
+
+abbrev pub PairsCountOnce : Type 0
+PairsCountOnce = StaysWithin twice → ⊥
+
+-- ---- a channel without load has no line
+abbrev pub used_lines : NetState → List Aim → List Loaded
+used_lines net all = filter (λ one. not (one.load == 0)) (lines_of net all)
+
+abbrev pub UnusedChannelsHaveALine : Type 0
+UnusedChannelsHaveALine = NamesEachOnce used_lines → ⊥

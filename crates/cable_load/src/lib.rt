@@ -1,0 +1,25 @@
+//! How the traffic of a fabric is spread over its cables, by the tables that stand in its switches.
+//!
+//! [`load_text`] takes a topology and the LFTs that `dump_file` read, [`load_text_found`] what `netdiscover_file` read in place of
+//! the topology. For each direction of a cable between two switches they say how many pairs go over it: a host's port that sends,
+//! and a LID of another host's port. `specs/Sources.antt` says which pairs there are, `specs/Ways.antt` which way a packet goes,
+//! `specs/Loads.antt` what is counted, and `specs/Text.antt` what is printed.
+#![tactic(auto)]
+
+mod counting;
+mod laws;
+mod loaded;
+mod loads;
+mod marks;
+mod order;
+mod sources;
+mod sums;
+mod texts;
+mod walk;
+mod wrong_rules;
+
+pub use crate::laws::{
+    each_channel_has_one_line, loads_are_of_pairs, loads_stay_within, ways_are_whole,
+};
+pub use crate::loaded::Loaded;
+pub use crate::texts::{load_text, load_text_found};

@@ -1,0 +1,142 @@
+//! The loads of all channels.
+
+ghost use Rattle.std.specs.Prelude.{List, ◌≡◌, ◌<◌, ◌-◌, ◌*◌, length, flat_map, IfOk, OnOk};
+ghost use Rattle.route_audit.specs.Net.{NetState};
+ghost use Rattle.route_audit.specs.declared.lids.Aim.{Aim};
+ghost use Rattle.cable_load.specs.Loads.{loaded, loads};
+ghost use Rattle.cable_load.specs.Sources.{entrances, pairs_by, pairs_in, pairs_to};
+ghost use Rattle.cable_load.specs.Walk.{of_pairs, target_of, AreBelow, AreSums, GrowBy};
+
+use crate::loaded::Loaded;
+use crate::sources::Entrance;
+use crate::sums::{blank_sums, sum_at, zeros};
+use crate::walk::{Flow, add_way};
+use fabric_parts::PortRef;
+use route_audit::{Aim, Net};
+use std::alloc::{AllocError, Global};
+
+/// A LID, and the end port that has it.
+#[derive(Clone, Copy)]
+pub(crate) struct Target {
+    pub(crate) lid: u16,
+    pub(crate) end: PortRef,
+}
+
+/// The LID of a host's port.
+pub(crate) fn target_of(net: &Net<'_>, aim: &Aim) -> Option<Target>
+    ensures { result ≡ target_of net.now aim.now }
+{
+    let aim = *aim;
+    match aim.end {
+        Some(end) if net.is_host(end.node) => Some(Target { lid: aim.lid, end }),
+        _ => None,
+    }
+}
+
+/// Adds what goes to a LID from one switch.
+fn add_from(
+    net: &Net<'_>,
+    sums: &mut [usize],
+    marks: &mut [usize],
+    stamp: usize,
+    one: &Entrance,
+    target: Target,
+) -> Result<(), AllocError>
+    requires stamp { 0 < stamp }
+    requires fresh { AreBelow (stamp - 1) marks.old }
+    requires long { length sums.old ≡ length marks.old * 256 }
+    ensures long { length marks.new ≡ length marks.old }
+    ensures below { AreBelow stamp marks.new }
+    ensures sums { OnOk result (GrowBy (of_pairs net.now (pairs_in target.lid target.end one.now)) sums.old sums.new) }
+{
+    let flow = Flow {
+        lid: target.lid,
+        place: one.place(),
+        count: one.others(target.end),
+    };
+    if flow.count == 0 {
+        return Ok(());
+    }
+    add_way(net, sums, marks, stamp, flow)
+}
+
+/// Adds what goes to a LID from all these switches.
+fn add_from_all(
+    net: &Net<'_>,
+    alloc: Global,
+    sums: &mut [usize],
+    all: &[Entrance],
+    target: Target,
+) -> Result<(), AllocError>
+    requires { length sums.old ≡ length net.now.plan.nodes * 256 }
+    ensures { OnOk result (GrowBy (of_pairs net.now (flat_map (pairs_in target.lid target.end) all.now)) sums.old sums.new) }
+{
+    let mut marks = zeros(alloc, net.nodes().len())?;
+    for (index, one) in all.iter().enumerate() {
+        add_from(net, sums, &mut marks, index + 1, one, target)?;
+    }
+    Ok(())
+}
+
+/// Adds what goes to a LID, if it is that of a host's port.
+fn add_to(
+    net: &Net<'_>,
+    alloc: Global,
+    sums: &mut [usize],
+    all: &[Entrance],
+    aim: &Aim,
+) -> Result<(), AllocError>
+    requires all { all.now ≡ entrances net.now }
+    requires long { length sums.old ≡ length net.now.plan.nodes * 256 }
+    ensures { OnOk result (GrowBy (of_pairs net.now (pairs_to net.now aim.now)) sums.old sums.new) }
+{
+    match target_of(net, aim) {
+        Some(target) => add_from_all(net, alloc, sums, all, target),
+        None => Ok(()),
+    }
+}
+
+/// For each port of each node how many pairs go out of it.
+fn sums_of(
+    net: &Net<'_>,
+    alloc: Global,
+    all: &[Entrance],
+    aims: &[Aim],
+) -> Result<Vec<usize>, AllocError>
+    requires { all.now ≡ entrances net.now }
+    ensures { IfOk result (λ sums. AreSums net.now (pairs_by net.now aims.now) sums.items) }
+{
+    let mut sums = blank_sums(alloc, net.nodes().len())?;
+    for aim in aims {
+        add_to(net, alloc, &mut sums, all, aim)?;
+    }
+    Ok(sums)
+}
+
+fn loaded_by(sums: &[usize], at: PortRef) -> Loaded
+    ensures { (net : NetState) (all : List Aim) → AreSums net (pairs_by net all) sums.now → result ≡ loaded net all at }
+{
+    Loaded {
+        load: sum_at(sums, at.node, at.port),
+        at,
+    }
+}
+
+/// The channels, and how many pairs go over each.
+pub(crate) fn loads(
+    net: &Net<'_>,
+    alloc: Global,
+    all: &[Entrance],
+    aims: &[Aim],
+) -> Result<Vec<Loaded>, AllocError>
+    requires { all.now ≡ entrances net.now }
+    ensures { IfOk result (λ found. found.items ≡ loads net.now aims.now) }
+{
+    let sums = sums_of(net, alloc, all, aims)?;
+    let channels = net.channels(alloc)?;
+    let mut loads = Vec::new(alloc);
+    for at in &channels {
+        loads.push(loaded_by(&sums, *at))?;
+    }
+    Ok(loads)
+}

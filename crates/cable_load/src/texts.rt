@@ -1,0 +1,236 @@
+//! What is printed.
+
+ghost use Rattle.std.specs.Prelude.{◌≡◌, ◌++◌, ◌<◌, ◌/◌, flat_map, length, IfOk, OnOk};
+ghost use Rattle.std.specs.List.{fold};
+ghost use Rattle.route_audit.specs.Plan.{PlanState};
+ghost use Rattle.cable_load.specs.Loads.{greater, least_of, lesser, loads, mean_of, most_of, total_of};
+ghost use Rattle.cable_load.specs.Counts.{counts_of};
+ghost use Rattle.cable_load.specs.Sources.{pairs_by};
+ghost use Rattle.cable_load.specs.Text.{end_text, hundredths, least_line, load_line, load_of_plan, load_text, load_text_found, load_text_of, mean_line, most_line, pairs_line, summary, text_by, text_of};
+
+use crate::counting::{Counts, counted};
+use crate::loaded::Loaded;
+use crate::loads::loads;
+use crate::order::ordered;
+use crate::sources::entrances;
+use dump_file::Dump;
+use fabric_parts::PortRef;
+use netdiscover_file::Discovery;
+use route_audit::{Aim, Net, Plan};
+use std::alloc::{AllocError, Global};
+use text_parts::push_decimal;
+use topo_file::LargeTopology;
+
+fn push_end(net: &Net<'_>, text: &mut Vec<u8>, end: Option<PortRef>) -> Result<(), AllocError>
+    ensures { OnOk result (text.new.items ≡ text.old.items ++ end_text net.now end) }
+{
+    match end {
+        Some(at) => net.push_port(text, at),
+        None => Ok(()),
+    }
+}
+
+#[tactic(auto, unfolding(crate::specs::Text::load_line))]
+fn push_load(net: &Net<'_>, text: &mut Vec<u8>, one: Loaded) -> Result<(), AllocError>
+    ensures { OnOk result (text.new.items ≡ text.old.items ++ load_line net.now one) }
+{
+    text.extend_from_slice(b"load ")?;
+    net.push_port(text, one.at)?;
+    text.extend_from_slice(b" ")?;
+    push_end(net, text, net.far_end(one.at))?;
+    text.extend_from_slice(b" ")?;
+    push_decimal(text, one.load)?;
+    text.push(b'\n')?;
+    Ok(())
+}
+
+fn push_loads(net: &Net<'_>, text: &mut Vec<u8>, all: &[Loaded]) -> Result<(), AllocError>
+    ensures { OnOk result (text.new.items ≡ text.old.items ++ flat_map (load_line net.now) all.now) }
+{
+    for one in all {
+        push_load(net, text, *one)?;
+    }
+    Ok(())
+}
+
+fn greater(most: usize, one: &Loaded) -> usize
+    ensures { result ≡ greater most one.now }
+{
+    let one = *one;
+    if most < one.load { one.load } else { most }
+}
+
+fn lesser(least: usize, one: &Loaded) -> usize
+    ensures { result ≡ lesser least one.now }
+{
+    let one = *one;
+    if one.load < least { one.load } else { least }
+}
+
+fn most_of(all: &[Loaded]) -> usize
+    ensures { result ≡ most_of all.now }
+{
+    all.iter().fold(0, |most, one| greater(most, one))
+}
+
+fn least_of(all: &[Loaded]) -> usize
+    ensures { result ≡ least_of all.now }
+{
+    all.iter()
+        .fold(most_of(all), |least, one| lesser(least, one))
+}
+
+/// The sum of the loads. One that is too great is refused as if memory ran out.
+fn total_of(all: &[Loaded]) -> Result<u128, AllocError>
+    ensures { IfOk result (λ total. total ≡ total_of all.now) }
+{
+    let mut total = 0u128;
+    for one in all {
+        let Some(more) = total.checked_add(one.load as u128) else {
+            return Err(AllocError);
+        };
+        total = more;
+    }
+    Ok(total)
+}
+
+fn mean_of(all: &[Loaded]) -> Result<usize, AllocError>
+    requires { 0 < length all.now }
+    ensures { IfOk result (λ mean. mean ≡ mean_of all.now) }
+{
+    let Some(hundredfold) = total_of(all)?.checked_mul(100) else {
+        return Err(AllocError);
+    };
+    usize::try_from(hundredfold / all.len() as u128).map_err(|_| AllocError)
+}
+
+#[tactic(auto, unfolding(crate::specs::Text::most_line))]
+fn push_most(text: &mut Vec<u8>, all: &[Loaded]) -> Result<(), AllocError>
+    ensures { OnOk result (text.new.items ≡ text.old.items ++ most_line all.now) }
+{
+    text.extend_from_slice(b"most ")?;
+    push_decimal(text, most_of(all))?;
+    text.push(b'\n')?;
+    Ok(())
+}
+
+#[tactic(auto, unfolding(crate::specs::Text::least_line))]
+fn push_least(text: &mut Vec<u8>, all: &[Loaded]) -> Result<(), AllocError>
+    ensures { OnOk result (text.new.items ≡ text.old.items ++ least_line all.now) }
+{
+    text.extend_from_slice(b"least ")?;
+    push_decimal(text, least_of(all))?;
+    text.push(b'\n')?;
+    Ok(())
+}
+
+fn push_hundredths(text: &mut Vec<u8>, number: usize) -> Result<(), AllocError>
+    ensures { OnOk result (text.new.items ≡ text.old.items ++ hundredths number) }
+{
+    push_decimal(text, number / 100)?;
+    text.extend_from_slice(b".")?;
+    push_decimal(text, number % 100 / 10)?;
+    push_decimal(text, number % 10)
+}
+
+#[tactic(auto, unfolding(crate::specs::Text::mean_line))]
+fn push_mean(text: &mut Vec<u8>, all: &[Loaded]) -> Result<(), AllocError>
+    requires { 0 < length all.now }
+    ensures { OnOk result (text.new.items ≡ text.old.items ++ mean_line all.now) }
+{
+    text.extend_from_slice(b"mean ")?;
+    push_hundredths(text, mean_of(all)?)?;
+    text.push(b'\n')?;
+    Ok(())
+}
+
+fn push_summary(text: &mut Vec<u8>, all: &[Loaded]) -> Result<(), AllocError>
+    ensures { OnOk result (text.new.items ≡ text.old.items ++ summary all.now) }
+{
+    if all.is_empty() {
+        return Ok(());
+    }
+    push_most(text, all)?;
+    push_least(text, all)?;
+    push_mean(text, all)
+}
+
+#[tactic(auto, unfolding(crate::specs::Text::pairs_line))]
+fn push_pairs(text: &mut Vec<u8>, counts: Counts) -> Result<(), AllocError>
+    ensures { OnOk result (text.new.items ≡ text.old.items ++ pairs_line counts.pairs counts.lost) }
+{
+    text.extend_from_slice(b"pairs ")?;
+    push_decimal(text, counts.pairs)?;
+    text.extend_from_slice(b", lost ")?;
+    push_decimal(text, counts.lost)?;
+    text.push(b'\n')?;
+    Ok(())
+}
+
+#[tactic(auto, unfolding(crate::specs::Text::text_of))]
+fn text_of(
+    net: &Net<'_>,
+    alloc: Global,
+    loads: Vec<Loaded>,
+    counts: Counts,
+) -> Result<Vec<u8>, AllocError>
+    ensures { IfOk result (λ text. text.items ≡ text_of net.now loads.items counts.pairs counts.lost) }
+{
+    let mut rest = Vec::new(alloc);
+    push_summary(&mut rest, &loads)?;
+    push_pairs(&mut rest, counts)?;
+    let lines = ordered(loads)?;
+    let mut text = Vec::new(alloc);
+    push_loads(net, &mut text, &lines)?;
+    text.extend_from_slice(&rest)?;
+    Ok(text)
+}
+
+#[tactic(auto, unfolding(crate::specs::Text::text_by))]
+fn text_by(net: &Net<'_>, alloc: Global, aims: &[Aim]) -> Result<Vec<u8>, AllocError>
+    ensures { IfOk result (λ text. text.items ≡ text_by net.now aims.now) }
+{
+    let entrances = entrances(net, alloc)?;
+    let loads = loads(net, alloc, &entrances, aims)?;
+    let counts = counted(net, &entrances, aims)?;
+    let text = text_of(net, alloc, loads, counts)?;
+    Ok(text)
+}
+
+#[tactic(auto, unfolding(crate::specs::Text::load_text_of))]
+fn load_text_of(net: &Net<'_>, alloc: Global) -> Result<Vec<u8>, AllocError>
+    ensures { IfOk result (λ text. text.items ≡ load_text_of net.now) }
+{
+    let aims = net.aims(alloc)?;
+    let text = text_by(net, alloc, &aims)?;
+    Ok(text)
+}
+
+fn load_of_plan(alloc: Global, plan: &Plan, dump: &Dump) -> Result<Vec<u8>, AllocError>
+    ensures { IfOk result (λ text. text.items ≡ load_of_plan plan.now dump.now) }
+{
+    let net = Net::new(alloc, plan, dump)?;
+    let text = load_text_of(&net, alloc)?;
+    Ok(text)
+}
+
+/// How many pairs go over each direction of a cable between two switches, by the LFTs that a dump shows over a topology. It can
+/// only run out of memory; a number of 2^64 pairs or more is refused as if it did.
+pub fn load_text(
+    alloc: Global,
+    topology: &LargeTopology,
+    dump: &Dump,
+) -> Result<Vec<u8>, AllocError>
+    ensures { IfOk result (λ text. text.items ≡ load_text topology.now dump.now) }
+{
+    let plan = Plan::of(alloc, topology)?;
+    load_of_plan(alloc, &plan, dump)
+}
+
+/// The same over a discovery.
+pub fn load_text_found(alloc: Global, found: &Discovery, dump: &Dump) -> Result<Vec<u8>, AllocError>
+    ensures { IfOk result (λ text. text.items ≡ load_text_found found.now dump.now) }
+{
+    let plan = Plan::found(alloc, found)?;
+    load_of_plan(alloc, &plan, dump)
+}

@@ -1,0 +1,24 @@
+//! Wrong rules for what is reported, and the law that each breaks, so that a reader sees that the laws say something. Each
+//! function does nothing: its contract says that with this rule the law is false.
+
+ghost use Rattle.cable_load.specs.WrongRules.{LostPairsLoad, PairsCountOnce, UnusedChannelsHaveALine, WaysGoOn};
+
+/// If a way ended at its first switch, packets would come to a switch that is not on it.
+pub fn ways_go_on()
+    ensures { WaysGoOn }
+{}
+
+/// If pairs that are lost were not counted, a channel that one goes over would have no load.
+pub fn lost_pairs_load()
+    ensures { LostPairsLoad }
+{}
+
+/// If each pair counted twice, a load would be more than there are pairs.
+pub fn pairs_count_once()
+    ensures { PairsCountOnce }
+{}
+
+/// If a channel without load had no line, one would be missing.
+pub fn unused_channels_have_a_line()
+    ensures { UnusedChannelsHaveALine }
+{}
