@@ -5,3 +5,4 @@ pub mod OrderLemmas
 pub mod LineLemmas
 pub mod WholeLemmas
 pub mod WrongLemmas
+pub mod ExampleLemmas

@@ -7,3 +7,4 @@ pub mod Text
 pub mod Walk
 pub mod Laws
 pub mod WrongRules
+pub mod Examples

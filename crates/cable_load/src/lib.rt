@@ -7,6 +7,7 @@
 #![tactic(auto)]
 
 mod counting;
+mod examples;
 mod laws;
 mod loaded;
 mod loads;
@@ -18,6 +19,7 @@ mod texts;
 mod walk;
 mod wrong_rules;
 
+pub use crate::examples::texts_are_so;
 pub use crate::laws::{
     each_channel_has_one_line, loads_are_of_pairs, loads_stay_within, ways_are_whole,
 };

@@ -1,0 +1,9 @@
+-- What is printed, computed.
+use Rattle.std.proofs.Common.{refl}
+use Rattle.std.specs.Fmt.{digits}
+use Rattle.cable_load.specs.Examples.{TextsAreSo}
+use Rattle.cable_load.specs.Text.{least_line, load_line, mean_line, most_line, pairs_line, text_by, text_of}
+
+pub texts_are_so : TextsAreSo
+unfolding digits least_line load_line mean_line most_line pairs_line text_by text_of
+texts_are_so = record { even = refl; lost = refl; looped = refl; small_mean = refl; great_mean = refl }

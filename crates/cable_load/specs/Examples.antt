@@ -1,0 +1,48 @@
+-- What is printed, in examples: the two switches of `WrongRules.antt`, each with a host.
+use Rattle.std.specs.Prelude.{ℕ, ◌≡◌, List, [], ◌∷◌, ◌++◌, codes, Option, Some, None}
+use Rattle.dump_file.specs.declared.destination.Destination.TheVariants as destinations
+use Rattle.dump_file.specs.declared.row.Row.{Row}
+use Rattle.dump_file.specs.declared.table.Table.{Table}
+use Rattle.fabric_parts.specs.Cable.{port}
+use Rattle.route_audit.specs.declared.lids.Aim.{Aim}
+use Rattle.route_audit.specs.Net.{NetState}
+use Rattle.route_audit.specs.Plan.{plan_of}
+use Rattle.cable_load.specs.Text.{hundredths, text_by}
+use Rattle.cable_load.specs.WrongRules.{a_plan}
+
+-- LID 1 is h/1's, and LID 2 is k/1's
+abbrev pub row_to : (lid number guid : ℕ) → Row
+row_to lid number guid = record { lid = lid; port = number; destination = destinations.ChannelAdapter guid }
+
+abbrev pub table_to : (guid first second : ℕ) → Table
+table_to guid first second = record { line = 1; guid = guid; top = 2; rows = row_to 1 first 257 ∷ row_to 2 second 513 ∷ [] }
+
+-- the ports by which A and B forward the two
+abbrev pub with_ports : (first second third fourth : ℕ) → NetState
+with_ports first second third fourth =
+    record { plan = plan_of a_plan; dump = record { tables = table_to 16 first second ∷ table_to 32 third fourth ∷ [] } }
+
+abbrev pub both : List Aim
+both = record { lid = 1; guid = Some 257; end = Some (port 2 1) } ∷ record { lid = 2; guid = Some 513; end = Some (port 3 1) } ∷ []
+
+abbrev pub line : List ℕ → List ℕ
+line text = text ++ 10 ∷ []
+
+pub record TextsAreSo : Type 0 where
+  -- each host reaches the other
+  pub even :
+      text_by (with_ports 1 2 2 1) both
+      ≡ line (codes "load A/2 B/2 1") ++ line (codes "load B/2 A/2 1") ++ line (codes "most 1") ++ line (codes "least 1") ++ line (codes "mean 1.00")
+      ++ line (codes "pairs 2, lost 0")
+  -- B has no port for LID 2, and sends LID 1 to a port without a cable
+  pub lost :
+      text_by (with_ports 1 2 9 255) both
+      ≡ line (codes "load A/2 B/2 1") ++ line (codes "load B/2 A/2 0") ++ line (codes "most 1") ++ line (codes "least 0") ++ line (codes "mean 0.50")
+      ++ line (codes "pairs 2, lost 2")
+  -- A and B send LID 2 to one another: its pair counts once on each
+  pub looped :
+      text_by (with_ports 1 2 2 2) both
+      ≡ line (codes "load B/2 A/2 2") ++ line (codes "load A/2 B/2 1") ++ line (codes "most 2") ++ line (codes "least 1") ++ line (codes "mean 1.50")
+      ++ line (codes "pairs 2, lost 1")
+  pub small_mean : hundredths 7 ≡ codes "0.07"
+  pub great_mean : hundredths 12345 ≡ codes "123.45"
