@@ -364,12 +364,13 @@ First comes what one file has and the other lacks:
   no-table SWITCH             the dump has no table of this switch
   no-switch GUID              the dump has a table of a switch that FABRIC lacks
   no-port LID GUID            the LID is of a port that FABRIC lacks
-  no-lid PORT                 no row has a LID of this CA port, which has a cable
+  no-lid PORT                 this CA port has a cable, and no LID by FABRIC or by any row
   untold LID                  dump_fts leaves out the last LID of a table if it is a multiple of 64
 
 Then what is wrong at each switch, LID by LID:
   hole SWITCH LID (PORT)      it has no port for the LID
-  left-out SWITCH LID (PORT)  the dump has no row, and the switch has 128 ports or more: ask ibroute
+  left-out SWITCH LID (PORT)  dump_fts leaves out rows of ports from 128 on (ask ibroute), and the last
+                              LID of a table if it is a multiple of 64
   nowhere SWITCH LID (PORT) port P  that port has no cable
   wrong SWITCH LID (PORT) PORT      it leads to another end port, the last one
   loop LID (PORT) SWITCH SWITCH ..  the entries form a loop through these switches
