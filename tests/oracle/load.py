@@ -12,31 +12,30 @@ import audit  # noqa: E402
 
 
 def followed(net, place, lid):
-    """The ports by which packets leave switches, and whether they reach the end port of the LID."""
+    """The ports by which packets leave switches, and what comes of them: `reached`, `lost` or `unknown`."""
     ports, seen = set(), set()
     while place not in seen:
         seen.add(place)
         kind, what = net.turn(place, lid)
         if kind != "goes":
-            return ports, kind == "arrives" and what == net.ends[lid]
+            return ports, "unknown" if kind == "unknown" else "reached" if kind == "arrives" and what == net.ends[lid] else "lost"
         ports.add((place, net.entry(place, lid)))
         place = what
-    return ports, False
+    return ports, "lost"
 
 
 def load(net):
     """The lines."""
     sources = [(at[0], end) for at, end in net.far.items() if net.is_switch(at[0]) and net.is_host(end[0])]
     channels = sorted(at for at, end in net.far.items() if net.is_switch(at[0]) and net.is_switch(end[0]))
-    loads, pairs, lost = collections.Counter(), 0, 0
+    loads, fates = collections.Counter(), collections.Counter()
     for lid, end in net.ends.items():
         if not net.is_host(end[0]):
             continue
         for place in {place for place, _ in sources}:
             count = sum(1 for at, source in sources if at == place and source != end)
-            ports, reached = followed(net, place, lid)
-            pairs += count
-            lost += 0 if reached else count
+            ports, fate = followed(net, place, lid)
+            fates[fate] += count
             for port in ports:
                 loads[port] += count
     lines = [f"load {net.port(at)} {net.port(net.far[at])} {loads[at]}" for at in sorted(channels, key=lambda at: (-loads[at], at))]
@@ -44,7 +43,7 @@ def load(net):
         numbers = [loads[at] for at in channels]
         mean = sum(numbers) * 100 // len(numbers)
         lines += [f"most {max(numbers)}", f"least {min(numbers)}", f"mean {mean // 100}.{mean % 100:02}"]
-    return [*lines, f"pairs {pairs}, lost {lost}"]
+    return [*lines, f"pairs {fates.total()}, lost {fates['lost']}, unknown {fates['unknown']}"]
 
 
 if __name__ == "__main__":

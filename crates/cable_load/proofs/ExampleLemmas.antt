@@ -6,4 +6,4 @@ use Rattle.cable_load.specs.Text.{least_line, load_line, mean_line, most_line, p
 
 pub texts_are_so : TextsAreSo
 unfolding digits least_line load_line mean_line most_line pairs_line text_by text_of
-texts_are_so = record { even = refl; lost = refl; looped = refl; small_mean = refl; great_mean = refl }
+texts_are_so = record { even = refl; lost = refl; looped = refl; unknown = refl; small_mean = refl; great_mean = refl }

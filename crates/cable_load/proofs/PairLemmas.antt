@@ -15,13 +15,14 @@ use Rattle.route_audit.specs.declared.entry.Entry.{Entry}
 use Rattle.route_audit.specs.declared.entry.Entry.TheVariants.{Unreported}
 use Rattle.route_audit.specs.Channels.{is_out, leaves_by}
 use Rattle.route_audit.specs.Net.{NetState, entry, entry_in, table_of}
+use Rattle.route_audit.specs.declared.following.Fate.{Fate}
 use Rattle.route_audit.specs.declared.following.Fate.TheVariants as fates
 use Rattle.route_audit.specs.Following.{fate}
 use Rattle.route_audit.specs.Pairs.{is_fate}
-use Rattle.cable_load.specs.Counts.{counts_of, lost_from}
+use Rattle.cable_load.specs.Counts.{counted_by, counts_of}
 use Rattle.cable_load.specs.Sources.{Entrance, Pair, pair_from, pairs_in}
 use Rattle.cable_load.specs.Walk.{is_other, of_pairs, on_way, others, sum_at, AreSums, GrowBy}
-use Rattle.cable_load.specs.Ways.{goes_over, is_lost, is_on, way}
+use Rattle.cable_load.specs.Ways.{goes_over, is_lost, is_on, is_unknown, loses, way}
 use Rattle.cable_load.proofs.SumLemmas.{grow_same}
 
 abbrev pair_of : (lid : ℕ) → (end : PortRef) → (place : ℕ) → (source : PortRef) → Pair
@@ -137,16 +138,17 @@ sums_are net pairs sums has place number low = elim (cases_lt place (length net.
 ]
 
 -- ---- counts of those from one switch to one LID
-pub counts_from : (net : NetState) (lid : ℕ) (end : PortRef) (one : Entrance) (count lost : ℕ) → count ≡ others end one.ports → lost ≡ lost_from net one.place lid end count
-    → record { pairs = count; lost = lost } ≡ counts_of net (pairs_in lid end one)
-counts_from net lid end one count lost is lost_is =
-    let reached = is_fate fates.Reached (fate net lid end one.place) in
+pub counts_from : (net : NetState) (lid : ℕ) (end : PortRef) (one : Entrance) (count : ℕ) (found : Fate) → count ≡ others end one.ports
+    → found ≡ fate net lid end one.place → counted_by found count ≡ counts_of net (pairs_in lid end one)
+counts_from net lid end one count found is found_is =
+    let here = fate net lid end one.place in
     let all : count ≡ length (pairs_in lid end one) = is ∙ sym (length_pairs lid end one.place one.ports) in
-    let some : lost ≡ count_by (is_lost net) (pairs_in lid end one) =
-    lost_is ∙ turned reached count ∙ ap (λ (n : ℕ). cond (not reached) n 0) is
-    ∙ sym (count_pairs (is_lost net) (not reached) lid end one.place one.ports (λ source. refl)) in
-    ap (λ (n : ℕ). record { pairs = n; lost = lost }) all ∙ ap (λ (n : ℕ). record { pairs = length (pairs_in lid end one); lost = n }) some
-  where
-    turned : (b : Bool) (n : ℕ) → cond b 0 n ≡ cond (not b) n 0
-    turned true n = refl
-    turned false n = refl
+    let lost : cond (loses found) count 0 ≡ count_by (is_lost net) (pairs_in lid end one) =
+    ap (λ (f : Fate). cond (loses f) count 0) found_is ∙ ap (λ (n : ℕ). cond (loses here) n 0) is
+    ∙ sym (count_pairs (is_lost net) (loses here) lid end one.place one.ports (λ source. refl)) in
+    let unknown : cond (is_fate fates.Unknown found) count 0 ≡ count_by (is_unknown net) (pairs_in lid end one) =
+    ap (λ (f : Fate). cond (is_fate fates.Unknown f) count 0) found_is ∙ ap (λ (n : ℕ). cond (is_fate fates.Unknown here) n 0) is
+    ∙ sym (count_pairs (is_unknown net) (is_fate fates.Unknown here) lid end one.place one.ports (λ source. refl)) in
+    ap (λ (n : ℕ). record { pairs = n; lost = cond (loses found) count 0; unknown = cond (is_fate fates.Unknown found) count 0 }) all
+    ∙ ap (λ (n : ℕ). record { pairs = length (pairs_in lid end one); lost = n; unknown = cond (is_fate fates.Unknown found) count 0 }) lost
+    ∙ ap (λ (n : ℕ). record { pairs = length (pairs_in lid end one); lost = count_by (is_lost net) (pairs_in lid end one); unknown = n }) unknown

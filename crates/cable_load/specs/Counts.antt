@@ -1,21 +1,24 @@
--- How many pairs there are, and how many of these are lost.
+-- How many pairs there are, how many of these are lost, and of how many it is unknown whether they are.
 use Rattle.std.specs.Prelude.{ℕ, ◌+◌, List, count_by, length, if◌then◌else◌}
-use Rattle.fabric_parts.specs.declared.cable.PortRef.{PortRef}
+use Rattle.route_audit.specs.declared.following.Fate.{Fate}
 use Rattle.route_audit.specs.declared.following.Fate.TheVariants as fates
-use Rattle.route_audit.specs.Following.{fate}
 use Rattle.route_audit.specs.Net.{NetState}
 use Rattle.route_audit.specs.Pairs.{is_fate}
 use Rattle.cable_load.specs.declared.counting.Counts.{Counts}
 use Rattle.cable_load.specs.Sources.{Pair}
-use Rattle.cable_load.specs.Ways.{is_lost}
+use Rattle.cable_load.specs.Ways.{is_lost, is_unknown, loses}
 
 abbrev pub counts_of : NetState → List Pair → Counts
-counts_of net pairs = record { pairs = length pairs; lost = count_by (is_lost net) pairs }
+counts_of net pairs = record { pairs = length pairs; lost = count_by (is_lost net) pairs; unknown = count_by (is_unknown net) pairs }
 
 -- ---- steps of the code
 abbrev pub plus : Counts → Counts → Counts
-plus a b = record { pairs = a.pairs + b.pairs; lost = a.lost + b.lost }
+plus a b = record { pairs = a.pairs + b.pairs; lost = a.lost + b.lost; unknown = a.unknown + b.unknown }
 
--- of so many pairs from one switch to one LID all are lost, or none
-abbrev pub lost_from : NetState → (place lid : ℕ) → PortRef → (count : ℕ) → ℕ
-lost_from net place lid end count = if is_fate fates.Reached (fate net lid end place) then 0 else count
+-- of so many pairs from one switch to one LID all have one fate
+abbrev pub counted_by : Fate → (count : ℕ) → Counts
+counted_by found count = record {
+  pairs = count;
+  lost = if loses found then count else 0;
+  unknown = if is_fate fates.Unknown found then count else 0;
+}

@@ -22,6 +22,9 @@ abbrev pub with_ports : (first second third fourth : ℕ) → NetState
 with_ports first second third fourth =
     record { plan = plan_of a_plan; dump = record { tables = table_to 16 first second ∷ table_to 32 third fourth ∷ [] } }
 
+abbrev pub of_a_alone : (first second : ℕ) → NetState
+of_a_alone first second = record { plan = plan_of a_plan; dump = record { tables = table_to 16 first second ∷ [] } }
+
 abbrev pub both : List Aim
 both = record { lid = 1; guid = Some 257; end = Some (port 2 1) } ∷ record { lid = 2; guid = Some 513; end = Some (port 3 1) } ∷ []
 
@@ -33,16 +36,21 @@ pub record TextsAreSo : Type 0 where
   pub even :
       text_by (with_ports 1 2 2 1) both
       ≡ line (codes "load A/2 B/2 1") ++ line (codes "load B/2 A/2 1") ++ line (codes "most 1") ++ line (codes "least 1") ++ line (codes "mean 1.00")
-      ++ line (codes "pairs 2, lost 0")
+      ++ line (codes "pairs 2, lost 0, unknown 0")
   -- B has no port for LID 2, and sends LID 1 to a port without a cable
   pub lost :
       text_by (with_ports 1 2 9 255) both
       ≡ line (codes "load A/2 B/2 1") ++ line (codes "load B/2 A/2 0") ++ line (codes "most 1") ++ line (codes "least 0") ++ line (codes "mean 0.50")
-      ++ line (codes "pairs 2, lost 2")
+      ++ line (codes "pairs 2, lost 2, unknown 0")
   -- A and B send LID 2 to one another: its pair counts once on each
   pub looped :
       text_by (with_ports 1 2 2 2) both
       ≡ line (codes "load B/2 A/2 2") ++ line (codes "load A/2 B/2 1") ++ line (codes "most 2") ++ line (codes "least 1") ++ line (codes "mean 1.50")
-      ++ line (codes "pairs 2, lost 1")
+      ++ line (codes "pairs 2, lost 1, unknown 0")
+  -- of B the dump has no table
+  pub unknown :
+      text_by (of_a_alone 1 2) both
+      ≡ line (codes "load A/2 B/2 1") ++ line (codes "load B/2 A/2 0") ++ line (codes "most 1") ++ line (codes "least 0") ++ line (codes "mean 0.50")
+      ++ line (codes "pairs 2, lost 0, unknown 2")
   pub small_mean : hundredths 7 ≡ codes "0.07"
   pub great_mean : hundredths 12345 ≡ codes "123.45"

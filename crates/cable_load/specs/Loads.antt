@@ -7,7 +7,7 @@ use Rattle.route_audit.specs.Channels.{channels}
 use Rattle.route_audit.specs.Net.{NetState}
 use Rattle.cable_load.specs.declared.loaded.Loaded.{Loaded}
 use Rattle.cable_load.specs.Sources.{pairs_by}
-use Rattle.cable_load.specs.Ways.{goes_over, is_lost}
+use Rattle.cable_load.specs.Ways.{goes_over}
 
 -- to these LIDs
 abbrev pub load : NetState → List Aim → PortRef → ℕ
@@ -23,9 +23,6 @@ loads net all = map (loaded net all) (channels net)
 -- ---- counts
 abbrev pub pair_count : NetState → List Aim → ℕ
 pair_count net all = length (pairs_by net all)
-
-abbrev pub lost_count : NetState → List Aim → ℕ
-lost_count net all = count_by (is_lost net) (pairs_by net all)
 
 -- ---- the greatest load, the least, and the sum
 abbrev pub greater : ℕ → Loaded → ℕ

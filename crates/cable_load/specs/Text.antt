@@ -11,8 +11,11 @@ use Rattle.route_audit.specs.Lines.{port_text}
 use Rattle.route_audit.specs.Net.{NetState}
 use Rattle.route_audit.specs.Plan.{PlanState, plan_found, plan_of}
 use Rattle.cable_load.specs.declared.loaded.Loaded.{Loaded}
-use Rattle.cable_load.specs.Loads.{least_of, loads, lost_count, mean_of, most_of, pair_count}
+use Rattle.cable_load.specs.declared.counting.Counts.{Counts}
+use Rattle.cable_load.specs.Counts.{counts_of}
+use Rattle.cable_load.specs.Loads.{least_of, loads, mean_of, most_of}
 use Rattle.cable_load.specs.Order.{ordered}
+use Rattle.cable_load.specs.Sources.{pairs_by}
 
 -- ---- `load A/3 B/3 12`: the channel's port, the port at the other end of its cable, and how many pairs go over it
 abbrev pub end_text : NetState → Option PortRef → List ℕ
@@ -40,16 +43,18 @@ abbrev pub summary : List Loaded → List ℕ
 summary [] = []
 summary (one ∷ rest) = most_line (one ∷ rest) ++ least_line (one ∷ rest) ++ mean_line (one ∷ rest)
 
--- ---- `pairs 12, lost 0`: lost are those that do not reach the end port of their LID
-unfoldable pub pairs_line : ℕ → ℕ → List ℕ
-pairs_line count lost = codes "pairs " ++ decimal count ++ codes ", lost " ++ decimal lost ++ 10 ∷ []
+-- ---- `pairs 12, lost 0, unknown 0`: lost are those that do not reach the end port of their LID, unknown those that come to an
+-- entry that is not reported
+unfoldable pub pairs_line : Counts → List ℕ
+pairs_line counts =
+    codes "pairs " ++ decimal counts.pairs ++ codes ", lost " ++ decimal counts.lost ++ codes ", unknown " ++ decimal counts.unknown ++ 10 ∷ []
 
 -- ---- the whole
-unfoldable pub text_of : NetState → List Loaded → ℕ → ℕ → List ℕ
-text_of net all count lost = flat_map (load_line net) (ordered all) ++ summary all ++ pairs_line count lost
+unfoldable pub text_of : NetState → List Loaded → Counts → List ℕ
+text_of net all counts = flat_map (load_line net) (ordered all) ++ summary all ++ pairs_line counts
 
 unfoldable pub text_by : NetState → List Aim → List ℕ
-text_by net all = text_of net (loads net all) (pair_count net all) (lost_count net all)
+text_by net all = text_of net (loads net all) (counts_of net (pairs_by net all))
 
 unfoldable pub load_text_of : NetState → List ℕ
 load_text_of net = text_by net (aims net)

@@ -1,7 +1,8 @@
 -- The way of a LID from a switch: the switches that packets come to along the entries, and the ports by which they leave these.
-use Rattle.std.specs.Prelude.{ℕ, zero, suc, ◌==◌, ◌&&◌, Bool, not, List, [], ◌∷◌}
+use Rattle.std.specs.Prelude.{ℕ, zero, suc, ◌==◌, ◌&&◌, ◌||◌, Bool, not, List, [], ◌∷◌}
 use Rattle.std.specs.List.{list_any}
 use Rattle.fabric_parts.specs.declared.cable.PortRef.{PortRef}
+use Rattle.route_audit.specs.declared.following.Fate.{Fate}
 use Rattle.route_audit.specs.declared.following.Fate.TheVariants as fates
 use Rattle.route_audit.specs.declared.following.Turn.{Turn}
 use Rattle.route_audit.specs.declared.following.Turn.TheVariants as turns
@@ -36,5 +37,17 @@ passes net lid place at = is_on at.node (way net lid place) && leaves_by net at 
 abbrev pub goes_over : NetState → PortRef → Pair → Bool
 goes_over net at pair = passes net pair.lid pair.place at
 
+-- what comes of its packets
+abbrev pub fate_of : NetState → Pair → Fate
+fate_of net pair = fate net pair.lid pair.end pair.place
+
+-- they come to an entry that is not reported
+abbrev pub is_unknown : NetState → Pair → Bool
+is_unknown net pair = is_fate fates.Unknown (fate_of net pair)
+
+-- or they end elsewhere than at the end port of the LID, or never
+abbrev pub loses : Fate → Bool
+loses found = not (is_fate fates.Reached found || is_fate fates.Unknown found)
+
 abbrev pub is_lost : NetState → Pair → Bool
-is_lost net pair = not (is_fate fates.Reached (fate net pair.lid pair.end pair.place))
+is_lost net pair = loses (fate_of net pair)

@@ -1,7 +1,7 @@
-//! How many pairs there are, and how many of these are lost.
+//! How many pairs there are, how many of these are lost, and of how many it is unknown whether they are.
 
 ghost use Rattle.std.specs.Prelude.{◌≡◌, ◌+◌, length, flat_map, IfOk, OnOk};
-ghost use Rattle.cable_load.specs.Counts.{counts_of, lost_from, plus};
+ghost use Rattle.cable_load.specs.Counts.{counted_by, counts_of, plus};
 ghost use Rattle.cable_load.specs.Sources.{entrances, pairs_by, pairs_in, pairs_to};
 
 use crate::loads::{Target, target_of};
@@ -9,32 +9,48 @@ use crate::sources::Entrance;
 use route_audit::{Aim, Fate, Net};
 use std::alloc::AllocError;
 
-/// A number of pairs, and how many of these do not reach the end port of their LID.
+/// A number of pairs.
 #[derive(Clone, Copy)]
 pub(crate) struct Counts {
     pub(crate) pairs: usize,
+    /// How many of them do not reach the end port of their LID.
     pub(crate) lost: usize,
+    /// How many come to an entry that is not reported.
+    pub(crate) unknown: usize,
 }
 
-/// Those of so many pairs that are lost, from one switch to one LID.
-fn lost_from(net: &Net<'_>, place: usize, target: Target, count: usize) -> usize
-    ensures { result ≡ lost_from net.now place target.lid target.end count }
+/// So many pairs from one switch to one LID: all have one fate.
+fn counted_by(fate: Fate, count: usize) -> Counts
+    ensures { result ≡ counted_by fate count }
 {
-    match net.fate(target.lid, target.end, place) {
-        Fate::Reached => 0,
-        _ => count,
+    let (lost, unknown) = match fate {
+        Fate::Reached => (0, 0),
+        Fate::Unknown => (0, count),
+        _ => (count, 0),
+    };
+    Counts {
+        pairs: count,
+        lost,
+        unknown,
     }
 }
 
 /// Both together. A sum that is too great is refused as if memory ran out.
-fn plus(one: Counts, pairs: usize, lost: usize) -> Result<Counts, AllocError>
-    ensures { IfOk result (λ sum. sum ≡ plus one (record { pairs = pairs; lost = lost })) }
+fn plus(one: Counts, more: Counts) -> Result<Counts, AllocError>
+    ensures { IfOk result (λ sum. sum ≡ plus one more) }
 {
-    let (Some(pairs), Some(lost)) = (one.pairs.checked_add(pairs), one.lost.checked_add(lost))
-    else {
+    let (Some(pairs), Some(lost), Some(unknown)) = (
+        one.pairs.checked_add(more.pairs),
+        one.lost.checked_add(more.lost),
+        one.unknown.checked_add(more.unknown),
+    ) else {
         return Err(AllocError);
     };
-    Ok(Counts { pairs, lost })
+    Ok(Counts {
+        pairs,
+        lost,
+        unknown,
+    })
 }
 
 /// With what goes to a LID from one switch.
@@ -47,7 +63,8 @@ fn with_from(
     ensures { IfOk result (λ sum. sum ≡ plus counts (counts_of net.now (pairs_in target.lid target.end one.now))) }
 {
     let count = one.others(target.end);
-    plus(counts, count, lost_from(net, one.place(), target, count))
+    let found = net.fate(target.lid, target.end, one.place());
+    plus(counts, counted_by(found, count))
 }
 
 /// With what goes to a LID from all these switches.
@@ -82,7 +99,11 @@ pub(crate) fn counted(net: &Net<'_>, all: &[Entrance], aims: &[Aim]) -> Result<C
     requires { all.now ≡ entrances net.now }
     ensures { IfOk result (λ sum. sum ≡ counts_of net.now (pairs_by net.now aims.now)) }
 {
-    let mut sum = Counts { pairs: 0, lost: 0 };
+    let mut sum = Counts {
+        pairs: 0,
+        lost: 0,
+        unknown: 0,
+    };
     for aim in aims {
         sum = with_to(net, sum, all, aim)?;
     }

@@ -157,12 +157,14 @@ fn push_summary(text: &mut Vec<u8>, all: &[Loaded]) -> Result<(), AllocError>
 
 #[tactic(auto, unfolding(crate::specs::Text::pairs_line))]
 fn push_pairs(text: &mut Vec<u8>, counts: Counts) -> Result<(), AllocError>
-    ensures { OnOk result (text.new.items ≡ text.old.items ++ pairs_line counts.pairs counts.lost) }
+    ensures { OnOk result (text.new.items ≡ text.old.items ++ pairs_line counts) }
 {
     text.extend_from_slice(b"pairs ")?;
     push_decimal(text, counts.pairs)?;
     text.extend_from_slice(b", lost ")?;
     push_decimal(text, counts.lost)?;
+    text.extend_from_slice(b", unknown ")?;
+    push_decimal(text, counts.unknown)?;
     text.push(b'\n')?;
     Ok(())
 }
@@ -174,7 +176,7 @@ fn text_of(
     loads: Vec<Loaded>,
     counts: Counts,
 ) -> Result<Vec<u8>, AllocError>
-    ensures { IfOk result (λ text. text.items ≡ text_of net.now loads.items counts.pairs counts.lost) }
+    ensures { IfOk result (λ text. text.items ≡ text_of net.now loads.items counts) }
 {
     let mut rest = Vec::new(alloc);
     push_summary(&mut rest, &loads)?;

@@ -417,11 +417,12 @@ from the first port to the second. The greatest load comes first:
   load PORT PORT PAIRS
 
 Then come the greatest load, the least and the mean, and the number of pairs. Lost are those that do
-not reach the port of their LID; they count on the cables that they use, and in a loop once on each:
+not reach the port of their LID, unknown those that come to an entry that the dump does not show. Both
+count on the cables that they use, and in a loop once on each:
   most PAIRS
   least PAIRS
   mean PAIRS
-  pairs PAIRS, lost PAIRS
+  pairs PAIRS, lost PAIRS, unknown PAIRS
 
 For example, for your own fabric:
   ibnetdiscover >discovered
