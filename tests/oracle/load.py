@@ -24,6 +24,31 @@ def followed(net, place, lid):
     return ports, "lost"
 
 
+def hundredths(number):
+    return f"{number // 100}.{number % 100:02}"
+
+
+def distances(net):
+    """Of each switch how many links lead to the nearest one to which a host is attached."""
+    front = {at[0] for at, end in net.far.items() if net.is_switch(at[0]) and net.is_host(end[0])}
+    found = {}
+    while front:
+        found.update({place: max(found.values(), default=-1) + 1 for place in front})
+        nexts = {at[0] for at, end in net.far.items() if net.is_switch(at[0]) and end[0] in front}
+        front = {place for place in nexts if place not in found}
+    return found
+
+
+def level_lines(net, loads, channels):
+    levels = distances(net)
+    for level in range(16):
+        numbers = [loads[at] for at in channels if levels.get(at[0]) == level]
+        if numbers:
+            total = sum(numbers)
+            ratio = max(numbers) * len(numbers) * 100 // total if total else 0
+            yield f"level {level} most {max(numbers)} mean {hundredths(total * 100 // len(numbers))} ratio {hundredths(ratio)}"
+
+
 def load(net):
     """The lines."""
     sources = [(at[0], end) for at, end in net.far.items() if net.is_switch(at[0]) and net.is_host(end[0])]
@@ -41,8 +66,8 @@ def load(net):
     lines = [f"load {net.port(at)} {net.port(net.far[at])} {loads[at]}" for at in sorted(channels, key=lambda at: (-loads[at], at))]
     if channels:
         numbers = [loads[at] for at in channels]
-        mean = sum(numbers) * 100 // len(numbers)
-        lines += [f"most {max(numbers)}", f"least {min(numbers)}", f"mean {mean // 100}.{mean % 100:02}"]
+        lines += [f"most {max(numbers)}", f"least {min(numbers)}", f"mean {hundredths(sum(numbers) * 100 // len(numbers))}"]
+        lines += level_lines(net, loads, channels)
     return [*lines, f"pairs {fates.total()}, lost {fates['lost']}, unknown {fates['unknown']}"]
 
 

@@ -4,5 +4,6 @@ pub mod PairLemmas
 pub mod OrderLemmas
 pub mod LineLemmas
 pub mod WholeLemmas
+pub mod LevelLemmas
 pub mod WrongLemmas
 pub mod ExampleLemmas

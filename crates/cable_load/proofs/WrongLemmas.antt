@@ -1,8 +1,9 @@
 -- What is wrong with the wrong rules.
-use Rattle.std.proofs.Common.{◌≡◌, refl, sym, ◌≤◌, [], ◌∷◌, arith}
+use Rattle.std.proofs.Common.{ℕ, ◌≡◌, refl, sym, ◌≤◌, List, [], ◌∷◌, length, lit<, arith}
 use Rattle.std.proofs.lemmas.Bool.{false≢true}
 use Rattle.fabric_parts.specs.Cable.{port}
-use Rattle.cable_load.specs.WrongRules.{LostPairsLoad, PairsCountOnce, UnusedChannelsHaveALine, WaysGoOn, to_k, two_switches}
+use Rattle.cable_load.specs.Laws.{LeadsToHost}
+use Rattle.cable_load.specs.WrongRules.{LevelsBeginAt0, LostPairsLoad, NotAllAreLeaves, PairsCountOnce, UnusedChannelsHaveALine, WaysGoOn, no_hosts, to_k, two_switches}
 
 -- A sends LID 2 to B
 pub ways_go_on : WaysGoOn
@@ -18,3 +19,14 @@ pairs_count_once law = let most : 2 ≤ 1 = law (two_switches 2 1) to_k (port 0 
 -- nothing goes over the cable from B to A
 pub unused_channels_have_a_line : UnusedChannelsHaveALine
 unused_channels_have_a_line law = let none : 0 ≡ 1 = law (two_switches 2 1) to_k (port 1 2) in absurd (omega (arith, none))
+
+-- a host is attached to A, whose level is 0
+pub levels_begin_at_0 : LevelsBeginAt0
+levels_begin_at_0 law = let most : 1 ≤ 0 = law.least (two_switches 1 1) 0 [] refl (lit< tt) in absurd (omega (arith, most))
+
+pub not_all_are_leaves : NotAllAreLeaves
+not_all_are_leaves law = let way = law.there no_hosts 0 (lit< tt) in by way.0 way.1 way.2
+  where
+    by : (over : List ℕ) → length over ≡ 0 → LeadsToHost no_hosts 0 over → ⊥
+    by [] none leads = false≢true leads
+    by (before ∷ rest) none leads = absurd (omega (arith, none))

@@ -36,21 +36,21 @@ pub record TextsAreSo : Type 0 where
   pub even :
       text_by (with_ports 1 2 2 1) both
       ≡ line (codes "load A/2 B/2 1") ++ line (codes "load B/2 A/2 1") ++ line (codes "most 1") ++ line (codes "least 1") ++ line (codes "mean 1.00")
-      ++ line (codes "pairs 2, lost 0, unknown 0")
+      ++ line (codes "level 0 most 1 mean 1.00 ratio 1.00") ++ line (codes "pairs 2, lost 0, unknown 0")
   -- B has no port for LID 2, and sends LID 1 to a port without a cable
   pub lost :
       text_by (with_ports 1 2 9 255) both
       ≡ line (codes "load A/2 B/2 1") ++ line (codes "load B/2 A/2 0") ++ line (codes "most 1") ++ line (codes "least 0") ++ line (codes "mean 0.50")
-      ++ line (codes "pairs 2, lost 2, unknown 0")
+      ++ line (codes "level 0 most 1 mean 0.50 ratio 2.00") ++ line (codes "pairs 2, lost 2, unknown 0")
   -- A and B send LID 2 to one another: its pair counts once on each
   pub looped :
       text_by (with_ports 1 2 2 2) both
       ≡ line (codes "load B/2 A/2 2") ++ line (codes "load A/2 B/2 1") ++ line (codes "most 2") ++ line (codes "least 1") ++ line (codes "mean 1.50")
-      ++ line (codes "pairs 2, lost 1, unknown 0")
+      ++ line (codes "level 0 most 2 mean 1.50 ratio 1.33") ++ line (codes "pairs 2, lost 1, unknown 0")
   -- of B the dump has no table
   pub unknown :
       text_by (of_a_alone 1 2) both
       ≡ line (codes "load A/2 B/2 1") ++ line (codes "load B/2 A/2 0") ++ line (codes "most 1") ++ line (codes "least 0") ++ line (codes "mean 0.50")
-      ++ line (codes "pairs 2, lost 0, unknown 2")
+      ++ line (codes "level 0 most 1 mean 0.50 ratio 2.00") ++ line (codes "pairs 2, lost 0, unknown 2")
   pub small_mean : hundredths 7 ≡ codes "0.07"
   pub great_mean : hundredths 12345 ≡ codes "123.45"

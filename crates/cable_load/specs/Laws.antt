@@ -1,14 +1,19 @@
 -- What is so of all fabrics, dumps and LIDs: the statements of the laws of `src/laws.rt`.
-use Rattle.std.specs.Prelude.{ℕ, ◌≤◌, ◌≡◌, ◌==◌, Bool, true, not, List, count_by, if◌then◌else◌}
+use Rattle.std.specs.Prelude.{ℕ, ◌+◌, ◌<◌, ◌≤◌, ◌≡◌, ◌==◌, Bool, true, not, List, [], ◌∷◌, count_by, length, if◌then◌else◌}
 use Rattle.std.specs.List.{list_any}
 use Rattle.fabric_parts.specs.Cable.{is_same_port}
 use Rattle.fabric_parts.specs.declared.cable.PortRef.{PortRef}
-use Rattle.topo_file.specs.Node.{is_switch_at}
+use Rattle.topo_file.specs.Node.{is_switch_at, ports_at}
+use Rattle.route_audit.specs.declared.entry.Entry.TheVariants.{Out}
+use Rattle.route_audit.specs.declared.following.Turn.TheVariants as turns
 use Rattle.route_audit.specs.declared.lids.Aim.{Aim}
 use Rattle.route_audit.specs.Channels.{channels}
+use Rattle.route_audit.specs.Following.{turn_by}
 use Rattle.route_audit.specs.Laws.{ComesBy}
 use Rattle.route_audit.specs.Net.{NetState}
+use Rattle.cable_load.specs.declared.levels.TheConstants.{LEVELS}
 use Rattle.cable_load.specs.declared.loaded.Loaded.{Loaded}
+use Rattle.cable_load.specs.Levels.{carries, level_of}
 use Rattle.cable_load.specs.Loads.{load, loads, pair_count}
 use Rattle.cable_load.specs.Order.{ordered}
 use Rattle.cable_load.specs.Sources.{pairs_by}
@@ -55,3 +60,18 @@ lines_of net all = ordered (loads net all)
 
 abbrev pub EachChannelHasOneLine : Type 0
 EachChannelHasOneLine = NamesEachOnce lines_of
+
+-- ---- levels
+-- out of the ports behind these numbers, one after the other, links lead to a switch that carries a host
+abbrev pub LeadsToHost : NetState → ℕ → List ℕ → Type 0
+LeadsToHost net place [] = carries net place ≡ true
+LeadsToHost net place (before ∷ rest) =
+    (next : ℕ) × (before < ports_at net.plan.nodes place) × (turn_by net place (Out (before + 1)) ≡ turns.Goes next) × LeadsToHost net next rest
+
+-- the level is the length of the shortest such way, if that is below `LEVELS`
+pub record MeasuresLevels (level : NetState → ℕ → ℕ) : Type 0 where
+  pub least : (net : NetState) (place : ℕ) (over : List ℕ) → LeadsToHost net place over → length over < LEVELS → level net place ≤ length over
+  pub there : (net : NetState) (place : ℕ) → level net place < LEVELS → (over : List ℕ) × (length over ≡ level net place) × LeadsToHost net place over
+
+abbrev pub LevelsAreDistances : Type 0
+LevelsAreDistances = MeasuresLevels level_of

@@ -3,6 +3,7 @@ pub mod Ways
 pub mod Loads
 pub mod Counts
 pub mod Order
+pub mod Levels
 pub mod Text
 pub mod Walk
 pub mod Laws

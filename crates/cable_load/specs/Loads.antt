@@ -1,5 +1,5 @@
 -- How many pairs go over each channel. A channel is a port of a switch that has a cable to a switch: a direction of a cable.
-use Rattle.std.specs.Prelude.{ℕ, ◌*◌, ◌/◌, nat_lt, List, count_by, length, map, if◌then◌else◌}
+use Rattle.std.specs.Prelude.{ℕ, ◌*◌, ◌/◌, ◌==◌, nat_lt, List, count_by, length, map, if◌then◌else◌}
 use Rattle.std.specs.List.{fold, sum_by}
 use Rattle.fabric_parts.specs.declared.cable.PortRef.{PortRef}
 use Rattle.route_audit.specs.declared.lids.Aim.{Aim}
@@ -43,3 +43,7 @@ total_of all = sum_by (λ one. one.load) all
 -- in hundredths, rounded down
 abbrev pub mean_of : List Loaded → ℕ
 mean_of all = total_of all * 100 / length all
+
+-- how many times the mean the greatest is, in hundredths, rounded down; 0 if there is no load
+abbrev pub ratio_of : List Loaded → ℕ
+ratio_of all = if total_of all == 0 then 0 else most_of all * length all * 100 / total_of all

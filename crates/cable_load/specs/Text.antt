@@ -1,5 +1,6 @@
 -- What is printed of the loads of a fabric.
 use Rattle.std.specs.Prelude.{ℕ, ◌/◌, ◌%◌, List, [], ◌∷◌, ◌++◌, codes, decimal, flat_map, Option, Some, None}
+use Rattle.std.specs.List.{range_with_len}
 use Rattle.dump_file.specs.Dump.{DumpState}
 use Rattle.fabric_parts.specs.Cable.{far_end}
 use Rattle.fabric_parts.specs.declared.cable.PortRef.{PortRef}
@@ -13,7 +14,9 @@ use Rattle.route_audit.specs.Plan.{PlanState, plan_found, plan_of}
 use Rattle.cable_load.specs.declared.loaded.Loaded.{Loaded}
 use Rattle.cable_load.specs.declared.counting.Counts.{Counts}
 use Rattle.cable_load.specs.Counts.{counts_of}
-use Rattle.cable_load.specs.Loads.{least_of, loads, mean_of, most_of}
+use Rattle.cable_load.specs.declared.levels.TheConstants.{LEVELS}
+use Rattle.cable_load.specs.Levels.{of_level}
+use Rattle.cable_load.specs.Loads.{least_of, loads, mean_of, most_of, ratio_of}
 use Rattle.cable_load.specs.Order.{ordered}
 use Rattle.cable_load.specs.Sources.{pairs_by}
 
@@ -43,6 +46,23 @@ abbrev pub summary : List Loaded → List ℕ
 summary [] = []
 summary (one ∷ rest) = most_line (one ∷ rest) ++ least_line (one ∷ rest) ++ mean_line (one ∷ rest)
 
+-- ---- of the channels that leave switches of each level, if there is one: `level 1 most 12 mean 7.33 ratio 1.63`
+unfoldable pub level_words : ℕ → List Loaded → List ℕ
+level_words level all = codes "level " ++ decimal level ++ codes " most " ++ decimal (most_of all)
+
+unfoldable pub level_means : List Loaded → List ℕ
+level_means all = codes " mean " ++ hundredths (mean_of all) ++ codes " ratio " ++ hundredths (ratio_of all) ++ 10 ∷ []
+
+abbrev pub level_line : ℕ → List Loaded → List ℕ
+level_line level [] = []
+level_line level (one ∷ rest) = level_words level (one ∷ rest) ++ level_means (one ∷ rest)
+
+abbrev pub level_text : NetState → List Loaded → ℕ → List ℕ
+level_text net all level = level_line level (of_level net all level)
+
+abbrev pub levels_text : NetState → List Loaded → List ℕ
+levels_text net all = flat_map (level_text net all) (range_with_len 0 LEVELS)
+
 -- ---- `pairs 12, lost 0, unknown 0`: lost are those that do not reach the end port of their LID, unknown those that come to an
 -- entry that is not reported
 unfoldable pub pairs_line : Counts → List ℕ
@@ -51,7 +71,7 @@ pairs_line counts =
 
 -- ---- the whole
 unfoldable pub text_of : NetState → List Loaded → Counts → List ℕ
-text_of net all counts = flat_map (load_line net) (ordered all) ++ summary all ++ pairs_line counts
+text_of net all counts = flat_map (load_line net) (ordered all) ++ summary all ++ levels_text net all ++ pairs_line counts
 
 unfoldable pub text_by : NetState → List Aim → List ℕ
 text_by net all = text_of net (loads net all) (counts_of net (pairs_by net all))

@@ -1,5 +1,5 @@
 -- Wrong rules for what is reported, and the law that each breaks.
-use Rattle.std.specs.Prelude.{ℕ, ◌*◌, ◌==◌, ◌&&◌, not, List, [], ◌∷◌, codes, count_by, filter, Some}
+use Rattle.std.specs.Prelude.{ℕ, ◌+◌, ◌*◌, ◌==◌, ◌&&◌, not, List, [], ◌∷◌, codes, count_by, filter, Some}
 use Rattle.dump_file.specs.declared.destination.Destination.TheVariants as destinations
 use Rattle.dump_file.specs.declared.table.Table.{Table}
 use Rattle.fabric_parts.specs.Cable.{port}
@@ -12,7 +12,8 @@ use Rattle.route_audit.specs.declared.lids.Aim.{Aim}
 use Rattle.route_audit.specs.Net.{NetState}
 use Rattle.route_audit.specs.Plan.{plan_of}
 use Rattle.cable_load.specs.declared.loaded.Loaded.{Loaded}
-use Rattle.cable_load.specs.Laws.{FollowsWays, NamesEachOnce, ReportsUnused, StaysWithin, lines_of}
+use Rattle.cable_load.specs.Laws.{FollowsWays, MeasuresLevels, NamesEachOnce, ReportsUnused, StaysWithin, lines_of}
+use Rattle.cable_load.specs.Levels.{level_of}
 use Rattle.cable_load.specs.Loads.{load}
 use Rattle.cable_load.specs.Sources.{pairs_by}
 use Rattle.cable_load.specs.Ways.{goes_over, is_lost, way_within}
@@ -67,3 +68,21 @@ used_lines net all = filter (λ one. not (one.load == 0)) (lines_of net all)
 
 abbrev pub UnusedChannelsHaveALine : Type 0
 UnusedChannelsHaveALine = NamesEachOnce used_lines → ⊥
+
+-- ---- a level counts the switches of a way, and not its links
+abbrev pub counted_from_1 : NetState → ℕ → ℕ
+counted_from_1 net place = level_of net place + 1
+
+abbrev pub LevelsBeginAt0 : Type 0
+LevelsBeginAt0 = MeasuresLevels counted_from_1 → ⊥
+
+-- ---- all switches have one level
+abbrev pub all_leaves : NetState → ℕ → ℕ
+all_leaves net place = 0
+
+abbrev pub NotAllAreLeaves : Type 0
+NotAllAreLeaves = MeasuresLevels all_leaves → ⊥
+
+-- no host is attached to any switch of this fabric
+abbrev pub no_hosts : NetState
+no_hosts = record { plan = plan_of (record a_plan { cables = record { first = port 0 2; second = port 1 2 } ∷ [] }); dump = record { tables = [] } }

@@ -1,10 +1,22 @@
 //! Laws of all loads. The functions do nothing; their clauses are the theorems.
 
-ghost use Rattle.cable_load.specs.Laws.{EachChannelHasOneLine, LoadsAreOfPairs, LoadsStayWithin, WaysAreWhole};
+ghost use Rattle.std.specs.Prelude.{◌≡◌};
+ghost use Rattle.cable_load.specs.declared.levels.TheConstants.{LEVELS};
+ghost use Rattle.cable_load.specs.Laws.{EachChannelHasOneLine, LevelsAreDistances, LoadsAreOfPairs, LoadsStayWithin, WaysAreWhole};
 
 /// A switch is on the way of a LID if and only if packets come to it along the entries, over however many switches.
 pub fn ways_are_whole()
     ensures { WaysAreWhole }
+{}
+
+/// The level of a switch is the least number of links from it to a switch to which a host is attached.
+pub fn levels_are_distances()
+    ensures { LevelsAreDistances }
+{}
+
+/// How many levels there are. The number is ours.
+pub fn the_numbers()
+    ensures { LEVELS ≡ 16 }
 {}
 
 /// A channel has the load 0 if and only if no pair goes over it.

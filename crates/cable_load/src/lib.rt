@@ -9,6 +9,7 @@
 mod counting;
 mod examples;
 mod laws;
+mod levels;
 mod loaded;
 mod loads;
 mod marks;
@@ -21,7 +22,9 @@ mod wrong_rules;
 
 pub use crate::examples::texts_are_so;
 pub use crate::laws::{
-    each_channel_has_one_line, loads_are_of_pairs, loads_stay_within, ways_are_whole,
+    each_channel_has_one_line, levels_are_distances, loads_are_of_pairs, loads_stay_within,
+    the_numbers, ways_are_whole,
 };
+pub use crate::levels::LEVELS;
 pub use crate::loaded::Loaded;
 pub use crate::texts::{load_text, load_text_found};

@@ -88,7 +88,11 @@ fn push_host_behind(
     push_host_at(net, ports, at)
 }
 
-fn attached(net: &Net<'_>, alloc: Global, place: usize) -> Result<Vec<PortRef>, AllocError>
+pub(crate) fn attached(
+    net: &Net<'_>,
+    alloc: Global,
+    place: usize,
+) -> Result<Vec<PortRef>, AllocError>
     ensures { IfOk result (λ ports. ports.items ≡ attached net.now place) }
 {
     let mut ports = Vec::new(alloc);

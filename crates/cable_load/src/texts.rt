@@ -3,12 +3,15 @@
 ghost use Rattle.std.specs.Prelude.{◌≡◌, ◌++◌, ◌<◌, ◌/◌, flat_map, length, IfOk, OnOk};
 ghost use Rattle.std.specs.List.{fold};
 ghost use Rattle.route_audit.specs.Plan.{PlanState};
-ghost use Rattle.cable_load.specs.Loads.{greater, least_of, lesser, loads, mean_of, most_of, total_of};
+ghost use Rattle.cable_load.specs.Levels.{rounds_of};
+ghost use Rattle.cable_load.specs.Loads.{greater, least_of, lesser, loads, mean_of, most_of, ratio_of, total_of};
+ghost use Rattle.cable_load.specs.Text.{level_line, level_means, level_text, level_words, levels_text};
 ghost use Rattle.cable_load.specs.Counts.{counts_of};
 ghost use Rattle.cable_load.specs.Sources.{pairs_by};
 ghost use Rattle.cable_load.specs.Text.{end_text, hundredths, least_line, load_line, load_of_plan, load_text, load_text_found, load_text_of, mean_line, most_line, pairs_line, summary, text_by, text_of};
 
 use crate::counting::{Counts, counted};
+use crate::levels::{LEVELS, Round, of_level, rounds};
 use crate::loaded::Loaded;
 use crate::loads::loads;
 use crate::order::ordered;
@@ -124,6 +127,23 @@ fn push_least(text: &mut Vec<u8>, all: &[Loaded]) -> Result<(), AllocError>
     Ok(())
 }
 
+/// How many times the mean the greatest load is, in hundredths.
+fn ratio_of(all: &[Loaded]) -> Result<usize, AllocError>
+    ensures { IfOk result (λ ratio. ratio ≡ ratio_of all.now) }
+{
+    let total = total_of(all)?;
+    if total == 0 {
+        return Ok(0);
+    }
+    let Some(product) = (most_of(all) as u128).checked_mul(all.len() as u128) else {
+        return Err(AllocError);
+    };
+    let Some(hundredfold) = product.checked_mul(100) else {
+        return Err(AllocError);
+    };
+    usize::try_from(hundredfold / total).map_err(|_| AllocError)
+}
+
 fn push_hundredths(text: &mut Vec<u8>, number: usize) -> Result<(), AllocError>
     ensures { OnOk result (text.new.items ≡ text.old.items ++ hundredths number) }
 {
@@ -155,6 +175,69 @@ fn push_summary(text: &mut Vec<u8>, all: &[Loaded]) -> Result<(), AllocError>
     push_mean(text, all)
 }
 
+#[tactic(auto, unfolding(crate::specs::Text::level_words))]
+fn push_level_words(text: &mut Vec<u8>, level: usize, all: &[Loaded]) -> Result<(), AllocError>
+    ensures { OnOk result (text.new.items ≡ text.old.items ++ level_words level all.now) }
+{
+    text.extend_from_slice(b"level ")?;
+    push_decimal(text, level)?;
+    text.extend_from_slice(b" most ")?;
+    push_decimal(text, most_of(all))
+}
+
+#[tactic(auto, unfolding(crate::specs::Text::level_means))]
+fn push_level_means(text: &mut Vec<u8>, all: &[Loaded]) -> Result<(), AllocError>
+    requires { 0 < length all.now }
+    ensures { OnOk result (text.new.items ≡ text.old.items ++ level_means all.now) }
+{
+    text.extend_from_slice(b" mean ")?;
+    push_hundredths(text, mean_of(all)?)?;
+    text.extend_from_slice(b" ratio ")?;
+    push_hundredths(text, ratio_of(all)?)?;
+    text.push(b'\n')?;
+    Ok(())
+}
+
+fn push_level(text: &mut Vec<u8>, level: usize, all: &[Loaded]) -> Result<(), AllocError>
+    ensures { OnOk result (text.new.items ≡ text.old.items ++ level_line level all.now) }
+{
+    if all.is_empty() {
+        return Ok(());
+    }
+    push_level_words(text, level, all)?;
+    push_level_means(text, all)
+}
+
+fn push_level_of(
+    net: &Net<'_>,
+    alloc: Global,
+    text: &mut Vec<u8>,
+    rounds: &[Round],
+    all: &[Loaded],
+    level: usize,
+) -> Result<(), AllocError>
+    requires { rounds.now ≡ rounds_of net.now }
+    ensures { OnOk result (text.new.items ≡ text.old.items ++ level_text net.now all.now level) }
+{
+    let some = of_level(net, alloc, rounds, all, level)?;
+    push_level(text, level, &some)
+}
+
+fn push_levels(
+    net: &Net<'_>,
+    alloc: Global,
+    text: &mut Vec<u8>,
+    all: &[Loaded],
+) -> Result<(), AllocError>
+    ensures { OnOk result (text.new.items ≡ text.old.items ++ levels_text net.now all.now) }
+{
+    let rounds = rounds(net, alloc)?;
+    for level in 0..LEVELS {
+        push_level_of(net, alloc, text, &rounds, all, level)?;
+    }
+    Ok(())
+}
+
 #[tactic(auto, unfolding(crate::specs::Text::pairs_line))]
 fn push_pairs(text: &mut Vec<u8>, counts: Counts) -> Result<(), AllocError>
     ensures { OnOk result (text.new.items ≡ text.old.items ++ pairs_line counts) }
@@ -180,6 +263,7 @@ fn text_of(
 {
     let mut rest = Vec::new(alloc);
     push_summary(&mut rest, &loads)?;
+    push_levels(net, alloc, &mut rest, &loads)?;
     push_pairs(&mut rest, counts)?;
     let lines = ordered(loads)?;
     let mut text = Vec::new(alloc);

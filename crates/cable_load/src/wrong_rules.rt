@@ -1,7 +1,7 @@
 //! Wrong rules for what is reported, and the law that each breaks, so that a reader sees that the laws say something. Each
 //! function does nothing: its contract says that with this rule the law is false.
 
-ghost use Rattle.cable_load.specs.WrongRules.{LostPairsLoad, PairsCountOnce, UnusedChannelsHaveALine, WaysGoOn};
+ghost use Rattle.cable_load.specs.WrongRules.{LevelsBeginAt0, NotAllAreLeaves, LostPairsLoad, PairsCountOnce, UnusedChannelsHaveALine, WaysGoOn};
 
 /// If a way ended at its first switch, packets would come to a switch that is not on it.
 pub fn ways_go_on()
@@ -21,4 +21,14 @@ pub fn pairs_count_once()
 /// If a channel without load had no line, one would be missing.
 pub fn unused_channels_have_a_line()
     ensures { UnusedChannelsHaveALine }
+{}
+
+/// Where a level counts the switches of a way, a switch to which a host is attached has the level 1.
+pub fn levels_begin_at_0()
+    ensures { LevelsBeginAt0 }
+{}
+
+/// Where all switches have the level 0, a switch far from hosts has it too.
+pub fn not_all_are_leaves()
+    ensures { NotAllAreLeaves }
 {}

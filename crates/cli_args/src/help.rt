@@ -416,12 +416,15 @@ Each direction of each cable between two switches has a line with the number of 
 from the first port to the second. The greatest load comes first:
   load PORT PORT PAIRS
 
-Then come the greatest load, the least and the mean, and the number of pairs. Lost are those that do
-not reach the port of their LID, unknown those that come to an entry that the dump does not show. Both
-count on the cables that they use, and in a loop once on each:
+Then come the greatest load, the least and the mean, of all and of the cables that lead away from the
+switches of each level (0 with a CA, 1 beside one of those, and so on), with the ratio of the greatest
+load to the mean, and the number of pairs. Lost are those that do not reach the port of their LID,
+unknown those that come to an entry that the dump does not show. Both count on the cables that they
+use, and in a loop once on each:
   most PAIRS
   least PAIRS
   mean PAIRS
+  level LEVEL most PAIRS mean PAIRS ratio RATIO
   pairs PAIRS, lost PAIRS, unknown PAIRS
 
 For example, for your own fabric:

@@ -1,0 +1,61 @@
+-- The level of a switch: how many links lead from it to the nearest switch to which a host is attached. A leaf of a fat tree has
+-- the level 0, and a switch of the next row the level 1.
+use Rattle.std.specs.Prelude.{ℕ, zero, suc, ◌+◌, ◌==◌, ◌||◌, Bool, false, not, List, count_by, filter, get_or, length, map}
+use Rattle.std.specs.List.{list_any, range_with_len}
+use Rattle.topo_file.specs.Node.{ports_at}
+use Rattle.route_audit.specs.declared.entry.Entry.TheVariants.{Out}
+use Rattle.route_audit.specs.declared.following.Turn.{Turn}
+use Rattle.route_audit.specs.declared.following.Turn.TheVariants as turns
+use Rattle.route_audit.specs.Following.{turn_by}
+use Rattle.route_audit.specs.Net.{NetState}
+use Rattle.cable_load.specs.declared.levels.TheConstants.{LEVELS}
+use Rattle.cable_load.specs.declared.loaded.Loaded.{Loaded}
+use Rattle.cable_load.specs.Sources.{attached}
+
+-- a host is attached to the switch there
+abbrev pub carries : NetState → ℕ → Bool
+carries net place = not (length (attached net place) == 0)
+
+-- the link at a port leads to a switch that passes the test
+abbrev pub goes_near : (ℕ → Bool) → Turn → Bool
+goes_near near (turns.Goes next) = near next
+goes_near near _ = false
+
+-- behind this number
+abbrev pub leads_near : NetState → (ℕ → Bool) → (place before : ℕ) → Bool
+leads_near net near place before = goes_near near (turn_by net place (Out (before + 1)))
+
+abbrev pub some_lead : NetState → (ℕ → Bool) → ℕ → Bool
+some_lead net near place = list_any (leads_near net near place) (range_with_len 0 (ports_at net.plan.nodes place))
+
+-- over at most so many links packets come to a switch that carries a host
+abbrev pub is_near : NetState → (count place : ℕ) → Bool
+is_near net zero place = carries net place
+is_near net (suc count) place = is_near net count place || some_lead net (is_near net count) place
+
+-- the least number of links over which they do, or `LEVELS` if that is as many or more: all lesser numbers are too few
+abbrev pub level_of : NetState → ℕ → ℕ
+level_of net place = count_by (λ count. not (is_near net count place)) (range_with_len 0 LEVELS)
+
+-- ---- the channels that leave switches of a level
+abbrev pub is_of_level : NetState → ℕ → Loaded → Bool
+is_of_level net level one = level_of net one.at.node == level
+
+abbrev pub of_level : NetState → List Loaded → ℕ → List Loaded
+of_level net all level = filter (is_of_level net level) all
+
+-- ---- steps of the code: for each node whether it is near
+abbrev pub is_marked : List Bool → ℕ → Bool
+is_marked marks place = get_or marks place false
+
+abbrev pub marks_of : NetState → ℕ → List Bool
+marks_of net count = map (is_near net count) (range_with_len 0 (length net.plan.nodes))
+
+abbrev pub is_next : NetState → List Bool → ℕ → Bool
+is_next net marks place = is_marked marks place || some_lead net (is_marked marks) place
+
+abbrev pub rounds_of : NetState → List (List Bool)
+rounds_of net = map (marks_of net) (range_with_len 0 LEVELS)
+
+abbrev pub level_by : List (List Bool) → ℕ → ℕ
+level_by rounds place = count_by (λ marks. not (is_marked marks place)) rounds

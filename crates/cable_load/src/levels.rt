@@ -1,0 +1,158 @@
+//! The levels of switches.
+
+ghost use Rattle.std.specs.Prelude.{◌≡◌, ◌==◌, ◌<◌, filter, length, map, IfOk};
+ghost use Rattle.std.specs.List.{range_with_len};
+ghost use Rattle.cable_load.specs.Levels.{carries, is_marked, is_next, leads_near, level_by, marks_of, of_level, rounds_of, some_lead};
+
+use crate::loaded::Loaded;
+use crate::sources::attached;
+use route_audit::{Net, Turn, ports_at};
+use std::alloc::{AllocError, Global};
+use std::marker::Model;
+
+/// How many levels there are, from 0 on. Switches that are farther from hosts are of none.
+pub const LEVELS: usize = 16;
+
+/// For each node whether it is near.
+#[derive(Drop)]
+pub(crate) struct Round {
+    marks: Vec<bool>,
+}
+
+impl Model for Round {
+    ghost use Rattle.std.specs.Prelude.{List, Bool};
+
+    ghost Value = { List Bool };
+
+    ghost view = { λ round. round.marks.items };
+}
+
+impl Round {
+    fn of(marks: Vec<bool>) -> Round
+        ensures { result ≡ marks.items }
+    {
+        Round { marks }
+    }
+
+    fn is_marked(&self, place: usize) -> bool
+        ensures { result ≡ is_marked self.now place }
+    {
+        is_marked(self.marks.as_slice(), place)
+    }
+}
+
+fn is_marked(marks: &[bool], place: usize) -> bool
+    ensures { result ≡ is_marked marks.now place }
+{
+    match marks.get(place) {
+        Some(mark) => *mark,
+        None => false,
+    }
+}
+
+fn carries(net: &Net<'_>, alloc: Global, place: usize) -> Result<bool, AllocError>
+    ensures { IfOk result (λ is. is ≡ carries net.now place) }
+{
+    let ports = attached(net, alloc, place)?;
+    Ok(!ports.is_empty())
+}
+
+fn first_marks(net: &Net<'_>, alloc: Global) -> Result<Vec<bool>, AllocError>
+    ensures { IfOk result (λ marks. marks.items ≡ map (carries net.now) (range_with_len 0 (length net.now.plan.nodes))) }
+{
+    let mut marks = Vec::new(alloc);
+    for place in 0..net.nodes().len() {
+        marks.push(carries(net, alloc, place)?)?;
+    }
+    Ok(marks)
+}
+
+/// Whether the link at the port behind this number leads to a switch that is marked.
+fn leads_near(net: &Net<'_>, marks: &[bool], place: usize, before: u8) -> bool
+    requires { before < 255 }
+    ensures { result ≡ leads_near net.now (is_marked marks.now) place before }
+{
+    match net.turn_out(place, before + 1) {
+        Turn::Goes(next) => is_marked(marks, next),
+        _ => false,
+    }
+}
+
+fn some_lead(net: &Net<'_>, marks: &[bool], place: usize) -> bool
+    ensures { result ≡ some_lead net.now (is_marked marks.now) place }
+{
+    for before in 0..ports_at(net.nodes(), place) {
+        if leads_near(net, marks, place, before) {
+            return true;
+        }
+    }
+    false
+}
+
+fn is_next(net: &Net<'_>, marks: &[bool], place: usize) -> bool
+    ensures { result ≡ is_next net.now marks.now place }
+{
+    is_marked(marks, place) || some_lead(net, marks, place)
+}
+
+fn next_marks(net: &Net<'_>, alloc: Global, marks: &[bool]) -> Result<Vec<bool>, AllocError>
+    ensures { IfOk result (λ next. next.items ≡ map (is_next net.now marks.now) (range_with_len 0 (length net.now.plan.nodes))) }
+{
+    let mut next = Vec::new(alloc);
+    for place in 0..net.nodes().len() {
+        next.push(is_next(net, marks, place))?;
+    }
+    Ok(next)
+}
+
+/// Which nodes are near over at most 0 links, over at most 1, and so on.
+pub(crate) fn rounds(net: &Net<'_>, alloc: Global) -> Result<Vec<Round>, AllocError>
+    ensures { IfOk result (λ rounds. rounds.items ≡ rounds_of net.now) }
+{
+    let mut rounds = Vec::new(alloc);
+    let mut marks = first_marks(net, alloc)?;
+    for _count in 0..LEVELS {
+        let next = next_marks(net, alloc, &marks)?;
+        rounds.push(Round::of(marks))?;
+        marks = next;
+    }
+    Ok(rounds)
+}
+
+fn level_by(rounds: &[Round], place: usize) -> usize
+    ensures { result ≡ level_by rounds.now place }
+{
+    rounds
+        .iter()
+        .filter(|round| !round.is_marked(place))
+        .count()
+}
+
+/// The channels that leave switches of a level.
+pub(crate) fn of_level(
+    net: &Net<'_>,
+    alloc: Global,
+    rounds: &[Round],
+    all: &[Loaded],
+    level: usize,
+) -> Result<Vec<Loaded>, AllocError>
+    requires { rounds.now ≡ rounds_of net.now }
+    ensures { IfOk result (λ some. some.items ≡ of_level net.now all.now level) }
+{
+    let some = channels_of(alloc, rounds, all, level)?;
+    Ok(some)
+}
+
+fn channels_of(
+    alloc: Global,
+    rounds: &[Round],
+    all: &[Loaded],
+    level: usize,
+) -> Result<Vec<Loaded>, AllocError>
+    ensures { IfOk result (λ some. some.items ≡ filter (λ one. level_by rounds.now one.at.node == level) all.now) }
+{
+    all.iter()
+        .copied()
+        .filter(|one| level_by(rounds, one.at.node) == level)
+        .collect(alloc)
+}
