@@ -14,7 +14,7 @@ use Rattle.route_audit.specs.declared.following.Turn.TheVariants as turns
 use Rattle.route_audit.specs.Following.{turn_by}
 use Rattle.route_audit.specs.Net.{NetState}
 use Rattle.cable_load.specs.declared.loaded.Loaded.{Loaded}
-use Rattle.cable_load.specs.Levels.{carries, goes_near, is_marked, is_near, is_next, leads_near, level_by, level_of, marks_of, of_level, rounds_of, some_lead}
+use Rattle.cable_load.specs.Levels.{carries, goes_near, is_marked, is_near, is_next, leads_near, level_at, level_by, level_of, levels_of, marks_of, of_level, rounds_of, some_lead}
 use Rattle.cable_load.specs.Laws.{LeadsToHost, LevelsAreDistances}
 use Rattle.cable_load.specs.Sources.{attached, host_behind}
 use Rattle.route_audit.proofs.EndlessLemmas.{in_range}
@@ -107,12 +107,53 @@ filter_alike p q same (one ∷ all) = elim (cases_Bool (q one)) [
   | inr other ↦ let there : p one ≡ false = same one ∙ other in rw (other, there, filter_alike p q same all) refl
 ]
 
-pub levels_are : (net : NetState) (rounds : List (List Bool)) (all some : List Loaded) (level : ℕ) → rounds ≡ rounds_of net
-    → some ≡ filter (λ one. level_by rounds one.at.node == level) all → some ≡ of_level net all level
-levels_are net rounds all some level is some_is =
-    some_is ∙ ap (λ (r : List (List Bool)). filter (λ one. level_by r one.at.node == level) all) is
-    ∙ filter_alike (λ one. level_by (rounds_of net) one.at.node == level) (λ one. level_of net one.at.node == level)
-    (λ one. ap (λ (n : ℕ). n == level) (level_same net one.at.node (range_with_len 0 16))) all
+all_far : (test : ℕ → Bool) (low many : ℕ) → ((k : ℕ) → test k ≡ false) → count_by (λ k. not (test k)) (range_with_len low many) ≡ many
+all_far test low zero far = refl
+all_far test low (suc many) far =
+    let rest = all_far test (low + 1) many far in
+    let one : ◌≡◌ {A = ℕ} (cond (not (test low)) 1 0) 1 = ap (λ (b : Bool). cond (not b) 1 0) (far low) in
+    let whole = sum_by-cons (λ k. cond (not (test k)) 1 0) low (range_with_len (low + 1) many) in
+    omega (arith, rest, one, whole)
+
+level_there : (f : ℕ → ℕ) (low many place none : ℕ) → place < many → get_or (map f (range_with_len low many)) place none ≡ f (low + place)
+level_there f low zero place none less = absurd (omega (arith, less))
+level_there f low (suc many) zero none less = let here : low ≡ low + 0 = omega arith in ap f here
+level_there f low (suc many) (suc place) none less =
+    let there : low + 1 + place ≡ low + suc place = omega arith in
+    level_there f (low + 1) many place none (omega (arith, less)) ∙ ap f there
+
+level_past : (f : ℕ → ℕ) (low many place none : ℕ) → many ≤ place → get_or (map f (range_with_len low many)) place none ≡ none
+level_past f low zero place none past = refl
+level_past f low (suc many) zero none past = absurd (omega (arith, past))
+level_past f low (suc many) (suc place) none past = level_past f (low + 1) many place none (omega (arith, past))
+
+levels_say : (net : NetState) (place : ℕ) → level_at (levels_of net) place ≡ level_of net place
+levels_say net place = elim (cases_lt place (length net.plan.nodes)) [
+  | inl less ↦
+      let from_0 : 0 + place ≡ place = omega arith in
+      level_there (level_of net) 0 (length net.plan.nodes) place 16 less ∙ ap (level_of net) from_0
+  | inr past ↦
+      level_past (level_of net) 0 (length net.plan.nodes) place 16 past
+      ∙ sym (all_far (λ k. is_near net k place) 0 16 (λ k. not_near net k place past))
+]
+
+pub levels_are : (net : NetState) (levels : List ℕ) (all some : List Loaded) (level : ℕ) → levels ≡ levels_of net
+    → some ≡ filter (λ one. level_at levels one.at.node == level) all → some ≡ of_level net all level
+levels_are net levels all some level is some_is =
+    some_is ∙ ap (λ (l : List ℕ). filter (λ one. level_at l one.at.node == level) all) is
+    ∙ filter_alike (λ one. level_at (levels_of net) one.at.node == level) (λ one. level_of net one.at.node == level)
+    (λ one. ap (λ (n : ℕ). n == level) (levels_say net one.at.node)) all
+
+map_levels : (f g : ℕ → ℕ) → ((n : ℕ) → f n ≡ g n) → (ns : List ℕ) → map f ns ≡ map g ns
+map_levels f g same [] = refl
+map_levels f g same (n ∷ ns) = ap (λ (b : ℕ). b ∷ map f ns) (same n) ∙ ap (λ (rest : List ℕ). g n ∷ rest) (map_levels f g same ns)
+
+pub levels_by_rounds : (net : NetState) (rounds : List (List Bool)) (levels : List ℕ) (count : ℕ) → rounds ≡ rounds_of net → count ≡ length net.plan.nodes
+    → levels ≡ map (level_by rounds) (range_with_len 0 count) → levels ≡ levels_of net
+levels_by_rounds net rounds levels count is all levels_are_by =
+    levels_are_by ∙ ap (λ (r : List (List Bool)). map (level_by r) (range_with_len 0 count)) is
+    ∙ ap (λ (n : ℕ). map (level_by (rounds_of net)) (range_with_len 0 n)) all
+    ∙ map_levels (level_by (rounds_of net)) (level_of net) (λ place. level_same net place (range_with_len 0 16)) (range_with_len 0 (length net.plan.nodes))
 
 -- ---- what is near over so many links is so over more
 nearer : (net : NetState) (place count more : ℕ) → is_near net count place ≡ true → is_near net (count + more) place ≡ true

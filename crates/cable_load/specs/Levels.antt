@@ -59,3 +59,9 @@ rounds_of net = map (marks_of net) (range_with_len 0 LEVELS)
 
 abbrev pub level_by : List (List Bool) → ℕ → ℕ
 level_by rounds place = count_by (λ marks. not (is_marked marks place)) rounds
+
+abbrev pub levels_of : NetState → List ℕ
+levels_of net = map (level_of net) (range_with_len 0 (length net.plan.nodes))
+
+abbrev pub level_at : List ℕ → ℕ → ℕ
+level_at levels place = get_or levels place LEVELS

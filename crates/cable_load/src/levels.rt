@@ -2,7 +2,7 @@
 
 ghost use Rattle.std.specs.Prelude.{◌≡◌, ◌==◌, ◌<◌, filter, length, map, IfOk};
 ghost use Rattle.std.specs.List.{range_with_len};
-ghost use Rattle.cable_load.specs.Levels.{carries, is_marked, is_next, leads_near, level_by, marks_of, of_level, rounds_of, some_lead};
+ghost use Rattle.cable_load.specs.Levels.{carries, is_marked, is_next, leads_near, level_at, level_by, levels_of, marks_of, of_level, rounds_of, some_lead};
 
 use crate::loaded::Loaded;
 use crate::sources::attached;
@@ -15,7 +15,7 @@ pub const LEVELS: usize = 16;
 
 /// For each node whether it is near.
 #[derive(Drop)]
-pub(crate) struct Round {
+struct Round {
     marks: Vec<bool>,
 }
 
@@ -106,7 +106,7 @@ fn next_marks(net: &Net<'_>, alloc: Global, marks: &[bool]) -> Result<Vec<bool>,
 }
 
 /// Which nodes are near over at most 0 links, over at most 1, and so on.
-pub(crate) fn rounds(net: &Net<'_>, alloc: Global) -> Result<Vec<Round>, AllocError>
+fn rounds(net: &Net<'_>, alloc: Global) -> Result<Vec<Round>, AllocError>
     ensures { IfOk result (λ rounds. rounds.items ≡ rounds_of net.now) }
 {
     let mut rounds = Vec::new(alloc);
@@ -128,31 +128,57 @@ fn level_by(rounds: &[Round], place: usize) -> usize
         .count()
 }
 
+fn levels_by(alloc: Global, rounds: &[Round], count: usize) -> Result<Vec<usize>, AllocError>
+    ensures { IfOk result (λ levels. levels.items ≡ map (level_by rounds.now) (range_with_len 0 count)) }
+{
+    (0..count)
+        .map(|place| level_by(rounds, place))
+        .collect(alloc)
+}
+
+/// The level of each node.
+pub(crate) fn levels(net: &Net<'_>, alloc: Global) -> Result<Vec<usize>, AllocError>
+    ensures { IfOk result (λ levels. levels.items ≡ levels_of net.now) }
+{
+    let rounds = rounds(net, alloc)?;
+    let levels = levels_by(alloc, &rounds, net.nodes().len())?;
+    Ok(levels)
+}
+
+fn level_at(levels: &[usize], place: usize) -> usize
+    ensures { result ≡ level_at levels.now place }
+{
+    match levels.get(place) {
+        Some(level) => *level,
+        None => LEVELS,
+    }
+}
+
 /// The channels that leave switches of a level.
 pub(crate) fn of_level(
     net: &Net<'_>,
     alloc: Global,
-    rounds: &[Round],
+    levels: &[usize],
     all: &[Loaded],
     level: usize,
 ) -> Result<Vec<Loaded>, AllocError>
-    requires { rounds.now ≡ rounds_of net.now }
+    requires { levels.now ≡ levels_of net.now }
     ensures { IfOk result (λ some. some.items ≡ of_level net.now all.now level) }
 {
-    let some = channels_of(alloc, rounds, all, level)?;
+    let some = channels_of(alloc, levels, all, level)?;
     Ok(some)
 }
 
 fn channels_of(
     alloc: Global,
-    rounds: &[Round],
+    levels: &[usize],
     all: &[Loaded],
     level: usize,
 ) -> Result<Vec<Loaded>, AllocError>
-    ensures { IfOk result (λ some. some.items ≡ filter (λ one. level_by rounds.now one.at.node == level) all.now) }
+    ensures { IfOk result (λ some. some.items ≡ filter (λ one. level_at levels.now one.at.node == level) all.now) }
 {
     all.iter()
         .copied()
-        .filter(|one| level_by(rounds, one.at.node) == level)
+        .filter(|one| level_at(levels, one.at.node) == level)
         .collect(alloc)
 }

@@ -3,7 +3,7 @@
 ghost use Rattle.std.specs.Prelude.{◌≡◌, ◌++◌, ◌<◌, ◌/◌, flat_map, length, IfOk, OnOk};
 ghost use Rattle.std.specs.List.{fold};
 ghost use Rattle.route_audit.specs.Plan.{PlanState};
-ghost use Rattle.cable_load.specs.Levels.{rounds_of};
+ghost use Rattle.cable_load.specs.Levels.{levels_of};
 ghost use Rattle.cable_load.specs.Loads.{greater, least_of, lesser, loads, mean_of, most_of, ratio_of, total_of};
 ghost use Rattle.cable_load.specs.Text.{level_line, level_means, level_text, level_words, levels_text};
 ghost use Rattle.cable_load.specs.Counts.{counts_of};
@@ -11,7 +11,7 @@ ghost use Rattle.cable_load.specs.Sources.{pairs_by};
 ghost use Rattle.cable_load.specs.Text.{end_text, hundredths, least_line, load_line, load_of_plan, load_text, load_text_found, load_text_of, mean_line, most_line, pairs_line, summary, text_by, text_of};
 
 use crate::counting::{Counts, counted};
-use crate::levels::{LEVELS, Round, of_level, rounds};
+use crate::levels::{LEVELS, levels, of_level};
 use crate::loaded::Loaded;
 use crate::loads::loads;
 use crate::order::ordered;
@@ -212,14 +212,14 @@ fn push_level_of(
     net: &Net<'_>,
     alloc: Global,
     text: &mut Vec<u8>,
-    rounds: &[Round],
+    levels: &[usize],
     all: &[Loaded],
     level: usize,
 ) -> Result<(), AllocError>
-    requires { rounds.now ≡ rounds_of net.now }
+    requires { levels.now ≡ levels_of net.now }
     ensures { OnOk result (text.new.items ≡ text.old.items ++ level_text net.now all.now level) }
 {
-    let some = of_level(net, alloc, rounds, all, level)?;
+    let some = of_level(net, alloc, levels, all, level)?;
     push_level(text, level, &some)
 }
 
@@ -231,9 +231,9 @@ fn push_levels(
 ) -> Result<(), AllocError>
     ensures { OnOk result (text.new.items ≡ text.old.items ++ levels_text net.now all.now) }
 {
-    let rounds = rounds(net, alloc)?;
+    let levels = levels(net, alloc)?;
     for level in 0..LEVELS {
-        push_level_of(net, alloc, text, &rounds, all, level)?;
+        push_level_of(net, alloc, text, &levels, all, level)?;
     }
     Ok(())
 }

@@ -10,7 +10,7 @@ loop-level-preserved c =
     c.loop-level.invariant c.in_ok-push_level_of.ensures
 
 pub push_level_of-requires : goal.push_level_of-requires
-push_level_of-requires c = c.deref.ensures.value ∙ c.in_ok-rounds.ensures
+push_level_of-requires c = c.deref.ensures.value ∙ c.in_ok-levels.ensures
 
 pub returns : goal.returns
 returns c =
