@@ -26,3 +26,4 @@ pub mod FoundLemmas
 pub mod WrongPlanLemmas
 pub mod TopologyEndLemmas
 pub mod GoingLemmas
+pub mod ReasonLemmas

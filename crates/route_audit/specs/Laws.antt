@@ -24,6 +24,7 @@ use Rattle.route_audit.specs.declared.following.Turn.{Turn}
 use Rattle.route_audit.specs.declared.following.Turn.TheVariants as turns
 use Rattle.route_audit.specs.declared.lids.Aim.{Aim}
 use Rattle.route_audit.specs.declared.pairs.Pair.{Pair}
+use Rattle.route_audit.specs.declared.verdict.Verdict.{Verdict}
 use Rattle.route_audit.specs.Audit.{audit_of, behind, closing, lids_of}
 use Rattle.route_audit.specs.Channels.{channels, deadlock, depends}
 use Rattle.route_audit.specs.Following.{end_from, end_within, fate, loop_from, turn}
@@ -32,6 +33,7 @@ use Rattle.route_audit.specs.Lids.{aim_of, aims, is_others, owner_of}
 use Rattle.route_audit.specs.Lines.{has_switch, trouble_line}
 use Rattle.route_audit.specs.Net.{NetState, row_at, table_at}
 use Rattle.route_audit.specs.Pairs.{count_of}
+use Rattle.route_audit.specs.Verdict.{reasons, verdict_by, verdict_is_safe}
 use Rattle.route_audit.specs.Plan.{PlanState, found_lids, is_host, is_unicast, joins_switch, plan_found}
 
 -- ---- the cables of a discovery
@@ -316,3 +318,12 @@ says_safe net = (audit_of net).is_safe
 
 abbrev pub SafeRoutesAreReported : Type 0
 SafeRoutesAreReported = ReportsSafe says_safe
+
+-- ---- a verdict that is not safe has a reason
+abbrev pub NamesReasons : (Verdict → List ℕ) → Type 0
+NamesReasons words =
+    (net : NetState) (all : List Aim) (ring : Option (List PortRef)) → verdict_is_safe (verdict_by net all ring) ≡ false
+    → words (verdict_by net all ring) ≡ [] → ⊥
+
+abbrev pub UnsafeRoutesHaveAReason : Type 0
+UnsafeRoutesHaveAReason = NamesReasons reasons

@@ -33,13 +33,13 @@ use Rattle.route_audit.specs.declared.verdict.Verdict.{Verdict}
 use Rattle.route_audit.specs.Audit.{closing, credit_loop, lids_of}
 use Rattle.route_audit.specs.Channels.{channels, deadlock, leaves_by}
 use Rattle.route_audit.specs.Following.{end_within, loop_from, turn}
-use Rattle.route_audit.specs.Laws.{AddUp, MissesNone, ReportsChannels, ReportsClosing, ReportsCycles, ReportsEndless, ReportsLoops, ReportsSafe, ReportsTroubles, RowsComeFirst, TakesTheCables, TakesTheLids}
+use Rattle.route_audit.specs.Laws.{AddUp, MissesNone, NamesReasons, ReportsChannels, ReportsClosing, ReportsCycles, ReportsEndless, ReportsLoops, ReportsSafe, ReportsTroubles, RowsComeFirst, TakesTheCables, TakesTheLids}
 use Rattle.route_audit.specs.Lids.{aims, is_lacking}
 use Rattle.route_audit.specs.Lines.{stray_line, trouble_line}
 use Rattle.route_audit.specs.Net.{NetState}
 use Rattle.route_audit.specs.Pairs.{all_reached, is_fate, pairs_by}
 use Rattle.route_audit.specs.Plan.{PlanState, joins_switch, line_lid, plan_found, plan_of, switch_lid}
-use Rattle.route_audit.specs.Verdict.{have_tables, is_known, is_unknown, verdict_by, verdict_is_safe}
+use Rattle.route_audit.specs.Verdict.{have_tables, is_known, is_unknown, verdict_by, verdict_is_safe, with_reason}
 
 -- ---- two ports of one node have no cable
 abbrev pub between_nodes : PortLine → PortLine → List Cable
@@ -476,3 +476,14 @@ one_reports = record a_hole {
 
 abbrev pub ReportedLidsCount : Type 0
 ReportedLidsCount = RowsComeFirst by_rows_alone → ⊥
+
+-- ---- pairs that are not reached are no reason
+abbrev pub reasons_without_pairs : Verdict → List ℕ
+reasons_without_pairs verdict =
+    with_reason verdict.is_known (codes "unknown")
+    (with_reason verdict.is_same (codes "mismatch")
+    (with_reason verdict.is_free (codes "deadlock")
+    (with_reason verdict.has_lids (codes "no-lid") [])))
+
+abbrev pub LostPairsAreAReason : Type 0
+LostPairsAreAReason = NamesReasons reasons_without_pairs → ⊥

@@ -1,7 +1,7 @@
 //! Laws of all audits. The functions do nothing; their clauses are the theorems.
 
 ghost use Rattle.route_audit.specs.Laws.{CablesAreTaken, ChannelsAreReported, CountsAddUp, EachTroubleHasALine, LoopsAreClosedByTheirLids, LoopsNeverEnd, NoCycleIsMissed};
-ghost use Rattle.route_audit.specs.Laws.{LidsAreTaken, OwnersAreFound, SafeRoutesAreReported, ReportedLoopsWait, ReportedLoopsGoRound, WaysAreFollowed};
+ghost use Rattle.route_audit.specs.Laws.{LidsAreTaken, OwnersAreFound, SafeRoutesAreReported, ReportedLoopsWait, ReportedLoopsGoRound, UnsafeRoutesHaveAReason, WaysAreFollowed};
 
 /// Two ports have a cable exactly where the lines of a discovery say so; the cables that join no switch stand apart.
 pub fn cables_are_taken()
@@ -72,4 +72,9 @@ pub fn no_cycle_is_missed()
 /// to another switch, the entry there is known.
 pub fn safe_routes_are_reported()
     ensures { SafeRoutesAreReported }
+{}
+
+/// A verdict that is not safe names a reason.
+pub fn unsafe_routes_have_a_reason()
+    ensures { UnsafeRoutesHaveAReason }
 {}

@@ -36,7 +36,8 @@ pub use crate::following::{Fate, Turn};
 pub use crate::laws::{
     channels_are_reported, counts_add_up, each_trouble_has_a_line, lids_are_taken,
     loops_are_closed_by_their_lids, loops_never_end, no_cycle_is_missed, owners_are_found,
-    reported_loops_go_round, reported_loops_wait, safe_routes_are_reported, ways_are_followed,
+    reported_loops_go_round, reported_loops_wait, safe_routes_are_reported,
+    unsafe_routes_have_a_reason, ways_are_followed,
 };
 pub use crate::lids::Aim;
 pub use crate::net::Net;

@@ -2,7 +2,7 @@
 //! function does nothing: its contract says that with this rule the law is false.
 
 ghost use Rattle.route_audit.specs.WrongRules.{ANodeMayBeJoinedToItself, AdaptersAreJoinedApart, AggregationDecidesNothing, EachStepHasItsLid, LidsGoOnRound};
-ghost use Rattle.route_audit.specs.WrongRules.{FirstPortsAreChannels, HolesAreCounted, HolesHaveALine, LidsAreAsked, LoopsBeginWhereReported, LoopsHaveALine};
+ghost use Rattle.route_audit.specs.WrongRules.{FirstPortsAreChannels, HolesAreCounted, HolesHaveALine, LidsAreAsked, LoopsBeginWhereReported, LoopsHaveALine, LostPairsAreAReason};
 ghost use Rattle.route_audit.specs.WrongRules.{NobodysLoopsHaveALine, OtherLidsDecide, OtherLidsDoNotCount, OtherPortsDecide, OtherTablesDecide, OthersHolesHaveALine};
 ghost use Rattle.route_audit.specs.WrongRules.{NobodyHasLid0, OldLidsDoNotCount, ReportedLidsCount, ReportsComeLast, RowsLeftOutHaveALine, SwitchesHaveLids};
 ghost use Rattle.route_audit.specs.WrongRules.{TheLastWaitsForTheFirst, TransitDecidesNothing, TwoMakeACycle, UnknownEntriesDecide, WaysAreAsked, WaysAreLonger};
@@ -150,4 +150,9 @@ pub fn old_lids_do_not_count()
 /// Where rows alone count, a LID that has no row is nobody's, though a port reports it.
 pub fn reported_lids_count()
     ensures { ReportedLidsCount }
+{}
+
+/// Where pairs that are not reached are no reason, a verdict that is not safe has none.
+pub fn lost_pairs_are_a_reason()
+    ensures { LostPairsAreAReason }
 {}

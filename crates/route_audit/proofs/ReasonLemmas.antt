@@ -1,0 +1,57 @@
+-- A verdict that is not safe has a reason.
+use Rattle.std.proofs.Common.{ℕ, ◌≡◌, ◌∙◌, refl, sym, ◌&&◌, Bool, true, false, not, ◌||◌, List, [], ◌∷◌, codes}
+use Rattle.std.proofs.lemmas.Bool.{false≢true}
+use Rattle.route_audit.specs.declared.following.Fate.{Fate}
+use Rattle.route_audit.specs.declared.following.Fate.TheVariants as fates
+use Rattle.route_audit.specs.declared.pairs.Pair.{Pair}
+use Rattle.route_audit.specs.Laws.{UnsafeRoutesHaveAReason}
+use Rattle.route_audit.specs.Pairs.{all_reached, between_hosts, is_fate, pairs_by}
+use Rattle.route_audit.specs.Verdict.{reasons, some_lost, some_unknown, verdict_by, verdict_is_safe, with_reason}
+
+-- ---- no reason stands there only if each of these holds
+not_empty : (byte : ℕ) (bytes : List ℕ) → byte ∷ bytes ≡ [] → ⊥
+not_empty byte bytes is = cc
+
+none_by : (holds : Bool) (word others : List ℕ) → (word ≡ [] → ⊥) → with_reason holds word others ≡ [] → (holds ≡ true) × (others ≡ [])
+none_by true word others some is = (refl, is)
+none_by false word [] some is = absurd (some is)
+none_by false word (byte ∷ others) some is = absurd (not_empty byte _ is)
+
+-- ---- a pair that is not reached is lost, or comes to an unknown entry
+each_reached : (fate : Fate) (lost unknown reached : Bool) → (not (is_fate fates.Reached fate || is_fate fates.Unknown fate) || lost) ≡ false
+    → (is_fate fates.Unknown fate || unknown) ≡ false → (lost ≡ false → unknown ≡ false → reached ≡ true) → (is_fate fates.Reached fate && reached) ≡ true
+each_reached fates.Reached lost unknown reached kept known others = others kept known
+each_reached fates.Hole lost unknown reached kept known others = absurd (false≢true (sym kept))
+each_reached fates.Nowhere lost unknown reached kept known others = absurd (false≢true (sym kept))
+each_reached fates.Wrong lost unknown reached kept known others = absurd (false≢true (sym kept))
+each_reached fates.Loop lost unknown reached kept known others = absurd (false≢true (sym kept))
+each_reached fates.Unknown lost unknown reached kept known others = absurd (false≢true (sym known))
+
+all_are_reached : (pairs : List Pair) → some_lost pairs ≡ false → some_unknown pairs ≡ false → all_reached pairs ≡ true
+all_are_reached [] kept known = refl
+all_are_reached (pair ∷ pairs) kept known =
+    each_reached pair.fate (some_lost pairs) (some_unknown pairs) (all_reached pairs) kept known (all_are_reached pairs)
+
+-- ---- so a verdict without a reason is safe
+not_false : (b : Bool) → not b ≡ true → b ≡ false
+not_false false is = refl
+not_false true is = absurd (false≢true is)
+
+both_true : (a b : Bool) → (a && b) ≡ true → (a ≡ true) × (b ≡ true)
+both_true true b is = (refl, is)
+both_true false b is = absurd (false≢true is)
+
+pub unsafe_routes_have_a_reason : UnsafeRoutesHaveAReason
+unfolding reasons
+unsafe_routes_have_a_reason net all ring unsafe none =
+    let verdict = verdict_by net all ring in
+    let unknown = none_by (verdict.is_known && not verdict.lacks_entries) (codes "unknown") _ (not_empty _ _) none in
+    let mismatch = none_by verdict.is_same (codes "mismatch") _ (not_empty _ _) unknown.1 in
+    let deadlock = none_by verdict.is_free (codes "deadlock") _ (not_empty _ _) mismatch.1 in
+    let lost = none_by (not verdict.loses) (codes "unreached") _ (not_empty _ _) deadlock.1 in
+    let named = none_by verdict.has_lids (codes "no-lid") _ (not_empty _ _) lost.1 in
+    let known = both_true verdict.is_known (not verdict.lacks_entries) unknown.0 in
+    let reached : verdict.is_reached ≡ true =
+    all_are_reached (between_hosts (pairs_by net all)) (not_false verdict.loses lost.0) (not_false verdict.lacks_entries known.1) in
+    let safe : verdict_is_safe verdict ≡ true = rw (named.0, reached, deadlock.0, mismatch.0, known.0) refl in
+    false≢true (sym unsafe ∙ safe)
