@@ -180,6 +180,14 @@ impl PortInfo {
         self.put_over_zeros(bytes);
     }
 
+    /// Writes the fields over those that stand there; every bit outside them stays, as CapabilityMask2 of later editions.
+    pub fn put_over(&self, bytes: &mut [u8; 64])
+        requires { Fits (port_info self.now) }
+        ensures { bytes.new ≡ put_all bytes.old (port_info self.now) }
+    {
+        port_info_layout!(write_fields!(self bytes))
+    }
+
     /// The attribute's bytes.
     pub fn to_bytes(&self) -> [u8; 64]
         requires { Fits (port_info self.now) }
@@ -233,6 +241,6 @@ impl PortInfo {
         ensures { bytes.new ≡ put_all (replicate 64 0) (port_info self.now) }
     {
         *bytes = [0; 64];
-        port_info_layout!(write_fields!(self bytes))
+        self.put_over(bytes);
     }
 }

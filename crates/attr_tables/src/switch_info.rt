@@ -87,6 +87,15 @@ impl SwitchInfo {
         self.put_over_zeros(bytes);
     }
 
+    /// Writes the fields over those that stand there; every bit outside them stays.
+    pub fn put_over(&self, bytes: &mut [u8; 64])
+        requires { self.now.life_time_value < 32 }
+        ensures fields { bytes.new ≡ put_all bytes.old (switch_info self.now) }
+        ensures fits { Fits (switch_info self.now) }
+    {
+        switch_info_layout!(write_fields!(self bytes))
+    }
+
     /// The attribute's bytes.
     pub fn to_bytes(&self) -> [u8; 64]
         requires { self.now.life_time_value < 32 }
@@ -103,6 +112,6 @@ impl SwitchInfo {
         ensures fits { Fits (switch_info self.now) }
     {
         *bytes = [0; 64];
-        switch_info_layout!(write_fields!(self bytes))
+        self.put_over(bytes);
     }
 }

@@ -233,12 +233,17 @@ fn asks_for_an_empty_block(push: &Push, left: u64) -> bool {
     matches!(push, Push::Keys) && left % 4 != 0
 }
 
+/// Each Set of PortInfo comes behind a Get of it. One that is refused is followed by another Get: that says that it is carried out.
+fn sets_port_info(push: &Push, left: u64) -> bool {
+    matches!(push, Push::Ports) && left % 2 == 1 && !SWITCH_INFOS.contains(&left)
+}
+
 #[test]
 fn a_push_stops_where_an_agent_refuses_what_is_needed(rt: HostRuntime) -> Result<(), Fail> {
     for (push, exchanges, _) in PUSHES.iter() {
         for left in 0..*exchanges {
             let reported = pushed(rt.alloc(), push, true, left, (GET, STATUS, REFUSAL))?;
-            if asks_for_an_empty_block(push, left) {
+            if asks_for_an_empty_block(push, left) || sets_port_info(push, left) {
                 assert!(rt; reported == Ok(()));
             } else {
                 assert!(rt; reported == Err(PushFault::Refused));
@@ -248,7 +253,9 @@ fn a_push_stops_where_an_agent_refuses_what_is_needed(rt: HostRuntime) -> Result
     Ok(())
 }
 
-/// The number of PortInfo, and the states Armed and Active.
+/// The numbers of SwitchInfo and PortInfo, and the states Armed and Active.
+const SWITCH_INFO: u8 = 0x12;
+
 const PORT_INFO: u8 = 0x15;
 
 const ARMED: u8 = 3;
@@ -269,14 +276,20 @@ impl SmpWire for PatientWire {
     ghost fabric = { λ _. None };
 
     fn exchange(&mut self, smp: &Mad) -> Option<Mad> {
-        let mut reply = self.wire.exchange(smp)?;
+        let mut asked = *smp;
+        let mut status = 0;
         if smp[METHOD] == SET && smp[ATTRIBUTE] == PORT_INFO {
             match smp[STATE] & 0x0f {
                 ARMED => self.armed = self.armed.wrapping_add(1),
-                ACTIVE if self.armed < CABLED_PORTS => reply[STATUS] = REFUSAL,
+                ACTIVE if self.armed < CABLED_PORTS => {
+                    asked[METHOD] = GET;
+                    status = REFUSAL;
+                }
                 _ => {}
             }
         }
+        let mut reply = self.wire.exchange(&asked)?;
+        reply[STATUS] |= status;
         Some(reply)
     }
 }
@@ -289,6 +302,43 @@ fn pushed_patiently(mut wire: PatientWire, routes: &Routes) -> Result<(), PushFa
 fn all_ports_are_armed_before_one_becomes_active(rt: HostRuntime) -> Result<(), Fail> {
     let (wire, routes) = found(rt.alloc())?;
     let reported = pushed_patiently(PatientWire { wire, armed: 0 }, &routes);
+    assert!(rt; reported == Ok(()));
+    Ok(())
+}
+
+/// Where CapabilityMask2 of later editions stands in PortInfo, and MulticastFDBTop in SwitchInfo: outside our fields.
+const CAPABILITY_MASK_2: usize = DATA + 61;
+
+const MULTICAST_TOP: usize = DATA + 19;
+
+/// Says of each port and switch what stands there, whatever is set, so a Set to anything else is at fault.
+#[derive(Drop)]
+struct LaterWire {
+    wire: Fabric,
+}
+
+impl SmpWire for LaterWire {
+    ghost fabric = { λ _. None };
+
+    fn exchange(&mut self, smp: &Mad) -> Option<Mad> {
+        let mut reply = self.wire.exchange(smp)?;
+        match smp[ATTRIBUTE] {
+            PORT_INFO => reply[CAPABILITY_MASK_2] = 0x30,
+            SWITCH_INFO => reply[MULTICAST_TOP] = 7,
+            _ => {}
+        }
+        Some(reply)
+    }
+}
+
+fn pushed_later(mut wire: LaterWire, routes: &Routes) -> Result<(), PushFault> {
+    Push::Ports.over(&mut wire, routes, &[])
+}
+
+#[test]
+fn what_stands_outside_our_fields_is_set_to_what_it_was(rt: HostRuntime) -> Result<(), Fail> {
+    let (wire, routes) = found(rt.alloc())?;
+    let reported = pushed_later(LaterWire { wire }, &routes);
     assert!(rt; reported == Ok(()));
     Ok(())
 }

@@ -7,6 +7,8 @@
 #[cfg(test)]
 mod bring_up;
 #[cfg(test)]
+mod enforcement;
+#[cfg(test)]
 mod fat_tree;
 #[cfg(test)]
 mod fault_texts;

@@ -17,7 +17,7 @@ use Rattle.attr_tables.specs.declared.smp_attribute.SmpAttribute.TheVariants.{Po
 use Rattle.fabric_parts.specs.declared.cable.PortRef.{PortRef}
 use Rattle.fabric_parts.specs.declared.lid.TheConstants.{LAST_UNICAST_LID}
 use Rattle.mad_layout.specs.Bits.{field}
-use Rattle.mad_layout.specs.Layout.{Fits}
+use Rattle.mad_layout.specs.Layout.{Fits, Holds, put_all}
 use Rattle.smp_wire.specs.FabricState.{FabricState, is_switch}
 use Rattle.smp_wire.specs.Get.{gives_along}
 use Rattle.step_results.proofs.ElementLemmas.{or_same}
@@ -27,12 +27,12 @@ use Rattle.sweep.specs.OfFabric.{guid_at}
 use Rattle.table_push.specs.Fault.{compared, without_state}
 use Rattle.table_push.specs.Nodes.{on_port, with_infos}
 use Rattle.table_push.specs.Ports.{TakesChange, activated, armed, first_state, in_round, with_end_set, enforces, state_asked, stays, with_lid_and_enforcement, with_state}
-use Rattle.table_push.specs.Pushes.{Leaves}
+use Rattle.table_push.specs.Pushes.{LeadsToPort, Leaves}
 use Rattle.table_push.specs.declared.fault.PushFault.{PushFault}
 use Rattle.table_push.specs.declared.ports.PortChange.{PortChange}
 use Rattle.table_push.specs.declared.ports.Round.{Round}
 use Rattle.table_push.specs.declared.ports.Round.TheVariants.{Arming, Activating}
-use Rattle.table_push.proofs.InfoLemmas.{as_held, setting_taken, state_fits, state_is, state_put}
+use Rattle.table_push.proofs.InfoLemmas.{as_held, info_from, info_over, setting_taken, state_fits, state_is, state_put}
 use Rattle.table_push.proofs.InfoPortLemmas.{InfoThere, info_after, info_alike, info_gives, info_given, info_takes, info_there}
 use Rattle.table_push.proofs.LeadLemmas.{SetsAt, begins_as, goes_on}
 use Rattle.table_push.proofs.PartLemmas.{info_part, parts_stay, parts_twice}
@@ -221,11 +221,11 @@ can_be_reported fabric path asked guid number change takes here = record {
 }
 
 -- what a Get is known to report
-abbrev Reads : FabricState → List ℕ → ℕ → Result PortInfo PushFault → Type 0
+abbrev Reads : FabricState → List ℕ → ℕ → Result (List ℕ) PushFault → Type 0
 Reads fabric path asked reported =
-    (info : PortInfo) → Fits (port_info info) → gives_along fabric path PortInfoAsked asked ≡ Some (Ok (port_info_bytes info)) → reported ≡ Ok info
+    (given : List ℕ) → gives_along fabric path PortInfoAsked asked ≡ Some (Ok given) → reported ≡ Ok given
 
-same_Ok : (one other : PortInfo) → ◌≡◌ {A = Result PortInfo PushFault} (Ok one) (Ok other) → one ≡ other
+same_Ok : (one other : List ℕ) → ◌≡◌ {A = Result (List ℕ) PushFault} (Ok one) (Ok other) → one ≡ other
 same_Ok one other h = cc
 
 -- it is reported, and no fault
@@ -234,14 +234,41 @@ pub no_refusal : (fabric : FabricState) (path : List ℕ) (asked guid number : �
 no_refusal fabric path asked guid number change fault good takes reads =
     let at = takes.leads.at in
     let here = info_there fabric path asked guid number good takes.leads in
-    let same = reads (shown_at at.port here.info) (shown_fits at.port here.info here.good.fits here.small) (info_given fabric path asked guid number at good here) in
+    let same = reads (port_info_bytes (shown_at at.port here.info)) (info_given fabric path asked guid number at good here) in
     absurd (cc)
 
-reads_held : (fabric : FabricState) (path : List ℕ) (asked guid number : ℕ) (at : PortRef) (held : PortInfo) → IsGood fabric
-    → (here : InfoThere fabric path asked guid number at) → Reads fabric path asked (Ok held) → held ≡ shown_at at.port here.info
-reads_held fabric path asked guid number at held good here reads =
-    same_Ok held (shown_at at.port here.info)
-    (reads (shown_at at.port here.info) (shown_fits at.port here.info here.good.fits here.small) (info_given fabric path asked guid number at good here))
+-- what is read is what the port holds, and its bytes have nothing else
+pub record IsRead (fabric : FabricState) (path : List ℕ) (asked guid number : ℕ) (at : PortRef) (bytes : List ℕ) (held : PortInfo) : Type 0 where
+  pub here : InfoThere fabric path asked guid number at
+  pub held_is : held ≡ shown_at at.port here.info
+  pub fits : Fits (port_info held)
+  pub bytes_are : bytes ≡ port_info_bytes held
+
+pub is_read : (fabric : FabricState) (path : List ℕ) (asked guid number : ℕ) (bytes : List ℕ) (held : PortInfo) → IsGood fabric
+    → (leads : LeadsToPort fabric path asked guid number) → Reads fabric path asked (Ok bytes) → Holds bytes (port_info held)
+    → IsRead fabric path asked guid number leads.at bytes held
+is_read fabric path asked guid number bytes held good leads reads holds =
+    let at = leads.at in
+    let here = info_there fabric path asked guid number good leads in
+    let shown = shown_at at.port here.info in
+    let fits = shown_fits at.port here.info here.good.fits here.small in
+    let are : bytes ≡ port_info_bytes shown = same_Ok bytes (port_info_bytes shown) (reads (port_info_bytes shown) (info_given fabric path asked guid number at good here)) in
+    let same : held ≡ shown = info_from bytes held shown fits are holds in
+    record {
+      here = here;
+      held_is = same;
+      fits = subst (λ (info : PortInfo). Fits (port_info info)) (sym same) fits;
+      bytes_are = are ∙ ap port_info_bytes (sym same);
+    }
+
+-- so a Set over those bytes is one of the fields alone
+pub sets_over : (stood left : Option FabricState) (result : Result (Unit {0}) PushFault) (path : List ℕ) (asked : ℕ) (bytes : List ℕ) (held info next : PortInfo)
+    (state : PortState) → bytes ≡ port_info_bytes held → Fits (port_info held) → next ≡ with_state state info → Fits (port_info next)
+    → SetsAt stood left result path PortInfoAsked asked (put_all bytes (port_info next))
+    → SetsAt stood left result path PortInfoAsked asked (port_info_bytes (with_state state info))
+sets_over stood left result path asked bytes held info next state are held_fits is fits sets =
+    subst (SetsAt stood left result path PortInfoAsked asked)
+    (ap (λ (some : List ℕ). put_all some (port_info next)) are ∙ info_over held next held_fits fits ∙ ap port_info_bytes is) sets
 
 -- ---- the first round
 is_armed : (change : PortChange) (info : PortInfo) → stepped change (first_state change.active info.port_state) info ≡ armed change info
@@ -253,15 +280,15 @@ is_armed change info = by (change.active && (info.port_state == 2))
     by false = refl
 
 pub arms : (fabric : FabricState) (stood left : Option FabricState) (result : Result (Unit {0}) PushFault) (path : List ℕ) (asked guid number : ℕ)
-    (change : PortChange) (held wanted : PortInfo) (state : PortState) → IsGood fabric → stood ≡ Some fabric
-    → TakesChange fabric path asked guid number change → Reads fabric path asked (Ok held)
+    (change : PortChange) (bytes : List ℕ) (held wanted : PortInfo) (state : PortState) → IsGood fabric → stood ≡ Some fabric
+    → (takes : TakesChange fabric path asked guid number change) → IsRead fabric path asked guid number takes.leads.at bytes held
     → wanted ≡ with_lid_and_enforcement change held → Fits (port_info wanted) → state ≡ first_state change.active held.port_state
     → SetsAt stood left result path PortInfoAsked asked (port_info_bytes (with_state state wanted))
     → Leaves result left fabric (with_infos (on_port guid number (armed change)) fabric)
-arms fabric stood left result path asked guid number change held wanted state good stands takes reads reported_is fits state_is sets =
+arms fabric stood left result path asked guid number change bytes held wanted state good stands takes read reported_is fits state_is sets =
     let at = takes.leads.at in
-    let here = info_there fabric path asked guid number good takes.leads in
-    let same = reads_held fabric path asked guid number at held good here reads in
+    let here = read.here in
+    let same = read.held_is in
     let wanted_is = reported_is ∙ ap (with_lid_and_enforcement change) same in
     let asks_for = first_state change.active here.info.port_state in
     let state_same : state ≡ asks_for = state_is ∙ ap (λ (info : PortInfo). first_state change.active info.port_state) same in
@@ -318,18 +345,15 @@ pub record Asks (fabric : FabricState) (path : List ℕ) (asked guid number : �
   pub state_is : state ≡ state_asked here.info.port_state
   pub fits : Fits (port_info (with_lid_and_enforcement change (shown_at at.port here.info)))
 
-pub asks : (fabric : FabricState) (path : List ℕ) (asked guid number : ℕ) (change : PortChange) (held wanted : PortInfo) (state : PortState) → IsGood fabric
-    → (takes : TakesChange fabric path asked guid number change)
-    → Reads fabric path asked (Ok held)
+pub asks : (fabric : FabricState) (path : List ℕ) (asked guid number : ℕ) (change : PortChange) (bytes : List ℕ) (held wanted : PortInfo) (state : PortState)
+    → (takes : TakesChange fabric path asked guid number change) → IsRead fabric path asked guid number takes.leads.at bytes held
     → wanted ≡ with_lid_and_enforcement change held → Fits (port_info wanted) → state ≡ state_asked held.port_state
     → Asks fabric path asked guid number takes.leads.at change held wanted state
-asks fabric path asked guid number change held wanted state good takes reads reported_is fits state_is =
-    let at = takes.leads.at in
-    let here = info_there fabric path asked guid number good takes.leads in
-    let same = reads_held fabric path asked guid number at held good here reads in
+asks fabric path asked guid number change bytes held wanted state takes read reported_is fits state_is =
+    let same = read.held_is in
     let wanted_is = reported_is ∙ ap (with_lid_and_enforcement change) same in
     record {
-      here = here;
+      here = read.here;
       held_is = same;
       wanted_is = wanted_is;
       state_is = state_is ∙ ap (λ (info : PortInfo). state_asked info.port_state) same;

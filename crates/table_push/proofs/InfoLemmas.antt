@@ -1,5 +1,5 @@
 -- PortInfo that is read, changed, and set again.
-use Rattle.std.proofs.Common.{ℕ, ◌≡◌, ◌+◌, ◌*◌, ◌-◌, ◌/◌, ◌%◌, ◌^◌, ◌<◌, ◌≤◌, ◌==◌, ◌&&◌, ◌||◌, nat_le, ◌∙◌, ap, refl, sym, subst, Bool, true, false, if◌then◌else◌, List, [], ◌∷◌, length, replicate, take, drop, Option, Some, None, Result, Ok, arith}
+use Rattle.std.proofs.Common.{ℕ, ◌≡◌, ◌+◌, ◌*◌, ◌-◌, ◌/◌, ◌%◌, ◌^◌, ◌<◌, ◌≤◌, ◌==◌, ◌&&◌, ◌||◌, nat_le, ◌∙◌, ap, refl, sym, subst, Bool, true, false, if◌then◌else◌, List, [], ◌∷◌, length, replicate, take, drop, Option, Some, None, Ok, arith}
 use Rattle.std.specs.Int.{bytes_high_first}
 use Rattle.std.specs.Int.Digits.{AllBelowBase}
 use Rattle.std.specs.Option.{is_some, option_map_or}
@@ -16,7 +16,6 @@ use Rattle.agent_rules.proofs.GuardLemmas.{passed}
 use Rattle.attr_tables.specs.PortInfo.{port_info, port_info_bytes}
 use Rattle.attr_tables.specs.PortState.{port_state_code}
 use Rattle.attr_tables.specs.declared.port_info.PortInfo.{PortInfo}
-use Rattle.attr_tables.specs.declared.smp_attribute.SmpAttribute.TheVariants.{PortInfo as PortInfoAsked}
 use Rattle.attr_tables.specs.declared.port_state.PortState.{PortState}
 use Rattle.attr_tables.specs.declared.port_state.PortState.TheVariants.{NoChange, Down, Initialize, Armed, Active}
 use Rattle.fabric_parts.specs.declared.lid.TheConstants.{LAST_UNICAST_LID}
@@ -24,16 +23,10 @@ use Rattle.mad_layout.specs.Bits.{digits, field, number, put_field, replaced}
 use Rattle.mad_layout.specs.Layout.{Field, Fits, Holds, is_apart, is_free, is_layout, put_all}
 use Rattle.mad_layout.specs.declared.status.MadStatus.TheVariants.{InvalidField}
 use Rattle.mad_layout.proofs.AlignedLemmas.{same_bit}
-use Rattle.mad_layout.proofs.LayoutLemmas.{apart_parts, fits_both, fits_drop, fits_take, holds_put_all, length-put_all, length-put_field, put_below}
+use Rattle.mad_layout.proofs.LayoutLemmas.{apart_parts, first_of_layout, fits_both, fits_drop, fits_take, holds_put_all, length-put_all, length-put_field, put_below, zeros_below}
 use Rattle.mad_layout.proofs.NumberLemmas.{number_below, number_bytes, number_same}
 use Rattle.mad_layout.proofs.PutLemmas.{put_swap}
-use Rattle.smp_wire.specs.FabricState.{FabricState}
-use Rattle.smp_wire.specs.Get.{gives_along}
-use Rattle.smp_wire.specs.Replies.{reported_for}
-use Rattle.smp_wire.specs.declared.reply.ReplyFault.{ReplyFault}
 use Rattle.table_push.specs.Ports.{with_end_set, enforces, with_state}
-use Rattle.table_push.specs.declared.fault.PushFault.{PushFault}
-use Rattle.table_push.proofs.LeadLemmas.{SetsAt}
 
 -- ---- what bytes hold is one PortInfo
 pub info_is : (bytes : List ℕ) (a b : PortInfo) → Holds bytes (port_info a) → Holds bytes (port_info b) → a ≡ b
@@ -261,23 +254,44 @@ pub state_is : (info : PortInfo) → Fits (port_info info) → field (port_info_
 unfolding port_info_bytes
 state_is info fits = sym (holds_put_all (replicate 64 0) (port_info info) refl fits).1.1.1.1.1.1.1.1.1.1.1.1.0
 
--- ---- a Get, and a Set
-read_bytes : (x : FabricState) (path bytes given : List ℕ) (asked : ℕ) → gives_along x path PortInfoAsked asked ≡ Some (Ok given)
-    → Ok bytes ≡ reported_for (gives_along x path PortInfoAsked asked) → bytes ≡ given
-read_bytes x path bytes given asked gives reports = same (reports ∙ ap reported_for gives)
-  where
-    same : ◌≡◌ {A = Result (List ℕ) ReplyFault} (Ok bytes) (Ok given) → bytes ≡ given
-    same h = cc
+-- ---- fields that are put over others in the same places
+abbrev pub same_places : List Field → List Field → Bool
+same_places [] [] = true
+same_places [] (q ∷ qs) = false
+same_places (p ∷ ps) [] = false
+same_places (p ∷ ps) (q ∷ qs) = (p.off == q.off) && ((p.len == q.len) && same_places ps qs)
 
-pub info_read : (x : FabricState) (path : List ℕ) (asked : ℕ) (bytes : List ℕ) (read info : PortInfo) → Fits (port_info info)
-    → gives_along x path PortInfoAsked asked ≡ Some (Ok (port_info_bytes info))
-    → Ok bytes ≡ reported_for (gives_along x path PortInfoAsked asked) → Holds bytes (port_info read) → read ≡ info
-info_read x path asked bytes read info fits gives reports holds =
-    info_is (port_info_bytes info) read info
-    (subst (λ (some : List ℕ). Holds some (port_info read)) (read_bytes x path bytes (port_info_bytes info) asked gives reports) holds) (info_holds info fits)
+pub put_over : (xs : List ℕ) (ps qs : List Field) → same_places ps qs ≡ true → is_layout (8 * length xs) ps ≡ true → Fits ps → Fits qs
+    → AllBelowBase 256 xs → put_all (put_all xs ps) qs ≡ put_all xs qs
+put_over xs [] [] same layout fits others small = refl
+put_over xs [] (q ∷ qs) same layout fits others small = absurd (false≢true same)
+put_over xs (p ∷ ps) [] same layout fits others small = absurd (false≢true same)
+put_over xs (p ∷ ps) (q ∷ qs) same layout fits others small =
+    let a = and_parts (p.off == q.off) _ same in
+    let b = and_parts (p.len == q.len) _ a.1 in
+    let offs = eqb-true p.off q.off a.0 in
+    let lens = eqb-true p.len q.len b.0 in
+    let first = first_of_layout (8 * length xs) p ps layout in
+    let one = put_field xs p.off p.len p.value in
+    let size = length-put_field xs p.off p.len p.value in
+    let again = length-put_field xs p.off p.len q.value in
+    let narrow : q.value < 2 ^ p.len = subst (λ (n : ℕ). q.value < 2 ^ n) (sym lens) others.0 in
+    let rest : is_layout (8 * length one) ps ≡ true = ap (λ (n : ℕ). is_layout (8 * n) ps) size ∙ first.rest in
+    let then_rest : is_layout (8 * length (put_field xs p.off p.len q.value)) ps ≡ true = ap (λ (n : ℕ). is_layout (8 * n) ps) again ∙ first.rest in
+    let there : put_field (put_all one ps) q.off q.len q.value ≡ put_all (put_field xs p.off p.len q.value) ps =
+    (λ i. put_field (put_all one ps) (sym offs i) (sym lens i) q.value)
+    ∙ put_first one ps p.off p.len q.value rest first.free fits.1 (omega (arith, size, first.within)) narrow
+    ∙ ap (λ (ys : List ℕ). put_all ys ps) (put_twice xs p.off p.len p.value q.value small first.within fits.0) in
+    ap (λ (ys : List ℕ). put_all ys qs) there
+    ∙ put_over (put_field xs p.off p.len q.value) ps qs b.1 then_rest fits.1 others.1 (put_below xs p.off p.len q.value)
+    ∙ ap (λ (ys : List ℕ). put_all ys qs) (λ i. put_field xs (offs i) (lens i) q.value)
 
-pub sets_state : (stood left : Option FabricState) (result : Result (Unit {0}) PushFault) (path : List ℕ) (asked : ℕ) (info : PortInfo) (state : PortState)
-    (code : ℕ) (bytes : List ℕ) → code ≡ port_state_code state → bytes ≡ port_info_bytes (record info { port_state = code })
-    → SetsAt stood left result path PortInfoAsked asked bytes → SetsAt stood left result path PortInfoAsked asked (port_info_bytes (with_state state info))
-sets_state stood left result path asked info state code bytes codes are sets =
-    subst (SetsAt stood left result path PortInfoAsked asked) (are ∙ ap (λ (n : ℕ). port_info_bytes (record info { port_state = n })) codes) sets
+-- what stands outside the fields of a PortInfo is 0 at a good agent
+pub info_over : (held info : PortInfo) → Fits (port_info held) → Fits (port_info info) → put_all (port_info_bytes held) (port_info info) ≡ port_info_bytes info
+unfolding port_info_bytes
+info_over held info held_fits fits = put_over (replicate 64 0) (port_info held) (port_info info) refl refl held_fits fits (zeros_below 64)
+
+-- ---- a Get
+pub info_from : (bytes : List ℕ) (read info : PortInfo) → Fits (port_info info) → bytes ≡ port_info_bytes info → Holds bytes (port_info read) → read ≡ info
+info_from bytes read info fits are holds =
+    info_is (port_info_bytes info) read info (subst (λ (some : List ℕ). Holds some (port_info read)) are holds) (info_holds info fits)

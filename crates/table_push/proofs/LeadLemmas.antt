@@ -178,5 +178,5 @@ SetsAt stood left result path attribute modifier wanted =
     → Leaves result left fabric next
 
 -- a fault is none where it is done
-pub no_fault : (fault : PushFault) (left : Option FabricState) (was next : FabricState) → Leaves {X = Unit {0}} (Err fault) left was next → ⊥
+pub no_fault : {X : Type 0} (fault : PushFault) (left : Option FabricState) (was next : FabricState) → Leaves {X = X} (Err fault) left was next → ⊥
 no_fault fault left was next leaves = false≢true leaves.done

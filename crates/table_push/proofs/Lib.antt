@@ -1,4 +1,5 @@
 pub mod SettingLemmas
+pub mod EnforcementLemmas
 pub mod NodeLemmas
 pub mod LeadLemmas
 pub mod AttachedLemmas

@@ -12,9 +12,9 @@ use Rattle.attr_tables.specs.SwitchInfo.{switch_info, switch_info_bytes}
 use Rattle.attr_tables.specs.declared.smp_attribute.SmpAttribute.TheVariants.{SwitchInfo as SwitchInfoAsked}
 use Rattle.attr_tables.specs.declared.switch_info.SwitchInfo.{SwitchInfo}
 use Rattle.lid_assign.specs.Lids.{AreLids, adapter_end, end_ports, switch_end}
-use Rattle.mad_layout.specs.Layout.{Fits, Holds}
+use Rattle.mad_layout.specs.Layout.{Fits, Holds, put_all}
 use Rattle.mad_layout.proofs.AlignedLemmas.{same_bit}
-use Rattle.mad_layout.proofs.LayoutLemmas.{encoded_below, holds_put_all}
+use Rattle.mad_layout.proofs.LayoutLemmas.{encoded_below, holds_put_all, zeros_below}
 use Rattle.smp_wire.specs.FabricState.{FabricState, is_switch, is_switch_at}
 use Rattle.smp_wire.specs.Get.{gives_along}
 use Rattle.smp_wire.specs.Good.{IsGood, node_guid}
@@ -34,14 +34,14 @@ use Rattle.table_push.specs.Nodes.{on_switch, switch_by, with_infos, with_switch
 use Rattle.table_push.specs.Ports.{change_wanted, changed, ports_pushed, set_top, with_top}
 use Rattle.table_push.specs.Pushes.{LeadsToSwitch, Leaves, Stands}
 use Rattle.table_push.specs.declared.fault.PushFault.{PushFault}
-use Rattle.table_push.proofs.InfoLemmas.{put_own}
+use Rattle.table_push.proofs.InfoLemmas.{put_over, put_own}
 use Rattle.table_push.proofs.LawLemmas.{found_there, switch_at}
 use Rattle.table_push.proofs.LeadLemmas.{SetsAt, SwitchThere, begins_as, ends_as, goes_on, good_switch, leads_on, switch_gives_then, switch_takes, switch_there}
 use Rattle.table_push.proofs.NodeLemmas.{both_written, map_alike, none_written}
 use Rattle.updn_routes.specs.Subnet.{RoutesState}
 
 -- ---- what bytes hold is one SwitchInfo
-info_is : (bytes : List ℕ) (a b : SwitchInfo) → Holds bytes (switch_info a) → Holds bytes (switch_info b) → a ≡ b
+pub info_is : (bytes : List ℕ) (a b : SwitchInfo) → Holds bytes (switch_info a) → Holds bytes (switch_info b) → a ≡ b
 info_is bytes a b g h =
     let g1 = g.1.1.1.1.1.1.1.1 in
     let h1 = h.1.1.1.1.1.1.1.1 in
@@ -73,6 +73,11 @@ info_is bytes a b g h =
 info_holds : (info : SwitchInfo) → Fits (switch_info info) → Holds (switch_info_bytes info) (switch_info info)
 unfolding switch_info_bytes
 info_holds info fits = holds_put_all (replicate 64 0) (switch_info info) refl fits
+
+-- what stands outside the fields of a SwitchInfo is 0 at a good agent
+info_over : (held info : SwitchInfo) → Fits (switch_info held) → Fits (switch_info info) → put_all (switch_info_bytes held) (switch_info info) ≡ switch_info_bytes info
+unfolding switch_info_bytes
+info_over held info held_fits fits = put_over (replicate 64 0) (switch_info held) (switch_info info) refl refl held_fits fits (zeros_below 64)
 
 top_fits : (lid : ℕ) (info : SwitchInfo) → lid < 512 → Fits (switch_info info) → Fits (switch_info (with_top lid info))
 top_fits lid info small f = (f.0, (f.1.0, (f.1.1.0, (omega (arith, small), f.1.1.1.1))))
@@ -114,17 +119,19 @@ no_refusal fabric path guid fault leads reports =
     let same = reports ∙ ap reported_for (given fabric path guid (switch_there fabric path guid leads)) in
     absurd (cc)
 
-pub top_set : (fabric : FabricState) (stood left : Option FabricState) (result : Result (Unit {0}) PushFault) (path : List ℕ) (guid lid : ℕ) (read : SwitchInfo)
+pub top_set : (fabric : FabricState) (stood left : Option FabricState) (result : Result (Unit {0}) PushFault) (path : List ℕ) (guid lid : ℕ)
     (bytes wanted : List ℕ) → IsGood fabric → stood ≡ Some fabric → LeadsToSwitch fabric path guid → lid < 512
-    → Ok bytes ≡ reported_for (gives_along fabric path SwitchInfoAsked 0) → Holds bytes (switch_info read) → wanted ≡ switch_info_bytes (with_top lid read)
+    → Ok bytes ≡ reported_for (gives_along fabric path SwitchInfoAsked 0)
+    → ((info : SwitchInfo) → Holds bytes (switch_info info) → wanted ≡ put_all bytes (switch_info (with_top lid info)))
     → SetsAt stood left result path SwitchInfoAsked 0 wanted → Leaves result left fabric (with_switches (on_switch guid (set_top lid)) fabric)
-top_set fabric stood left result path guid lid read bytes wanted good stands leads small reports holds is sets =
+top_set fabric stood left result path guid lid bytes wanted good stands leads small reports is sets =
     let here = switch_there fabric path guid leads in
     let fine = good_switch fabric path guid good here in
     let are = same_bytes fabric path bytes (switch_info_bytes here.held.info) (given fabric path guid here) reports in
-    let same : read ≡ here.held.info =
-    info_is (switch_info_bytes here.held.info) read here.held.info (subst (λ (some : List ℕ). Holds some (switch_info read)) are holds) (info_holds here.held.info fine.info) in
-    let wanted_is : wanted ≡ switch_info_bytes (with_top lid here.held.info) = is ∙ ap (λ (info : SwitchInfo). switch_info_bytes (with_top lid info)) same in
+    let holds = subst (λ (some : List ℕ). Holds some (switch_info here.held.info)) (sym are) (info_holds here.held.info fine.info) in
+    let wanted_is : wanted ≡ switch_info_bytes (with_top lid here.held.info) =
+    is here.held.info holds ∙ ap (λ (some : List ℕ). put_all some (switch_info (with_top lid here.held.info))) are
+    ∙ info_over here.held.info (with_top lid here.held.info) fine.info (top_fits lid here.held.info small fine.info) in
     sets fabric stands (with_switches (on_switch guid (set_top lid)) fabric) good
     (switch_takes fabric path guid (set_top lid) SwitchInfoAsked 0 wanted good here (takes_top here.held lid wanted small fine.linear.count fine.info wanted_is))
     (λ shape. record {

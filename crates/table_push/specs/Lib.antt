@@ -1,4 +1,6 @@
 pub mod Fault
+pub mod Enforcement
+pub mod WrongRules
 pub mod Nodes
 pub mod Linear
 pub mod Masks

@@ -1,7 +1,7 @@
 //! Why a push stops.
 
 ghost use Rattle.std.specs.Prelude.{◌≡◌};
-ghost use Rattle.table_push.specs.Fault.{as_set, code_of, fault_of, meaning, compared};
+ghost use Rattle.table_push.specs.Fault.{all_taken, as_set, code_of, compared, count_of, fault_of, meaning, taken_after_refusal, taken_of, without_enforcement};
 
 use attr_tables::SmpAttribute;
 use mad_layout::{get_bits, put_bits};
@@ -84,4 +84,77 @@ fn compared(attribute: SmpAttribute, wanted: &[u8; 64], reported: &[u8; 64]) -> 
         put_bits::<93, 1>(&mut bytes, get_bits::<93, 1>(wanted));
     }
     bytes
+}
+
+/// What a port takes of a Set of PortInfo.
+#[derive(Clone, Copy)]
+pub(crate) enum Taken {
+    /// All.
+    AsSet,
+    /// All but that it enforces partitions: both bits of that were set, and it reports both as 0.
+    NotEnforcing,
+}
+
+impl Taken {
+    /// How many ports that do not enforce partitions that makes.
+    pub(crate) fn count(self) -> usize
+        ensures { result ≡ count_of self }
+    {
+        match self {
+            Taken::AsSet => 0,
+            Taken::NotEnforcing => 1,
+        }
+    }
+}
+
+/// What a port takes of a Set of PortInfo to these bytes, by what it reports then. One that takes one of the two enforcement
+/// bits alone is at fault, since partitions would be kept apart one way only.
+pub(crate) fn taken_of(wanted: &[u8; 64], reported: &[u8; 64]) -> Result<Taken, PushFault>
+    ensures { result ≡ taken_of wanted.now reported.now }
+{
+    let compared = compared(SmpAttribute::PortInfo, wanted, reported);
+    if compared == *wanted {
+        Ok(Taken::AsSet)
+    } else if get_bits::<348, 2>(wanted) == 3 && compared == without_enforcement(wanted) {
+        Ok(Taken::NotEnforcing)
+    } else {
+        Err(PushFault::NotAsSet)
+    }
+}
+
+/// PortInfo of a port that does not enforce partitions, but for that as these bytes.
+fn without_enforcement(bytes: &[u8; 64]) -> [u8; 64]
+    ensures { result ≡ without_enforcement bytes.now }
+{
+    let mut bytes = *bytes;
+    put_bits::<348, 2>(&mut bytes, 0);
+    bytes
+}
+
+/// What a port takes of a Set that its agent refuses, by what the agent reports to a Get. It may have carried out the Set
+/// before, and the reply was lost: then it may refuse the same Set, since an Armed port cannot become Armed.
+pub(crate) fn taken_after_refusal(
+    wanted: &[u8; 64],
+    reported: Result<[u8; 64], ReplyFault>,
+) -> Result<Taken, PushFault>
+    ensures { result ≡ taken_after_refusal wanted.now reported }
+{
+    match reported {
+        Ok(held) => match taken_of(wanted, &held) {
+            Ok(taken) => Ok(taken),
+            Err(_) => Err(PushFault::Refused),
+        },
+        Err(_) => Err(PushFault::Refused),
+    }
+}
+
+/// The same, if the port has to take all.
+pub(crate) fn all_taken(taken: Result<Taken, PushFault>) -> Result<(), PushFault>
+    ensures { result ≡ all_taken taken }
+{
+    match taken {
+        Ok(Taken::AsSet) => Ok(()),
+        Ok(Taken::NotEnforcing) => Err(PushFault::NotAsSet),
+        Err(fault) => Err(fault),
+    }
 }

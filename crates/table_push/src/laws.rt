@@ -1,6 +1,8 @@
 //! What holds after every push. The functions do nothing; their clauses are the theorems.
 
 ghost use Rattle.table_push.specs.BroughtUpLaws.{AllMasksAreThere, BroughtUpForwardsByLid, BroughtUpForwardsByMlid, BroughtUpHasNoIdleBits, MasksKeepWhatIsUp, PushesBringUp, PushesKeepTheEndPorts};
+ghost use Rattle.table_push.specs.Enforcement.{OnlySuchPortsCount};
+ghost use Rattle.table_push.specs.Fault.{taken_of};
 ghost use Rattle.table_push.specs.Forget.{PushesForget, PushesReplace};
 ghost use Rattle.table_push.specs.SetUp.{EachPortIsServed, EachSwitchIsSetUp};
 ghost use Rattle.table_push.specs.Laws.{EverySwitchHasItsTable, MasksAreRead, PushesKeepTheGraph, MlidRangesAreTheirOwn, MlidRangesMakeAll, MlidRangesMakeTheWhole};
@@ -76,4 +78,10 @@ pub fn mlid_ranges_are_of_the_whole()
     ensures own { MlidRangesAreTheirOwn }
     ensures whole { MlidRangesMakeTheWhole }
     ensures all { MlidRangesMakeAll }
+{}
+
+/// A port is counted as one that does not enforce partitions only if both enforcement bits were set and it reports both as 0. All
+/// else but PortState it reports as it was set.
+pub fn only_such_ports_count()
+    ensures { OnlySuchPortsCount taken_of }
 {}

@@ -6,7 +6,8 @@
 //! why a push stops. [`push_multicast`] writes the multicast forwarding tables of a partition, by who receives what is sent
 //! to each multicast LID, and [`push_changed`] the blocks of them that differ from those that stand there. [`port_masks`]
 //! computes the port masks of one group at all switches, along the [`Tree`] of the routes ([`tree_of`]), and sets nothing. [`push_all`] does
-//! the first three pushes. `specs/BroughtUp.antt` says what a fabric holds then, and [`pushes_bring_up`] that it does.
+//! the first three pushes. [`push_ports_counting`] and [`push_all_counting`] also return how many ports of switches do not
+//! enforce partitions. `specs/BroughtUp.antt` says what a fabric holds then, and [`pushes_bring_up`] that it does.
 //! [`brought_up_forwards_by_lid`] says that every packet goes by its LID then, for routes that lead to each port
 //! ([`known_to_lead_home`]).
 //! The attributes are those of the IBA volume 1, chapter 14.
@@ -28,6 +29,7 @@ mod range_blocks;
 mod setting;
 mod tops;
 mod trees;
+mod wrong_rules;
 
 pub use crate::changes::push_changed;
 pub use crate::fault::PushFault;
@@ -36,10 +38,12 @@ pub use crate::keys::push_keys;
 pub use crate::laws::{
     brought_up_forwards_by_lid, brought_up_forwards_by_mlid, brought_up_has_no_idle_bits,
     brought_up_is_as_routed, every_switch_has_its_table, masks_are_read, masks_keep_what_is_up,
-    mlid_ranges_are_of_the_whole, pushes_bring_up, pushes_forget, pushes_keep_the_graph,
+    mlid_ranges_are_of_the_whole, only_such_ports_count, pushes_bring_up, pushes_forget,
+    pushes_keep_the_graph,
 };
 pub use crate::linear::push_linear;
 pub use crate::multicast::push_multicast;
-pub use crate::ports::push_ports;
-pub use crate::pushing::{known_to_lead_home, push_all};
+pub use crate::ports::{push_ports, push_ports_counting};
+pub use crate::pushing::{known_to_lead_home, push_all, push_all_counting};
 pub use crate::trees::{Tree, tree_of};
+pub use crate::wrong_rules::one_bit_is_not_both;

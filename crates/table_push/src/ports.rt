@@ -1,21 +1,21 @@
 //! PortInfo of all ports.
 
-ghost use Rattle.std.specs.Prelude.{ℕ, ◌≡◌, ◌≤◌, ◌<◌, ◌==◌, ◌+◌, ◌%◌, ◌^◌, IfOk, length, Some, Ok};
+ghost use Rattle.std.specs.Prelude.{ℕ, ◌≡◌, ◌≤◌, ◌<◌, ◌==◌, ◌+◌, ◌%◌, ◌^◌, List, length, Some, Ok, IfOk};
 ghost use Rattle.std.specs.Option.{ForSome};
-ghost use Rattle.attr_tables.specs.PortInfo.{port_info, port_info_bytes};
-ghost use Rattle.attr_tables.specs.declared.port_info.PortInfo.{PortInfo};
+ghost use Rattle.attr_tables.specs.PortInfo.{port_info};
 ghost use Rattle.attr_tables.specs.declared.smp_attribute.SmpAttribute.TheVariants as attribute;
-ghost use Rattle.mad_layout.specs.Layout.{Fits};
+ghost use Rattle.mad_layout.specs.Layout.{Fits, put_all};
 ghost use Rattle.smp_wire.specs.Get.{gives_along};
 ghost use Rattle.smp_wire.specs.Good.{IsGood, ShowsLinks};
 ghost use Rattle.sweep.specs.OfFabric.{IsGraphOf};
+ghost use Rattle.table_push.specs.Fault.{all_enforce, all_taken};
 ghost use Rattle.table_push.specs.Nodes.{on_port, with_infos};
 ghost use Rattle.table_push.specs.Ports.{TakesChange, activated, armed, at_switch, at_switches_before, changed_in, changed_where, with_end_set, enforces, first_state, in_round, ports_pushed, state_asked, with_lid_and_enforcement, with_state};
 ghost use Rattle.table_push.specs.Pushes.{Leaves};
 ghost use Rattle.table_push.specs.Steps.{SetsUpCable, SetsUpMore, SetsUpRest, TakesAndGives, at_links};
 
-use crate::fault::{PushFault, fault_of};
-use crate::setting::set;
+use crate::fault::{PushFault, Taken, all_taken, fault_of};
+use crate::setting::set_port_info;
 use crate::tops::set_tops;
 use attr_tables::{PortInfo, PortState, SmpAttribute};
 use fabric_parts::{GID_PREFIX, MANAGER_LID};
@@ -45,34 +45,57 @@ pub(crate) enum Round {
 
 /// Sets up all ports: each end port has its prefix, its LID, LMC 0 and the subnet manager's LID, each port with a cable becomes
 /// Active, the ports of switches that channel adapters are attached to enforce partitions and those between switches do not, and
-/// LinearFDBTop of each switch is the greatest LID.
+/// LinearFDBTop of each switch is the greatest LID. A port that takes all but that it enforces partitions is no fault:
+/// [`push_ports_counting`] counts these.
 ///
 /// Over a wire that stands for the graph's fabric, whose links show, that stands there then, and all else is as it was.
 pub fn push_ports<W: SmpWire>(wire: &mut W, routes: &Routes) -> Result<(), PushFault>
     ensures { ForSome (W.fabric wire.old) (λ fabric. IsGraphOf routes.now.graph fabric → IsGood fabric → ShowsLinks fabric
         → Leaves result (W.fabric wire.new) fabric (ports_pushed routes.now fabric)) }
 {
-    let mut transaction_id = 0;
-    match to_ports(wire, &mut transaction_id, routes, Round::Arming) {
-        Ok(()) => {}
-        Err(fault) => return Err(fault),
+    match push_ports_counting(wire, routes) {
+        Ok(_) => Ok(()),
+        Err(fault) => Err(fault),
     }
-    match to_ports(wire, &mut transaction_id, routes, Round::Activating) {
-        Ok(()) => {}
-        Err(fault) => return Err(fault),
-    }
-    set_tops(wire, &mut transaction_id, routes)
 }
 
-/// Does one round at all ports.
+/// Does what [`push_ports`] does, and returns how many ports of switches do not enforce partitions. Each is one that a channel
+/// adapter is attached to, and reports both enforcement bits of PortInfo as 0 after a Set to 1. Only the channel adapter keeps
+/// partitions apart there.
+///
+/// Over a wire that stands for the graph's fabric, whose links show, it is none.
+pub fn push_ports_counting<W: SmpWire>(wire: &mut W, routes: &Routes) -> Result<usize, PushFault>
+    ensures left { ForSome (W.fabric wire.old) (λ fabric. IsGraphOf routes.now.graph fabric → IsGood fabric → ShowsLinks fabric
+        → Leaves result (W.fabric wire.new) fabric (ports_pushed routes.now fabric)) }
+    ensures all { ForSome (W.fabric wire.old) (λ fabric. IsGraphOf routes.now.graph fabric → IsGood fabric → ShowsLinks fabric
+        → IfOk result (λ count. count ≡ 0)) }
+    ensures few { IfOk result (λ count. count ≤ length routes.now.graph.ports) }
+{
+    let mut transaction_id = 0;
+    let count = match to_ports(wire, &mut transaction_id, routes, Round::Arming) {
+        Ok(count) => count,
+        Err(fault) => return Err(fault),
+    };
+    match to_ports(wire, &mut transaction_id, routes, Round::Activating) {
+        Ok(_) => {}
+        Err(fault) => return Err(fault),
+    }
+    match set_tops(wire, &mut transaction_id, routes) {
+        Ok(()) => Ok(count),
+        Err(fault) => Err(fault),
+    }
+}
+
+/// Does one round at all ports, and returns how many ports of switches before channel adapters do not enforce partitions.
 fn to_ports<W: SmpWire>(
     wire: &mut W,
     transaction_id: &mut u64,
     routes: &Routes,
     round: Round,
-) -> Result<(), PushFault>
-    ensures { ForSome (W.fabric wire.old) (λ fabric. IsGraphOf routes.now.graph fabric → IsGood fabric → ShowsLinks fabric
-        → Leaves result (W.fabric wire.new) fabric (with_infos (changed_in round routes.now) fabric)) }
+) -> Result<usize, PushFault>
+    ensures left { ForSome (W.fabric wire.old) (λ fabric. IsGraphOf routes.now.graph fabric → IsGood fabric → ShowsLinks fabric
+        → Leaves (all_enforce result) (W.fabric wire.new) fabric (with_infos (changed_in round routes.now) fabric)) }
+    ensures few { IfOk result (λ count. count ≤ length routes.now.graph.ports) }
 {
     match to_switches(wire, transaction_id, routes, round) {
         Ok(()) => {}
@@ -169,36 +192,40 @@ fn to_links<W: SmpWire>(
     Ok(())
 }
 
-/// Does a round at both ends of each cable between a switch and a channel adapter.
+/// Does a round at both ends of each cable between a switch and a channel adapter, and returns how many of these ports of
+/// switches do not enforce partitions.
 fn to_cables<W: SmpWire>(
     wire: &mut W,
     transaction_id: &mut u64,
     routes: &Routes,
     round: Round,
-) -> Result<(), PushFault>
-    ensures { SetsUpRest routes.now round (W.fabric wire.old) (W.fabric wire.new) result }
+) -> Result<usize, PushFault>
+    ensures left { SetsUpRest routes.now round (W.fabric wire.old) (W.fabric wire.new) (all_enforce result) }
+    ensures few { IfOk result (λ count. count ≤ length routes.now.graph.ports) }
 {
     let graph = routes.graph();
     graph.known_graph();
+    let mut count = 0;
     for place in 0..graph.ports().len() {
         match to_cable(wire, transaction_id, routes, round, place) {
-            Ok(()) => {}
+            Ok(taken) => count += taken.count(),
             Err(fault) => return Err(fault),
         }
     }
-    Ok(())
+    Ok(count)
 }
 
-/// Does a round at a port of a channel adapter, and at the port of a switch that it is attached to.
+/// Does a round at a port of a channel adapter, and at the port of a switch that it is attached to. Returns what that port of
+/// the switch takes; the port of the channel adapter has to take all.
 fn to_cable<W: SmpWire>(
     wire: &mut W,
     transaction_id: &mut u64,
     routes: &Routes,
     round: Round,
     place: usize,
-) -> Result<(), PushFault>
+) -> Result<Taken, PushFault>
     requires { place < length routes.now.graph.ports }
-    ensures { SetsUpCable routes.now round (W.fabric wire.old) (W.fabric wire.new) place result }
+    ensures { SetsUpCable routes.now round (W.fabric wire.old) (W.fabric wire.new) place (all_taken result) }
 {
     let graph = routes.graph();
     graph.known_graph();
@@ -211,7 +238,7 @@ fn to_cable<W: SmpWire>(
         enforcement: Some(true),
         active: true,
     };
-    match set_port(
+    let taken = match round_at(
         wire,
         transaction_id,
         switch.path.as_slice(),
@@ -219,20 +246,22 @@ fn to_cable<W: SmpWire>(
         round,
         &before,
     ) {
-        Ok(()) => {}
+        Ok(taken) => taken,
         Err(fault) => return Err(fault),
-    }
+    };
     let own = PortChange {
         lid: lids.lid_of(port.port_guid),
         enforcement: None,
         active: true,
     };
     let path = switch.path.then(port.at.port);
-    set_port(wire, transaction_id, path.as_slice(), 0, round, &own)
+    match set_port(wire, transaction_id, path.as_slice(), 0, round, &own) {
+        Ok(()) => Ok(taken),
+        Err(fault) => Err(fault),
+    }
 }
 
-/// Does a round at a port of the node at the end of a path. A switch is asked for its port of that number; a port of a channel
-/// adapter is asked for port 0, itself.
+/// Does a round at a port of the node at the end of a path. The port has to take all.
 fn set_port<W: SmpWire>(
     wire: &mut W,
     transaction_id: &mut u64,
@@ -246,32 +275,57 @@ fn set_port<W: SmpWire>(
         → TakesChange fabric path.now asked guid number change.now
         → Leaves result (W.fabric wire.new) fabric (with_infos (on_port guid number (in_round round change.now)) fabric)) }
 {
+    let taken = round_at(wire, transaction_id, path, asked, round, change);
+    all_taken(taken)
+}
+
+/// Does a round at a port of the node at the end of a path, and returns what the port takes. A switch is asked for its port of
+/// that number; a port of a channel adapter is asked for port 0, itself.
+fn round_at<W: SmpWire>(
+    wire: &mut W,
+    transaction_id: &mut u64,
+    path: &[u8],
+    asked: u8,
+    round: Round,
+    change: &PortChange,
+) -> Result<Taken, PushFault>
+    requires { length path.now ≤ 63 }
+    ensures { ForSome (W.fabric wire.old) (λ fabric. (guid number : ℕ) → IsGood fabric
+        → TakesChange fabric path.now asked guid number change.now
+        → Leaves (all_taken result) (W.fabric wire.new) fabric (with_infos (on_port guid number (in_round round change.now)) fabric)) }
+{
     match round {
         Round::Arming => arm(wire, transaction_id, path, asked, change),
-        Round::Activating => activate(wire, transaction_id, path, asked, change),
+        Round::Activating => match activate(wire, transaction_id, path, asked, change) {
+            Ok(()) => Ok(Taken::AsSet),
+            Err(fault) => Err(fault),
+        },
     }
 }
 
-/// Changes PortInfo of a port in all but that it becomes Active; one that is to become Active becomes Armed.
+/// Changes PortInfo of a port in all but that it becomes Active; one that is to become Active becomes Armed. Returns what the
+/// port takes.
 fn arm<W: SmpWire>(
     wire: &mut W,
     transaction_id: &mut u64,
     path: &[u8],
     asked: u8,
     change: &PortChange,
-) -> Result<(), PushFault>
+) -> Result<Taken, PushFault>
     requires { length path.now ≤ 63 }
     ensures { ForSome (W.fabric wire.old) (λ fabric. (guid number : ℕ) → IsGood fabric
         → TakesChange fabric path.now asked guid number change.now
-        → Leaves result (W.fabric wire.new) fabric (with_infos (on_port guid number (armed change.now)) fabric)) }
+        → Leaves (all_taken result) (W.fabric wire.new) fabric (with_infos (on_port guid number (armed change.now)) fabric)) }
 {
-    let held = match held_info(wire, transaction_id, path, asked) {
-        Ok(held) => held,
+    let bytes = match held_info(wire, transaction_id, path, asked) {
+        Ok(bytes) => bytes,
         Err(fault) => return Err(fault),
     };
+    let held = PortInfo::read(&bytes);
     let info = change.with_lid_and_enforcement(&held);
     let state = first_state(change.active, held.port_state);
-    set_info(wire, transaction_id, path, asked, &info, state)
+    let wanted = in_state(state, &info);
+    set_info(wire, transaction_id, path, asked, &bytes, &wanted)
 }
 
 /// Makes a port Active that is to be, unless it is. One that has come back to Initialize becomes Armed before.
@@ -290,37 +344,41 @@ fn activate<W: SmpWire>(
     if !change.active {
         return Ok(());
     }
-    let held = match held_info(wire, transaction_id, path, asked) {
-        Ok(held) => held,
+    let bytes = match held_info(wire, transaction_id, path, asked) {
+        Ok(bytes) => bytes,
         Err(fault) => return Err(fault),
     };
+    let held = PortInfo::read(&bytes);
     let state = state_asked(held.port_state);
     match state {
         PortState::NoChange => return Ok(()),
         _ => {}
     }
-    match set_info(wire, transaction_id, path, asked, &held, state) {
+    let first = in_state(state, &held);
+    match set_whole_info(wire, transaction_id, path, asked, &bytes, &first) {
         Ok(()) => {}
         Err(fault) => return Err(fault),
     }
     match state {
-        PortState::Armed => set_info(wire, transaction_id, path, asked, &held, PortState::Active),
+        PortState::Armed => {
+            let last = in_state(PortState::Active, &held);
+            set_whole_info(wire, transaction_id, path, asked, &bytes, &last)
+        }
         _ => Ok(()),
     }
 }
 
-/// PortInfo of a port, as it is now.
+/// PortInfo of a port, as it is now, with what stands outside our fields.
 fn held_info<W: SmpWire>(
     wire: &mut W,
     transaction_id: &mut u64,
     path: &[u8],
     asked: u8,
-) -> Result<PortInfo, PushFault>
+) -> Result<[u8; 64], PushFault>
     requires { length path.now ≤ 63 }
-    ensures reported { ForSome (W.fabric wire.old) (λ fabric. (info : PortInfo) → IsGood fabric → Fits (port_info info)
-        → gives_along fabric path.now attribute.PortInfo asked ≡ Some (Ok (port_info_bytes info)) → result ≡ Ok info) }
+    ensures reported { ForSome (W.fabric wire.old) (λ fabric. (given : List ℕ) → IsGood fabric
+        → gives_along fabric path.now attribute.PortInfo asked ≡ Some (Ok given) → result ≡ Ok given) }
     ensures left { ForSome (W.fabric wire.old) (λ fabric. IsGood fabric → W.fabric wire.new ≡ Some fabric) }
-    ensures fits { IfOk result (λ info. Fits (port_info info)) }
     ensures counted { transaction_id.new ≡ (transaction_id.old + 1) % 2 ^ 64 }
 {
     *transaction_id = transaction_id.wrapping_add(1);
@@ -331,39 +389,59 @@ fn held_info<W: SmpWire>(
         asked as u32,
         path,
     ) {
-        Ok(bytes) => Ok(PortInfo::read(&bytes)),
+        Ok(bytes) => Ok(bytes),
         Err(fault) => Err(fault_of(fault)),
     }
 }
 
-/// Sets PortInfo of a port to this, with that state.
+/// Sets PortInfo of a port to this, and the port has to take all.
+fn set_whole_info<W: SmpWire>(
+    wire: &mut W,
+    transaction_id: &mut u64,
+    path: &[u8],
+    asked: u8,
+    held: &[u8; 64],
+    info: &PortInfo,
+) -> Result<(), PushFault>
+    requires path { length path.now ≤ 63 }
+    requires fits { Fits (port_info info.now) }
+    ensures { ForSome (W.fabric wire.old) (λ fabric. TakesAndGives fabric (W.fabric wire.new) path.now attribute.PortInfo asked
+        (put_all held.now (port_info info.now)) result) }
+{
+    let taken = set_info(wire, transaction_id, path, asked, held, info);
+    all_taken(taken)
+}
+
+/// Sets PortInfo of a port to this, and returns what the port takes. What it holds outside our fields, as CapabilityMask2, is
+/// set to what it was.
 fn set_info<W: SmpWire>(
     wire: &mut W,
     transaction_id: &mut u64,
     path: &[u8],
     asked: u8,
+    held: &[u8; 64],
     info: &PortInfo,
-    state: PortState,
-) -> Result<(), PushFault>
+) -> Result<Taken, PushFault>
     requires path { length path.now ≤ 63 }
     requires fits { Fits (port_info info.now) }
-    ensures left { ForSome (W.fabric wire.old) (λ fabric. TakesAndGives fabric (W.fabric wire.new) path.now attribute.PortInfo asked
-        (port_info_bytes (with_state state info.now)) result) }
-    ensures counted { transaction_id.new ≡ (transaction_id.old + 1) % 2 ^ 64 }
+    ensures { ForSome (W.fabric wire.old) (λ fabric. TakesAndGives fabric (W.fabric wire.new) path.now attribute.PortInfo asked
+        (put_all held.now (port_info info.now)) (all_taken result)) }
 {
-    let wanted = PortInfo {
+    let mut wanted = *held;
+    info.put_over(&mut wanted);
+    set_port_info(wire, transaction_id, asked as u32, path, &wanted)
+}
+
+/// PortInfo with that state asked for.
+fn in_state(state: PortState, info: &PortInfo) -> PortInfo
+    requires { Fits (port_info info.now) }
+    ensures reported { result ≡ with_state state info.now }
+    ensures fits { Fits (port_info result) }
+{
+    PortInfo {
         port_state: state.code(),
         ..*info
-    };
-    let bytes = wanted.to_bytes();
-    set(
-        wire,
-        transaction_id,
-        SmpAttribute::PortInfo,
-        asked as u32,
-        path,
-        &bytes,
-    )
+    }
 }
 
 impl PortChange {

@@ -2,10 +2,13 @@
 
 ghost use Rattle.std.specs.Prelude.{ℕ, ◌≡◌, ◌≤◌, ◌<◌, ◌+◌, ◌%◌, ◌^◌, length, OnOk};
 ghost use Rattle.std.specs.Option.{ForSome};
+ghost use Rattle.attr_tables.specs.SwitchInfo.{switch_info};
+ghost use Rattle.attr_tables.specs.declared.switch_info.SwitchInfo.{SwitchInfo};
+ghost use Rattle.mad_layout.specs.Layout.{Holds, put_all};
 ghost use Rattle.smp_wire.specs.Good.{IsGood};
 ghost use Rattle.sweep.specs.OfFabric.{IsGraphOf};
 ghost use Rattle.table_push.specs.Nodes.{on_switch, with_switches};
-ghost use Rattle.table_push.specs.Ports.{set_top};
+ghost use Rattle.table_push.specs.Ports.{set_top, with_top};
 ghost use Rattle.table_push.specs.Pushes.{LeadsToSwitch, Leaves};
 
 use crate::fault::{PushFault, fault_of};
@@ -56,11 +59,7 @@ fn set_top<W: SmpWire>(
         Ok(bytes) => bytes,
         Err(fault) => return Err(fault_of(fault)),
     };
-    let wanted = SwitchInfo {
-        linear_fdb_top: lid,
-        ..SwitchInfo::read(&bytes)
-    };
-    let wanted = wanted.to_bytes();
+    let wanted = with_top(&bytes, lid);
     set(
         wire,
         transaction_id,
@@ -69,4 +68,17 @@ fn set_top<W: SmpWire>(
         path,
         &wanted,
     )
+}
+
+/// SwitchInfo with that LinearFDBTop; what stands outside our fields stays too.
+fn with_top(bytes: &[u8; 64], lid: u16) -> [u8; 64]
+    ensures { (info : SwitchInfo) → Holds bytes.now (switch_info info) → result ≡ put_all bytes.now (switch_info (with_top lid info)) }
+{
+    let info = SwitchInfo {
+        linear_fdb_top: lid,
+        ..SwitchInfo::read(bytes)
+    };
+    let mut wanted = *bytes;
+    info.put_over(&mut wanted);
+    wanted
 }

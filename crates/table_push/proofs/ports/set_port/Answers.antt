@@ -1,10 +1,4 @@
-use Rattle.table_push.proofs.ChangeLemmas.{activates_in, arms_in}
 use Rattle.table_push.proofs.ports.set_port.Goals as goal
 
-pub returns-in-Arming : goal.returns-in-Arming
-returns-in-Arming g c x stands guid number good takes =
-    arms_in _ _ x guid number c.args.change.now c.args.round c.in-Arming.is (c.arm.ensures x stands guid number good takes)
-
-pub returns-in-Activating : goal.returns-in-Activating
-returns-in-Activating g c x stands guid number good takes =
-    activates_in _ _ x guid number c.args.change.now c.args.round c.in-Activating.is (c.activate.ensures x stands guid number good takes)
+pub returns : goal.returns
+returns g c x stands guid number good takes = rw c.all_taken.ensures (c.round_at-taken.ensures x stands guid number good takes)

@@ -33,8 +33,23 @@ returns-in-Err g c port at fabric there of good shows stands =
     (before_reported _ _ _ _ fabric c.args.routes.now there c.args.place _ good shows h.is of h.at h.attachment stands
     (changes_along _ _ _ _ _ _ _ _ path c.in-Err.ensures)))
 
-pub returns : goal.returns
-returns g c port at fabric there of good shows stands =
+pub returns-in-Err-set_port : goal.returns-in-Err-set_port
+returns-in-Err-set_port g c port at fabric there of good shows stands =
+    let h = home c.args.routes.now.graph c.graph-graph.result.now c.ports.result.now c.switches.result.now c.args.place c.known_graph.ensures c.graph-graph.ensures
+    c.ports.ensures c.switches.ensures c.requires in
+    let one = get_or c.ports.result.now c.args.place no_port in
+    let switch = c.index-switches-port.is ∙ h.same _ in
+    let path = c.as_slice.ensures.value ∙ ap (λ (s : GraphSwitch). s.path) switch in
+    let first = before_reported _ _ _ _ fabric c.args.routes.now there c.args.place one good shows h.is of h.at h.attachment stands
+    (changes_along _ _ _ _ _ _ one.at.port _ path c.in-Ok.ensures) in
+    let longer = c.as_slice-2.ensures.value ∙ c.then-path.ensures ∙ ap (λ (s : GraphSwitch). s.path ++ one.at.port ∷ []) switch in
+    absurd (no_fault c.in-Err-set_port.fault _ fabric _
+    (adapter_reported _ _ _ _ fabric c.args.routes.now _ c.args.place one _ good shows h.is of h.at h.attachment (omega (arith, c.known_distinct.ensures.few, ap length c.lids-lids.ensures))
+    (adapter_own one.port_guid _ _ _ c.lid_of.ensures c.lids-lids.ensures) first.stands
+    (changes_along _ _ _ _ _ _ 0 _ longer c.in-Err-set_port.ensures)))
+
+pub returns-in-Ok-set_port : goal.returns-in-Ok-set_port
+returns-in-Ok-set_port g c port at fabric there of good shows stands =
     let h = home c.args.routes.now.graph c.graph-graph.result.now c.ports.result.now c.switches.result.now c.args.place c.known_graph.ensures c.graph-graph.ensures
     c.ports.ensures c.switches.ensures c.requires in
     let one = get_or c.ports.result.now c.args.place no_port in
@@ -45,5 +60,8 @@ returns g c port at fabric there of good shows stands =
     let longer = c.as_slice-2.ensures.value ∙ c.then-path.ensures ∙ ap (λ (s : GraphSwitch). s.path ++ one.at.port ∷ []) switch in
     let second = adapter_reported _ _ _ _ fabric c.args.routes.now _ c.args.place one _ good shows h.is of h.at h.attachment (omega (arith, c.known_distinct.ensures.few, ap length c.lids-lids.ensures))
     (adapter_own one.port_guid _ _ _ c.lid_of.ensures c.lids-lids.ensures) first.stands
-    (changes_along _ _ _ _ _ _ 0 _ longer c.set_port-2.ensures) in
-    cable_reported _ _ _ fabric c.args.routes.now there one port (same_Some one port (sym h.at ∙ at)) second
+    (changes_along _ _ _ _ _ _ 0 _ longer c.in-Ok-set_port.ensures) in
+    record {
+      done = first.done;
+      stands = (cable_reported _ _ _ fabric c.args.routes.now there one port (same_Some one port (sym h.at ∙ at)) second).stands;
+    }

@@ -7,5 +7,5 @@ returns-in-Err-clause-left g c x stands guid good leads =
 
 pub returns-clause-left : goal.returns-clause-left
 returns-clause-left g c x stands guid good leads =
-    top_set x _ _ _ c.args.path.now guid c.args.lid c.read.result c.in-Ok.bytes c.to_bytes-wanted.result good (c.in-Ok.ensures.left x stands good) leads c.requires.lid
-    (c.in-Ok.ensures.reported x stands good) c.read.ensures.fields c.to_bytes-wanted.ensures c.set.ensures.left
+    top_set x _ _ _ c.args.path.now guid c.args.lid c.in-Ok.bytes c.with_top-wanted.result good (c.in-Ok.ensures.left x stands good) leads c.requires.lid
+    (c.in-Ok.ensures.reported x stands good) c.with_top-wanted.ensures c.set.ensures.left
