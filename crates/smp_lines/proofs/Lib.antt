@@ -1,1 +1,2 @@
 pub mod AnsweredLemmas
+pub mod HeardLemmas

@@ -1,3 +1,5 @@
+pub mod LineWire
+pub mod Place
 pub mod SmpLines
 pub mod Steps
 pub mod Stop

@@ -20,10 +20,14 @@ smp_among words = None
 abbrev pub smp_in : List ℕ → Option (Option (List ℕ))
 smp_in line = option_and_then smp_among (words_of line)
 
+-- the line of an SMP
+abbrev pub mad_line : List ℕ → List ℕ
+mad_line smp = codes "256:" ++ (encode_lower smp ++ codes "\n")
+
 -- ---- what the fabric answers to it
 abbrev pub reply_line : Option (List ℕ) → List ℕ
 reply_line None = codes "none\n"
-reply_line (Some reply) = codes "256:" ++ (encode_lower reply ++ codes "\n")
+reply_line (Some reply) = mad_line reply
 
 abbrev pub output_of : FabricState → Option (List ℕ) → List ℕ
 output_of fabric None = []

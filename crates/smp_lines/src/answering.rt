@@ -2,7 +2,7 @@
 
 ghost use Rattle.std.specs.Prelude.{◌≡◌, ◌++◌, ◌≤◌, true, length, Ok, IfErr, IfOk, IsErrOf, OnOk};
 ghost use Rattle.std.specs.Io.KnownBytes.{Appends};
-ghost use Rattle.smp_lines.specs.SmpLines.{EndsSo, OfBytes, after, answered, output_of, reply_line, smp_in};
+ghost use Rattle.smp_lines.specs.SmpLines.{EndsSo, OfBytes, after, answered, mad_line, output_of, reply_line, smp_in};
 ghost use Rattle.smp_lines.specs.Steps.{TakesLine};
 ghost use Rattle.text_streams.specs.Reading.{IsEndless};
 ghost use Rattle.text_streams.specs.Writing.{AppendsPart};
@@ -91,13 +91,18 @@ fn reply_line(alloc: Global, reply: &Option<Mad>) -> Result<Vec<u8>, AllocError>
 {
     let mut text = Vec::new(alloc);
     match reply {
-        Some(reply) => {
-            let mut room = [0; 512];
-            text.extend_from_slice(b"256:")?;
-            text.extend_from_slice(digits_of(reply, &mut room))?;
-            text.extend_from_slice(b"\n")?;
-        }
+        Some(reply) => push_mad(&mut text, reply)?,
         None => text.extend_from_slice(b"none\n")?,
     }
     Ok(text)
+}
+
+/// Adds an SMP as `256:HEX`, and LF.
+pub(crate) fn push_mad(text: &mut Vec<u8>, smp: &Mad) -> Result<(), AllocError>
+    ensures { OnOk result (text.new.items ≡ text.old.items ++ mad_line smp.now) }
+{
+    let mut room = [0; 512];
+    text.extend_from_slice(b"256:")?;
+    text.extend_from_slice(digits_of(smp, &mut room))?;
+    text.extend_from_slice(b"\n")
 }
