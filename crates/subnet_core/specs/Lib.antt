@@ -12,6 +12,7 @@ pub mod Laws
 pub mod EventLines
 pub mod WholeLines
 pub mod Listing
+pub mod Managing
 pub mod Headline
 pub mod Comparison
 pub mod RunsAgain

@@ -101,7 +101,7 @@ fn port_with_lid(ports: &[SubnetPort], lid: u16) -> &SubnetPort
     &ports[usize::from(lid) - 1]
 }
 
-fn copy_of(name: &NodeName) -> NodeName
+pub(crate) fn copy_of(name: &NodeName) -> NodeName
     ensures { result ≡ name.now }
 {
     NodeName::new(name.as_slice())

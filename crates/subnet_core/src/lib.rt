@@ -7,6 +7,7 @@
 //! up over the simulated fabric of its topology, and `specs/BringUp.antt` says when that fails; each step carries its
 //! command over that fabric (`specs/Senders.antt`), and gives the events, and leaves the memberships, that the list of ports
 //! gives (`specs/Answering.antt`). Who is in a subnet takes no fabric: [`read_inventory`] reads it, of any size [`read_large_inventory`], and [`Inventory::listing`] prints it (`specs/Listing.antt`).
+//! [`manage`] sets up a fabric behind any wire as that of an inventory, and [`up_text`] prints that it is up (`specs/Managing.antt`).
 #![tactic(auto)]
 
 mod acknowledging;
@@ -21,6 +22,7 @@ mod laws;
 mod leaving;
 mod listing;
 mod lookup;
+mod managing;
 mod report;
 mod running;
 mod stream;
@@ -38,6 +40,7 @@ pub use crate::laws::{
     streams_keep_partitions_apart, texts_have_one_answer, two_runs_agree,
 };
 pub use crate::leaving::left_by;
+pub use crate::managing::{manage, up_text};
 pub use crate::report::Report;
 pub use crate::running::run;
 pub use crate::streaming::run_stream;

@@ -24,3 +24,4 @@ pub mod StandingLookLemmas
 pub mod PlanningLemmas
 pub mod StandingLemmas
 pub mod StandingListedLemmas
+mod ManagedLemmas

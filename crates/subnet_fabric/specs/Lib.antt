@@ -1,5 +1,6 @@
 pub mod Fault
 pub mod SetUp
+pub mod Managing
 pub mod Planning
 pub mod BringUp
 pub mod Laws

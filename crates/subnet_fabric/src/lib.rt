@@ -9,12 +9,14 @@
 //! cables are cut and mended, a fabric that is set up again is that of the topology with the cables that are in place:
 //! [`recabled_is_as_brought_up`] (`specs/Recabled.antt`). [`plan`] says what such a change would do (`specs/Planning.antt`).
 //! [`recable`] plans it, makes it and sets the fabric up again, or leaves all as it is (`specs/Standing.antt`): the fabric stays
-//! that of the list of end ports ([`a_standing_fabric_is_as_listed`]).
+//! that of the list of end ports ([`a_standing_fabric_is_as_listed`]). [`set_up_over`] sets up whatever answers SMPs behind any wire,
+//! and [`manage`] as the fabric of a topology (`specs/Managing.antt`).
 #![tactic(auto)]
 
 mod bring_up;
 mod fault;
 mod laws;
+mod managing;
 mod planning;
 mod recabling;
 mod setting_up;
@@ -28,6 +30,7 @@ pub use crate::laws::{
     one_pair_has_no_path, one_table_is_left, recabled_is_as_brought_up, too_far_excludes_the_rest,
     what_is_up_is_sound,
 };
+pub use crate::managing::{Managed, manage, set_up_over};
 pub use crate::planning::{Planned, plan};
 pub use crate::recabling::recable;
 pub use crate::setting_up::set_up;
