@@ -9,13 +9,13 @@ use Rattle.clap.proofs.OnLiterals.{clap_on_literals}
 use Rattle.code_texts.specs.Codes.{code_of}
 use Rattle.code_texts.specs.declared.code.Code.{Code}
 use Rattle.cli_args.specs.Laws.{FilesAreNamedAsGiven, FilesStandInOrder, IsWordOf, NamesKeepTheirBlanks}
-use Rattle.cli_args.specs.Words.{Names, audit_keys_by, audit_keys_with, asked_by, asked_by_command, asked_of, asked_or, call_in, compare_by, cuts_by, diff_by, dumped, dumped_by, explain_by, file_in, graph_with, guid_by, import_by, is_given, in_subnet, inspect_by, opened_for, run_by, scripts_by, smps_by}
+use Rattle.cli_args.specs.Words.{Names, audit_keys_by, audit_keys_with, asked_by, asked_by_command, asked_of, asked_or, call_in, compare_by, cuts_by, diff_by, dumped, dumped_by, explain_by, file_in, graph_with, guid_by, import_by, is_given, in_subnet, inspect_by, manage_by, opened_for, run_by, scripts_by, smps_by}
 use Rattle.cli_args.specs.Words.{subcommand_in, text_for, trace_by, work_names}
 use Rattle.cli_args.specs.declared.call.Call.{Call}
 use Rattle.cli_args.specs.declared.call.CutView.TheVariants.{All as AllCuts, One, Picture}
 use Rattle.cli_args.specs.declared.call.Call.TheVariants.{Explain}
 use Rattle.cli_args.specs.declared.call.Work.{Work}
-use Rattle.cli_args.specs.declared.call.Work.TheVariants.{Check, Compare, Cuts, Diff, Inspect, Run, Shares, Smps}
+use Rattle.cli_args.specs.declared.call.Work.TheVariants.{Check, Compare, Cuts, Diff, Inspect, Manage, Run, Shares, Smps}
 use Rattle.cli_args.specs.declared.call.Inspection.{Inspection}
 use Rattle.cli_args.specs.declared.call.Inspection.TheVariants.{Graph, Keys, Tables}
 use Rattle.cli_args.specs.declared.call.DumpView.{DumpView}
@@ -81,6 +81,15 @@ run_given rows asked e = by (first_of (codes "SCRIPT") rows) refl e
     by (Some word) at is =
         let same : Run word ≡ asked = cc in
         subst (λ (w : Work Text Text Text). All (IsWordOf rows) (work_names w)) same (All-cons (IsWordOf rows) word [] (codes "SCRIPT", at) (All-nil (IsWordOf rows)))
+
+manage_given : (rows : List Row) → WorkIsGiven rows (manage_by (first_of (codes "REPLIES") rows))
+manage_given rows asked e = by (first_of (codes "REPLIES") rows) refl e
+  where
+    by : (replies : Option Text) → first_of (codes "REPLIES") rows ≡ replies → manage_by replies ≡ Some asked → All (IsWordOf rows) (work_names asked)
+    by None at is = absurd cc
+    by (Some word) at is =
+        let same : Manage word ≡ asked = cc in
+        subst (λ (w : Work Text Text Text). All (IsWordOf rows) (work_names w)) same (All-cons (IsWordOf rows) word [] (codes "REPLIES", at) (All-nil (IsWordOf rows)))
 
 smps_given : (rows : List Row) → WorkIsGiven rows (smps_by (first_of (codes "SMPS") rows) (first_of (codes "SCRIPT") rows))
 smps_given rows asked e = by (first_of (codes "SMPS") rows) refl (first_of (codes "SCRIPT") rows) refl e
@@ -197,6 +206,7 @@ command_given command.Trace rows = subnet_given rows _ (inspect_given rows (trac
 command_given command.Graph rows = subnet_given rows _ (graph_given rows (is_given rows (codes "CUTS")))
 command_given command.Run rows = subnet_given rows _ (run_given rows)
 command_given command.Smp rows = subnet_given rows _ (smps_given rows)
+command_given command.Manage rows = subnet_given rows _ (manage_given rows)
 command_given command.Compare rows = subnet_given rows _ (compare_given rows)
 command_given command.Cuts rows = subnet_given rows _ (cuts_given rows (first_of (codes "PORT") rows) (first_of (codes "PORT2") rows))
 command_given command.Import rows = import_given rows (guid_by (first_of (codes "SM") rows))
@@ -236,6 +246,7 @@ files_stand_in_order = record {
   picture = refl;
   run = refl;
   smp = refl;
+  manage = refl;
   compare = refl;
   cuts = refl;
   audit = refl;

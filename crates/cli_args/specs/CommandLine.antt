@@ -58,6 +58,9 @@ script_option = record (new_rule (codes "SCRIPT")) { long = Some (codes "script"
 abbrev pub smp_command : App
 smp_command = with_rule (with_rule (subnet_command (codes "smp")) (wanted (codes "SMPS"))) script_option
 
+abbrev pub manage_command : App
+manage_command = with_rule (subnet_command (codes "manage")) (wanted (codes "REPLIES"))
+
 abbrev pub compare_command : App
 compare_command =
     let scripts = with_rule (with_rule (subnet_command (codes "compare")) (wanted (codes "S1"))) (wanted (codes "S2")) in
@@ -115,7 +118,8 @@ with_runs app =
     let graphs = with_subcommand traces graph_command.top in
     let runs = with_subcommand graphs run_command.top in
     let smps = with_subcommand runs smp_command.top in
-    with_subcommand smps compare_command.top
+    let managed = with_subcommand smps manage_command.top in
+    with_subcommand managed compare_command.top
 
 -- with those that judge cables, and that make a topology from a real fabric
 abbrev pub with_cables : App → App

@@ -43,6 +43,9 @@ about_run = codes "Runs a script in a subnet, and prints what its ports receive"
 abbrev pub about_smp : List ℕ
 about_smp = codes "Answers SMPs at the SM port of a subnet, one after the other"
 
+abbrev pub about_manage : List ℕ
+about_manage = codes "Brings up a fabric by the SMPs that it prints, and reads their replies"
+
 abbrev pub about_compare : List ℕ
 about_compare = codes "Checks whether two scripts agree for a port, and whether its events are equal"
 
@@ -93,6 +96,9 @@ help_of_script = codes "The script: what ports send and ask, and which cables ar
 
 abbrev pub help_of_script_before : List ℕ
 help_of_script_before = codes "A script that is run before"
+
+abbrev pub help_of_replies : List ℕ
+help_of_replies = codes "The replies, one on a line: `256:HEX` or `none`; `-` for standard input"
 
 abbrev pub help_of_smps : List ℕ
 help_of_smps = codes "The SMPs, one on a line: `256:HEX`; `-` for standard input"

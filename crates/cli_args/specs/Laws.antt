@@ -49,6 +49,7 @@ pub record FilesStandInOrder : Type 0 where
   pub picture : opened_by (codes "graph" ∷ codes "net" ∷ codes "parts" ∷ codes "--cuts" ∷ []) ≡ codes "net" ∷ codes "parts" ∷ []
   pub run : opened_by (codes "run" ∷ codes "net" ∷ codes "parts" ∷ codes "sends" ∷ []) ≡ codes "net" ∷ codes "parts" ∷ codes "sends" ∷ []
   pub smp : opened_by (codes "smp" ∷ codes "net" ∷ codes "parts" ∷ codes "smps" ∷ []) ≡ codes "net" ∷ codes "parts" ∷ codes "smps" ∷ []
+  pub manage : opened_by (codes "manage" ∷ codes "net" ∷ codes "parts" ∷ codes "replies" ∷ []) ≡ codes "net" ∷ codes "parts" ∷ codes "replies" ∷ []
   pub compare : opened_by (codes "compare" ∷ codes "net" ∷ codes "parts" ∷ codes "one" ∷ codes "two" ∷ codes "h1/1" ∷ [])
       ≡ codes "net" ∷ codes "parts" ∷ codes "one" ∷ codes "two" ∷ []
   pub cuts : opened_by (codes "cuts" ∷ codes "net" ∷ codes "parts" ∷ codes "h1/1" ∷ codes "h2/1" ∷ []) ≡ codes "net" ∷ codes "parts" ∷ []

@@ -25,7 +25,7 @@ use Rattle.cli_args.specs.declared.call.DumpView.TheVariants as dump_view
 use Rattle.cli_args.specs.declared.call.Subcommand.{Subcommand}
 use Rattle.cli_args.specs.declared.call.Subcommand.TheVariants as command
 use Rattle.cli_args.specs.declared.help.TheConstants.{NO_SCRIPT_WITH_CUTS, NO_SECOND_PORT, NO_SUCH_CODE, NO_SUCH_GUID, NO_SUCH_KEYS_GUID, NO_SUCH_NUMBER}
-use Rattle.cli_args.specs.declared.call.Work.TheVariants.{Check, Compare, Cuts, Diff, Inspect, Run, Shares, Smps}
+use Rattle.cli_args.specs.declared.call.Work.TheVariants.{Check, Compare, Cuts, Diff, Inspect, Manage, Run, Shares, Smps}
 use Rattle.text_words.specs.Number.{if_under, number_in, u16_in}
 
 -- ---- what is asked for, with the names of the files as texts
@@ -53,6 +53,7 @@ named_work (Inspect what script) = Inspect (named_inspection what) (option_map (
 named_work (Cuts view) = Cuts (named_view view)
 named_work (Run script) = Run script.now
 named_work (Smps script smps) = Smps (option_map (λ name. name.now) script) smps.now
+named_work (Manage replies) = Manage replies.now
 named_work (Compare first second port) = Compare first.now second.now port.now
 
 abbrev pub names : Asked → Names
@@ -93,6 +94,9 @@ cuts_by _ _ = None
 
 abbrev pub run_by : Option Text → Option (Work Text Text Text)
 run_by script = option_map (λ name. Run name) script
+
+abbrev pub manage_by : Option Text → Option (Work Text Text Text)
+manage_by replies = option_map (λ name. Manage name) replies
 
 -- SMPs, after the commands of a script if one is given
 abbrev pub smps_by : Option Text → Option Text → Option (Work Text Text Text)
@@ -177,7 +181,7 @@ explain_by (Some word) = option_map (λ code. Explain (Some code)) (code_of word
 
 -- `check` takes no more arguments than its subnet's, `shares` takes a port, and `tables`, `keys`, `trace` and `graph` take a script,
 -- `cuts` two ports;
--- `diff` needs other partitions, `trace` a packet, `run` a script, `smp` SMPs, and `compare` two scripts and a port; `import` needs a file of
+-- `diff` needs other partitions, `trace` a packet, `run` a script, `smp` SMPs, `manage` replies, and `compare` two scripts and a port; `import` needs a file of
 -- its own and takes a GUID, `audit` and `load` need a fabric and a dump, `audit-keys` two files of its own and partitions, and takes a GUID, and
 -- `explain` takes a code
 abbrev pub call_in : Subcommand → List Row → Option (Call Names Text)
@@ -190,6 +194,7 @@ call_in command.Trace rows = in_subnet rows (inspect_by rows (trace_by rows))
 call_in command.Graph rows = in_subnet rows (graph_by rows)
 call_in command.Run rows = in_subnet rows (run_by (first_of (codes "SCRIPT") rows))
 call_in command.Smp rows = in_subnet rows (smps_by (first_of (codes "SMPS") rows) (first_of (codes "SCRIPT") rows))
+call_in command.Manage rows = in_subnet rows (manage_by (first_of (codes "REPLIES") rows))
 call_in command.Compare rows = in_subnet rows (compare_by rows)
 call_in command.Cuts rows = in_subnet rows (cuts_by (first_of (codes "PORT") rows) (first_of (codes "PORT2") rows))
 call_in command.Import rows = import_by (first_of (codes "NETDISCOVER") rows) (guid_by (first_of (codes "SM") rows))
@@ -210,6 +215,7 @@ subcommand_in word =
     else if bytes_eq word (codes "graph") then Some command.Graph
     else if bytes_eq word (codes "run") then Some command.Run
     else if bytes_eq word (codes "smp") then Some command.Smp
+    else if bytes_eq word (codes "manage") then Some command.Manage
     else if bytes_eq word (codes "compare") then Some command.Compare
     else if bytes_eq word (codes "cuts") then Some command.Cuts
     else if bytes_eq word (codes "import") then Some command.Import
@@ -285,6 +291,7 @@ work_names (Inspect what script) = option_to_list script
 work_names (Cuts view) = []
 work_names (Run script) = script ∷ []
 work_names (Smps script smps) = option_to_list script ++ smps ∷ []
+work_names (Manage replies) = replies ∷ []
 work_names (Compare first second port) = first ∷ second ∷ []
 
 abbrev pub all_names : Names → List Text

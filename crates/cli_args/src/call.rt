@@ -27,6 +27,8 @@ pub enum Subcommand {
     Run,
     /// `smp`, which answers SMPs at its SM port.
     Smp,
+    /// `manage`, which brings up a fabric by SMPs that it sends.
+    Manage,
     /// `compare`, which compares two scripts for a port.
     Compare,
     /// `cuts`, which prints what the loss of cables would do.
@@ -70,6 +72,8 @@ pub enum Work<W, S, R> {
         /// The SMPs.
         smps: R,
     },
+    /// Bring up the fabric that answers the SMPs that are written: the replies to them.
+    Manage(R),
     /// Compare two scripts for a port.
     Compare {
         /// The first script.

@@ -6,27 +6,28 @@ ghost use Rattle.clap.specs.declared.builder.command.Command.TheViews.{out-Comma
 ghost use Rattle.cli_args.specs.CommandLine.{Reads};
 ghost use Rattle.cli_args.specs.CommandLine.{audit_command, audit_keys_command, check_command, compare_command, diff_command, explain_command, fabric_command, graph_command};
 ghost use Rattle.cli_args.specs.CommandLine.{all_flag, cuts_command, cuts_flag, dump_option, import_command, load_command, keys_command, manager_option, optional, run_command, script_option, shares_command};
-ghost use Rattle.cli_args.specs.CommandLine.{smp_command, subnet_command, tables_command, trace_command};
+ghost use Rattle.cli_args.specs.CommandLine.{manage_command, smp_command, subnet_command, tables_command, trace_command};
 ghost use Rattle.cli_args.specs.CommandLine.{wanted, with_audits, with_cables, with_listings, with_runs};
 ghost use Rattle.cli_args.specs.Help.{about_audit, about_audit_keys, about_check, about_compare, about_cuts, about_diff, about_explain, about_graph, about_import, about_keys, about_load};
-ghost use Rattle.cli_args.specs.Help.{about_program, about_run, about_smp};
+ghost use Rattle.cli_args.specs.Help.{about_manage, about_program, about_run, about_smp};
 ghost use Rattle.cli_args.specs.Help.{about_shares, about_tables, about_trace, help_of_code, help_of_dlid, help_of_key};
 ghost use Rattle.cli_args.specs.Help.{help_of_compared, help_of_first_script, help_of_partitions, help_of_second_script};
 ghost use Rattle.cli_args.specs.Help.{help_of_all, help_of_cuts, help_of_dump, help_of_first_end, help_of_second_end};
-ghost use Rattle.cli_args.specs.Help.{help_of_fabric, help_of_manager, help_of_netdiscover, help_of_pkeys, help_of_port, help_of_script, help_of_script_before, help_of_smps};
+ghost use Rattle.cli_args.specs.Help.{help_of_fabric, help_of_manager, help_of_netdiscover, help_of_pkeys, help_of_port, help_of_replies, help_of_script, help_of_script_before, help_of_smps};
 ghost use Rattle.cli_args.specs.Help.{help_of_second_partitions, help_of_sender, help_of_topology};
 ghost use Rattle.cli_args.specs.Help.{program_name, program_version, text_in};
 ghost use Rattle.cli_args.specs.Refusals.{IsShown};
 ghost use Rattle.cli_args.specs.Words.{asked_in, asked_of};
 ghost use Rattle.cli_args.specs.declared.help.TheConstants.{AUDIT, AUDIT_KEYS, CHANGES, CODES, COMPARISON, CUTS, GRAPH, IMPORT, KEYS, LISTING, REPORT, SHARES, STATUSES, TABLES};
-ghost use Rattle.cli_args.specs.declared.help.TheConstants.{LOAD, SMPS, TRACE};
+ghost use Rattle.cli_args.specs.declared.help.TheConstants.{LOAD, MANAGE, SMPS, TRACE};
 
 use crate::call::Refused;
 use crate::help::{
     ABOUT, ABOUT_AUDIT, ABOUT_AUDIT_KEYS, ABOUT_CHECK, ABOUT_COMPARE, ABOUT_CUTS, ABOUT_DIFF,
-    ABOUT_EXPLAIN, ABOUT_GRAPH, ABOUT_IMPORT, ABOUT_KEYS, ABOUT_LOAD, ABOUT_RUN, ABOUT_SHARES,
-    ABOUT_SMP, ABOUT_TABLES, ABOUT_TRACE, AUDIT, AUDIT_KEYS, CHANGES, CODES, COMPARISON, CUTS,
-    GRAPH, IMPORT, KEYS, LISTING, LOAD, REPORT, SHARES, SMPS, STATUSES, TABLES, TRACE,
+    ABOUT_EXPLAIN, ABOUT_GRAPH, ABOUT_IMPORT, ABOUT_KEYS, ABOUT_LOAD, ABOUT_MANAGE, ABOUT_RUN,
+    ABOUT_SHARES, ABOUT_SMP, ABOUT_TABLES, ABOUT_TRACE, AUDIT, AUDIT_KEYS, CHANGES, CODES,
+    COMPARISON, CUTS, GRAPH, IMPORT, KEYS, LISTING, LOAD, MANAGE, REPORT, SHARES, SMPS, STATUSES,
+    TABLES, TRACE,
 };
 use clap::error::ErrorKind;
 use clap::{Arg, ArgAction, ArgMatches, Command, Error};
@@ -122,6 +123,18 @@ fn wanted_smps<'a>(alloc: Global) -> Arg<'a>
         alloc,
         "SMPS",
         "The SMPs, one on a line: `256:HEX`; `-` for standard input",
+    )
+}
+
+fn wanted_replies<'a>(alloc: Global) -> Arg<'a>
+    ensures global { result.global ≡ false }
+    ensures rule { rule_of result ≡ wanted (codes "REPLIES") }
+    ensures help { text_in result.help ≡ Some help_of_replies }
+{
+    wanted(
+        alloc,
+        "REPLIES",
+        "The replies, one on a line: `256:HEX` or `none`; `-` for standard input",
     )
 }
 
@@ -452,6 +465,16 @@ fn smp_command<'a>(alloc: Global) -> Result<Command<'a>, AllocError>
     described(with_arg(smps, script_option(alloc)), ABOUT_SMP, SMPS)
 }
 
+/// The command that brings up a fabric by SMPs that it sends.
+fn manage_command<'a>(alloc: Global) -> Result<Command<'a>, AllocError>
+    ensures words { IfOk result (λ command. app_of command ≡ manage_command) }
+    ensures about { IfOk result (λ command. text_in (fields_of command).about ≡ Some about_manage) }
+    ensures help { IfOk result (λ command. text_in (fields_of command).after_help ≡ Some MANAGE.now) }
+{
+    let command = with_arg(subnet_command(alloc, "manage"), wanted_replies(alloc));
+    described(command, ABOUT_MANAGE, MANAGE)
+}
+
 /// The command that compares two scripts.
 fn compare_command<'a>(alloc: Global) -> Result<Command<'a>, AllocError>
     ensures words { IfOk result (λ command. app_of command ≡ compare_command) }
@@ -564,7 +587,8 @@ fn with_runs<'a>(
     let graphs = with_command(traces, graph_command(alloc));
     let runs = with_command(graphs, run_command(alloc));
     let smps = with_command(runs, smp_command(alloc));
-    with_command(smps, compare_command(alloc))
+    let managed = with_command(smps, manage_command(alloc));
+    with_command(managed, compare_command(alloc))
 }
 
 /// A command line with the commands that judge cables, and that make a topology from a real fabric.

@@ -24,6 +24,9 @@ pub(crate) const ABOUT_RUN: &str = "Runs a script in a subnet, and prints what i
 
 pub(crate) const ABOUT_SMP: &str = "Answers SMPs at the SM port of a subnet, one after the other";
 
+pub(crate) const ABOUT_MANAGE: &str =
+    "Brings up a fabric by the SMPs that it prints, and reads their replies";
+
 pub(crate) const ABOUT_COMPARE: &str =
     "Checks whether two scripts agree for a port, and whether its events are equal";
 
@@ -89,9 +92,10 @@ and the SM the subnet manager.
 An error is printed as `fault CODE topology line L`, `fault CODE partitions line L`,
 `fault CODE partitions2 line L`, `fault CODE script line L`, `fault CODE script2 line L`,
 `fault CODE netdiscover line L`, `fault CODE dump line L`, `fault CODE pkeys line L`,
-`fault CODE smps line L`, `fault CODE port`, `fault CODE`, `fault UR1 SWITCH PORT`, `fault memory`,
-`fault read NAME` or `fault write`. An audit of routes that are not safe, or of P_Key tables that do
-not follow the file, has status 1, and prints no such line."
+`fault CODE smps line L`, `fault CODE replies line L`, `fault CODE port`, `fault CODE`,
+`fault CODE path PATH ATTRIBUTE MODIFIER`, `fault UR1 SWITCH PORT`, `fault memory`, `fault read NAME`
+or `fault write`. An audit of routes that are not safe, or of P_Key tables that do not follow the file,
+has status 1, and prints no such line."
 );
 
 pub(crate) const NOT_TEXT: &str = "error: an argument is not UTF-8\n";
@@ -270,6 +274,27 @@ For each there is a line, before the next is read: the reply as it comes to the 
   none
 
 Empty lines and comments are passed over. What an SMP sets stays set for those after it.
+
+",
+    "help",
+    ""
+);
+
+pub(crate) const MANAGE: &str = with_statuses!(
+    "Each SMP is a line, which is printed and flushed before a line of REPLIES is read:
+  smp 256:HEX    its 256 bytes, with a directed route from the SM port
+
+The next line of REPLIES is its reply as it comes to the SM port, or `none`:
+  256:HEX        HEX may leave out zero bytes at the end
+  none
+
+Empty lines and comments of REPLIES are passed over. Whatever answers is brought up: discovered, its
+ports named by LIDs, its P_Key tables and LFTs written, its ports set to Active. It must have the end
+ports and the SM port of TOPO, else the error is SW2, and nothing is written to it. At the end the
+lines of `check` are printed, and:
+  up: N switches, N ports, N exchanges, N switch ports that do not enforce
+How many end ports it has, how many SMPs were printed, and at how many switch ports in front of a CA
+port only the CA port keeps partitions apart.
 
 ",
     "help",

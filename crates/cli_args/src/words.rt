@@ -7,7 +7,7 @@ ghost use Rattle.cli_args.specs.Words.{asked_in, asked_of, call_in, compare_by, 
 ghost use Rattle.cli_args.specs.Words.{audit_keys_by, import_by, in_subnet};
 ghost use Rattle.text_words.specs.Number.{if_under, number_in};
 ghost use Rattle.cli_args.specs.Words.{graph_by, graph_with, inspect_by, is_given, named_call, named_found, named_inspection};
-ghost use Rattle.cli_args.specs.Words.{named_work, run_by, smps_by, subcommand_in, text_for, trace_by, u16_by};
+ghost use Rattle.cli_args.specs.Words.{manage_by, named_work, run_by, smps_by, subcommand_in, text_for, trace_by, u16_by};
 
 use crate::call::{
     Asked, Call, CutView, DumpView, Inspection, NamedWork, Refused, Subcommand, Work,
@@ -97,6 +97,7 @@ fn subcommand_in(word: &str) -> Option<Subcommand>
         "graph" => Some(Subcommand::Graph),
         "run" => Some(Subcommand::Run),
         "smp" => Some(Subcommand::Smp),
+        "manage" => Some(Subcommand::Manage),
         "compare" => Some(Subcommand::Compare),
         "cuts" => Some(Subcommand::Cuts),
         "import" => Some(Subcommand::Import),
@@ -139,6 +140,7 @@ fn call_of<'a>(command: Subcommand, found: &ArgMatches<'a>) -> Option<Call<Asked
             let smps = smps_by(word_of(found, "SMPS"), word_of(found, "SCRIPT"));
             in_subnet(found, smps)
         }
+        Subcommand::Manage => in_subnet(found, manage_by(word_of(found, "REPLIES"))),
         Subcommand::Compare => in_subnet(found, compared(found)),
         Subcommand::Cuts => {
             let ends = cuts_by(word_of(found, "PORT"), word_of(found, "PORT2"));
@@ -201,6 +203,12 @@ fn run_by(script: Option<&str>) -> Option<NamedWork<'_>>
     ensures { option_map named_work result ≡ run_by (option_map (λ word. word.now) script.entry) }
 {
     Some(Work::Run(script?))
+}
+
+fn manage_by(replies: Option<&str>) -> Option<NamedWork<'_>>
+    ensures { option_map named_work result ≡ manage_by (option_map (λ word. word.now) replies.entry) }
+{
+    Some(Work::Manage(replies?))
 }
 
 /// SMPs, after the commands of a script if one is given.

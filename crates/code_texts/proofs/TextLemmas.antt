@@ -9,7 +9,7 @@ use Rattle.code_texts.specs.declared.code.Code.TheVariants.{Sf1, Sf2, Sf3, Sf4, 
 use Rattle.code_texts.specs.declared.code.Code.TheVariants.{Nd1, Nd2, Nd3, Nd4, Nd5, Nd6, Nd7}
 use Rattle.code_texts.specs.declared.code.Code.TheVariants.{Ft1, Ft2, Ft3, Ft4, Ft5, Ft6, Ft7}
 use Rattle.code_texts.specs.declared.code.Code.TheVariants.{Kt1, Kt2, Kt3, Kt4, Kt5}
-use Rattle.code_texts.specs.declared.code.Code.TheVariants.{Mf1, Sw1, Sw2, Sw3, Sw4, Ur1, Tp1, Tp2, Tp3}
+use Rattle.code_texts.specs.declared.code.Code.TheVariants.{Mf1, Mf2, Sw1, Sw2, Sw3, Sw4, Ur1, Tp1, Tp2, Tp3}
 use Rattle.code_texts.specs.declared.code.Code.TheVariants.{Memory, Read, Write}
 
 pub begins_with_code : (code : Code) → begins_with (spelling code ++ codes ": ") (text_of code) ≡ true
@@ -65,6 +65,7 @@ begins_with_code Kt3 = refl
 begins_with_code Kt4 = refl
 begins_with_code Kt5 = refl
 begins_with_code Mf1 = refl
+begins_with_code Mf2 = refl
 begins_with_code Sw1 = refl
 begins_with_code Sw2 = refl
 begins_with_code Sw3 = refl

@@ -9,7 +9,7 @@ use Rattle.code_texts.specs.declared.code.Code.TheVariants.{Sf1, Sf2, Sf3, Sf4, 
 use Rattle.code_texts.specs.declared.code.Code.TheVariants.{Nd1, Nd2, Nd3, Nd4, Nd5, Nd6, Nd7}
 use Rattle.code_texts.specs.declared.code.Code.TheVariants.{Ft1, Ft2, Ft3, Ft4, Ft5, Ft6, Ft7}
 use Rattle.code_texts.specs.declared.code.Code.TheVariants.{Kt1, Kt2, Kt3, Kt4, Kt5}
-use Rattle.code_texts.specs.declared.code.Code.TheVariants.{Mf1, Sw1, Sw2, Sw3, Sw4, Ur1, Tp1, Tp2, Tp3}
+use Rattle.code_texts.specs.declared.code.Code.TheVariants.{Mf1, Mf2, Sw1, Sw2, Sw3, Sw4, Ur1, Tp1, Tp2, Tp3}
 use Rattle.code_texts.specs.declared.code.Code.TheVariants.{Memory, Read, Write}
 use Rattle.code_texts.specs.declared.code.TheConstants.{ALL}
 
@@ -66,6 +66,7 @@ spelling Kt3 = codes "KT3"
 spelling Kt4 = codes "KT4"
 spelling Kt5 = codes "KT5"
 spelling Mf1 = codes "MF1"
+spelling Mf2 = codes "MF2"
 spelling Sw1 = codes "SW1"
 spelling Sw2 = codes "SW2"
 spelling Sw3 = codes "SW3"
@@ -93,6 +94,6 @@ codes_in_order =
     ++ codes "SF1 SF2 SF3 SF4 SF5 SF6 SF7 AR1 AR2 AR3 AR4 "
     ++ codes "ND1 ND2 ND3 ND4 ND5 ND6 ND7 "
     ++ codes "FT1 FT2 FT3 FT4 FT5 FT6 FT7 "
-    ++ codes "KT1 KT2 KT3 KT4 KT5 MF1 "
+    ++ codes "KT1 KT2 KT3 KT4 KT5 MF1 MF2 "
     ++ codes "SW1 SW2 SW3 SW4 UR1 TP1 TP2 TP3 "
     ++ codes "memory read write "

@@ -9,7 +9,7 @@ use Rattle.code_texts.specs.declared.code.Code.TheVariants.{Sf1, Sf2, Sf3, Sf4, 
 use Rattle.code_texts.specs.declared.code.Code.TheVariants.{Nd1, Nd2, Nd3, Nd4, Nd5, Nd6, Nd7}
 use Rattle.code_texts.specs.declared.code.Code.TheVariants.{Ft1, Ft2, Ft3, Ft4, Ft5, Ft6, Ft7}
 use Rattle.code_texts.specs.declared.code.Code.TheVariants.{Kt1, Kt2, Kt3, Kt4, Kt5}
-use Rattle.code_texts.specs.declared.code.Code.TheVariants.{Mf1, Sw1, Sw2, Sw3, Sw4, Ur1, Tp1, Tp2, Tp3}
+use Rattle.code_texts.specs.declared.code.Code.TheVariants.{Mf1, Mf2, Sw1, Sw2, Sw3, Sw4, Ur1, Tp1, Tp2, Tp3}
 use Rattle.code_texts.specs.declared.code.Code.TheVariants.{Memory, Read, Write}
 use Rattle.code_texts.specs.declared.code.TheConstants.{ALL}
 use Rattle.code_texts.specs.declared.discovery_texts.TheConstants.{ND1, ND2, ND3, ND4, ND5, ND6, ND7}
@@ -19,7 +19,7 @@ use Rattle.code_texts.specs.declared.keys_texts.TheConstants.{KT1, KT2, KT3, KT4
 use Rattle.code_texts.specs.declared.machine_texts.TheConstants.{MEMORY, READ, WRITE}
 use Rattle.code_texts.specs.declared.partition_texts.TheConstants.{PF1, PF2, PF3, PF4, PF5, PF6, PF7, PF8, PF9}
 use Rattle.code_texts.specs.declared.script_texts.TheConstants.{AR1, AR2, AR3, AR4, SF1, SF2, SF3, SF4, SF5, SF6, SF7}
-use Rattle.code_texts.specs.declared.smp_texts.TheConstants.{MF1}
+use Rattle.code_texts.specs.declared.smp_texts.TheConstants.{MF1, MF2}
 use Rattle.code_texts.specs.declared.topology_texts.TheConstants.{TF1, TF2, TF3, TF4, TF5, TF6, TF7, TF8, TF9, TF10, TF11, TF12}
 
 -- a text that has this beginning
@@ -79,6 +79,7 @@ text_of Kt3 = KT3.now
 text_of Kt4 = KT4.now
 text_of Kt5 = KT5.now
 text_of Mf1 = MF1.now
+text_of Mf2 = MF2.now
 text_of Sw1 = SW1.now
 text_of Sw2 = SW2.now
 text_of Sw3 = SW3.now

@@ -11,7 +11,7 @@ use crate::keys_texts::{KT1, KT2, KT3, KT4, KT5};
 use crate::machine_texts::{MEMORY, READ, WRITE};
 use crate::partition_texts::{PF1, PF2, PF3, PF4, PF5, PF6, PF7, PF8, PF9};
 use crate::script_texts::{AR1, AR2, AR3, AR4, SF1, SF2, SF3, SF4, SF5, SF6, SF7};
-use crate::smp_texts::MF1;
+use crate::smp_texts::{MF1, MF2};
 use crate::topology_texts::{TF1, TF2, TF3, TF4, TF5, TF6, TF7, TF8, TF9, TF10, TF11, TF12};
 
 /// A code for the cause of an error, or of a refusal: two letters for the input that has the error and a number, or a
@@ -122,6 +122,8 @@ pub enum Code {
     Kt5,
     /// A line that is no SMP.
     Mf1,
+    /// A line that is no reply.
+    Mf2,
     /// A discovery request without a reply.
     Sw1,
     /// A wrong discovery reply.
@@ -147,7 +149,7 @@ pub enum Code {
 }
 
 /// All codes, in the order in which they are listed.
-pub const ALL: [Code; 63] = [
+pub const ALL: [Code; 64] = [
     Code::Tf1,
     Code::Tf2,
     Code::Tf3,
@@ -200,6 +202,7 @@ pub const ALL: [Code; 63] = [
     Code::Kt4,
     Code::Kt5,
     Code::Mf1,
+    Code::Mf2,
     Code::Sw1,
     Code::Sw2,
     Code::Sw3,
@@ -271,6 +274,7 @@ impl Code {
             Code::Kt4 => "KT4",
             Code::Kt5 => "KT5",
             Code::Mf1 => "MF1",
+            Code::Mf2 => "MF2",
             Code::Sw1 => "SW1",
             Code::Sw2 => "SW2",
             Code::Sw3 => "SW3",
@@ -352,6 +356,7 @@ impl Code {
             Code::Kt4 => KT4,
             Code::Kt5 => KT5,
             Code::Mf1 => MF1,
+            Code::Mf2 => MF2,
             Code::Sw1 => SW1,
             Code::Sw2 => SW2,
             Code::Sw3 => SW3,

@@ -7,6 +7,8 @@ SW1: a discovery request has no reply
 The SM discovers the fabric: along directed routes it asks each node what it is and which of its
 ports have cables. Each of these requests has a reply. The simulated fabric always replies, so no
 topology leads to this code. The status is 3.
+
+Only in `manage` it occurs, with the status 1: a node did not answer, or its reply was lost.
 ";
 
 pub const SW2: &str = "\
@@ -15,6 +17,9 @@ SW2: a discovery reply is refused, of another request, or contradicts an earlier
 Each reply in discovery is of its request, has the status 0, describes a possible node, and agrees
 with the replies before. In the simulated fabric that is so, and no topology leads to this code. The
 status is 3.
+
+Only in `manage` it occurs, with the status 1. There it is also the code if the fabric that answers has
+other end ports than TOPO, by their GUIDs, or another SM port. Then nothing was set.
 ";
 
 pub const SW3: &str = "\
@@ -57,7 +62,7 @@ pub const SW4: &str = "\
 SW4: the fabric has more than 64 switches, or more than 256 CA ports
 
 Discovery finds no more than that. A topology with more is TF10 before it is brought up, so none
-leads to this code. The status is 3.
+leads to this code. The status is 3; in `manage`, where it occurs, 1.
 ";
 
 pub const UR1: &str = "\
@@ -103,14 +108,18 @@ pub const TP1: &str = "\
 TP1: a Set has no reply
 
 The SM sets the ports and tables of each node, along directed routes. Each of these requests has a
-reply. The simulated fabric always replies, so no topology leads to this code. The status is 3.
+reply. The simulated fabric always replies, so no topology leads to this code. The status is 3; in
+`manage`, where it occurs, 1.
 ";
 
 pub const TP2: &str = "\
 TP2: a node refuses a Set
 
 Each node takes what the SM sets: its reply has the status 0. In the simulated fabric that is so,
-and no topology leads to this code. The status is 3.
+and no topology leads to this code. The status is 3; in `manage`, where it occurs, 1.
+
+A Set of PortInfo that is refused is followed by a Get, since the node may have carried out the same
+Set before. It is this error only if the Get reports other data than was set.
 ";
 
 pub const TP3: &str = "\
@@ -118,4 +127,8 @@ TP3: a reply to a Set has other data, or is of another request
 
 Each reply to a Set is of its request, and carries what was set. In the simulated fabric that is so,
 and no topology leads to this code. The status is 3.
+
+Only in `manage` it occurs, with the status 1. A switch port to which a CA is attached may take all
+except that it enforces partitions: it is counted, and is no error. It is one if the port takes
+PartitionEnforcementInbound or PartitionEnforcementOutbound alone.
 ";

@@ -45,6 +45,7 @@ module _ (file other : Contents) where
   work_alike (work.Smps script name) same =
       let more = named_alike script (name ∷ []) same in
       rw (more.0, bytes_alike name (All-head (λ one. file one ≡ other one) name [] more.1)) refl
+  work_alike (work.Manage name) same = rw (bytes_alike name (All-head (λ one. file one ≡ other one) name [] same)) refl
   work_alike (work.Compare first second port) same =
       let more = All-tail (λ one. file one ≡ other one) first (second ∷ []) same in
       rw (

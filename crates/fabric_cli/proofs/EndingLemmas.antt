@@ -7,18 +7,19 @@ use Rattle.std.specs.Io.KnownBytes.{Appends, Keeps}
 use Rattle.subnet_core.specs.declared.fault.RunFault.{RunFault}
 use Rattle.subnet_core.specs.declared.fault.RunFault.TheVariants as run
 use Rattle.fabric_cli.specs.declared.faults.Stop.{Stop}
-use Rattle.fabric_cli.specs.declared.faults.Stop.TheVariants.{Words, NoMemory, Unread, Unwritten, Run, Second, Foreign}
+use Rattle.fabric_cli.specs.declared.faults.Stop.TheVariants.{Words, NoMemory, Unread, Unwritten, Run, Second, Unmanaged, Unheard, Unsent, Foreign}
 use Rattle.fabric_cli.specs.Faults.{line_of, run_line, run_status, status_of}
 use Rattle.fabric_cli.specs.Files.{Contents}
 use Rattle.fabric_cli.specs.declared.answering.Answer.{Answer}
 use Rattle.fabric_cli.specs.declared.answering.Answer.TheVariants.{Complete, Warned}
-use Rattle.fabric_cli.specs.Serving.{AppendsSome, Ending, Judged, bytes_if_named, keys_audited, broken_off, complete, faulted, status_in, warned, imported, judged_for, output_in, refused, ended, to_judge, viewed}
-use Rattle.fabric_cli.specs.Serving.{Answers, BreaksOff, Ends, EndsAs, ForEnding, ForSomeBytes, GoesOut, GoesPartly, IsRefusal, IsReportedStop, RunStops, Stops, StopsBehind}
+use Rattle.fabric_cli.specs.Serving.{AppendsSome, Ending, Judged, bytes_if_named, keys_audited, broken_off, complete, faulted, managed, status_in, warned, imported, judged_for, output_in, refused, ended, to_judge, viewed}
+use Rattle.fabric_cli.specs.Serving.{Answers, BreaksOff, Ends, EndsAs, ForEnding, ForSomeBytes, GoesOut, GoesPartly, GrowsPartly, IsOfManage, IsRefusal, IsReportedStop, RunStops, Stops, StopsBehind}
 use Rattle.code_texts.specs.Texts.{explained}
 use Rattle.cli_args.specs.Words.{Asking, asked_by_given, asking_by_clap}
 use Rattle.cli_args.specs.declared.call.DumpView.{DumpView}
 use Rattle.cli_args.specs.declared.call.Call.TheVariants.{AuditKeys, Dumped, Explain, Import, Subnet}
 use Rattle.text_streams.specs.Writing.{AppendsPart}
+use Rattle.text_streams.proofs.KnownBytesLemmas.{appends_nothing}
 use Rattle.fabric_cli.proofs.JudgedLemmas.{for_ending}
 
 pub kept : (known : Option (List ℕ)) → Keeps known known
@@ -29,6 +30,8 @@ kept (Some xs) = refl
 goes_out_ends : (answer : Answer) (out out' err : Option (List ℕ)) (ending : Ending) → GoesOut answer ending out out' → Ends ending (status_in answer) out out' err err
 goes_out_ends Complete out out' err (complete output) is = (refl, is, kept err)
 goes_out_ends Warned out out' err (warned output) is = (refl, is, kept err)
+goes_out_ends Complete out out' err (managed status line) is = rw is.1 (sym is.0, appends_nothing err)
+goes_out_ends Warned out out' err (managed status line) is = absurd is
 goes_out_ends Complete out out' err (refused shown) is = absurd is
 goes_out_ends Complete out out' err (faulted status line) is = absurd is
 goes_out_ends Complete out out' err (warned output) is = absurd is
@@ -75,6 +78,7 @@ refusal_ends text answer out out' err err' same reported (refused shown) is = (r
 refusal_ends text answer out out' err err' same reported (faulted status line) is = absurd is
 refusal_ends text answer out out' err err' same reported (complete output) is = absurd is
 refusal_ends text answer out out' err err' same reported (warned output) is = absurd is
+refusal_ends text answer out out' err err' same reported (managed status line) is = absurd is
 refusal_ends text answer out out' err err' same reported (broken_off line output) is = absurd is
 
 -- a stop
@@ -88,6 +92,9 @@ stop_ends judged (Unread name) answer out out' err err' is same other reported =
 stop_ends judged Unwritten answer out out' err err' is same other reported = absurd is
 stop_ends judged (Run fault) answer out out' err err' is same other reported = run_ends judged fault answer out out' err err' is same other reported
 stop_ends judged (Second line cause) answer out out' err err' is same other reported = fault_ends judged _ answer out out' err err' is same reported.0 reported.1
+stop_ends judged (Unmanaged fault place) answer out out' err err' is same other reported = absurd is
+stop_ends judged (Unheard name) answer out out' err err' is same other reported = absurd is
+stop_ends judged Unsent answer out out' err err' is same other reported = absurd is
 stop_ends judged (Foreign line cause) answer out out' err err' is same other reported = fault_ends judged _ answer out out' err err' is same reported.0 reported.1
 
 -- a stop behind what was reported
@@ -97,6 +104,8 @@ broken_ends stop answer out out' err err' reported (refused shown) is = absurd i
 broken_ends stop answer out out' err err' reported (faulted status line) is = absurd is
 broken_ends stop answer out out' err err' reported (complete output) is = absurd is
 broken_ends stop answer out out' err err' reported (warned output) is = absurd is
+broken_ends stop answer out out' err err' reported (managed status line) is =
+    (reported.0 ∙ is.1 ∙ sym is.2, subst (λ (text : List ℕ). Appends err err' text) is.0 reported.1)
 broken_ends stop answer out out' err err' reported (broken_off line output) is = (reported.0 ∙ is.1, is.2, subst (λ (text : List ℕ). Appends err err' text) is.0 reported.1)
 
 module _ (judged : Judged) (stop : Stop) (answer : ℕ) (out out' err err' : Option (List ℕ)) where
@@ -117,6 +126,9 @@ answer_ends judged (Unread name) answer a out out' err err' is other reported = 
 answer_ends judged Unwritten answer a out out' err err' is other reported = absurd (other reported.0)
 answer_ends judged (Run fault) answer a out out' err err' is other reported = either_ends judged (Run fault) answer out out' err err' is other reported
 answer_ends judged (Second line cause) answer a out out' err err' is other reported = either_ends judged (Second line cause) answer out out' err err' is other reported
+answer_ends judged (Unmanaged fault place) answer a out out' err err' is other reported = either_ends judged (Unmanaged fault place) answer out out' err err' is other reported
+answer_ends judged (Unheard name) answer a out out' err err' is other reported = absurd (other reported.0)
+answer_ends judged Unsent answer a out out' err err' is other reported = absurd (other reported.0)
 answer_ends judged (Foreign line cause) answer a out out' err err' is other reported = either_ends judged (Foreign line cause) answer out out' err err' is other reported
 
 -- ---- what has gone out
@@ -127,9 +139,11 @@ take_whole (byte ∷ text) = ap (λ (rest : List ℕ). byte ∷ rest) (take_whol
 pub whole_part : (out out' : Option (List ℕ)) (text : List ℕ) → Appends out out' text → AppendsPart out out' text
 whole_part out out' text wrote = (length text, rw (take_whole text) wrote)
 
-out_some : (answer : Answer) (out out' : Option (List ℕ)) (ending : Ending) → GoesOut answer ending out out' → AppendsPart out out' (output_in ending)
+out_some : (answer : Answer) (out out' : Option (List ℕ)) (ending : Ending) → GoesOut answer ending out out' → GrowsPartly ending out out'
 out_some Complete out out' (complete output) is = whole_part out out' output is
 out_some Warned out out' (warned output) is = whole_part out out' output is
+out_some Complete out out' (managed status line) is = tt
+out_some Warned out out' (managed status line) is = tt
 out_some Complete out out' (refused shown) is = absurd is
 out_some Complete out out' (faulted status line) is = absurd is
 out_some Complete out out' (warned output) is = absurd is
@@ -139,26 +153,36 @@ out_some Warned out out' (faulted status line) is = absurd is
 out_some Warned out out' (complete output) is = absurd is
 out_some Warned out out' (broken_off line output) is = absurd is
 
-partly_some : (out out' : Option (List ℕ)) (ending : Ending) → GoesPartly ending out out' → AppendsPart out out' (output_in ending)
+partly_some : (out out' : Option (List ℕ)) (ending : Ending) → GoesPartly ending out out' → GrowsPartly ending out out'
 partly_some out out' (refused shown) is = absurd is
 partly_some out out' (faulted status line) is = absurd is
 partly_some out out' (complete output) is = is
 partly_some out out' (warned output) is = is
+partly_some out out' (managed status line) is = tt
 partly_some out out' (broken_off line output) is = is
 
-broken_some : (stop : Stop) (out out' : Option (List ℕ)) (ending : Ending) → BreaksOff stop ending out out' → AppendsPart out out' (output_in ending)
+broken_some : (stop : Stop) (out out' : Option (List ℕ)) (ending : Ending) → BreaksOff stop ending out out' → GrowsPartly ending out out'
 broken_some stop out out' (refused shown) is = absurd is
 broken_some stop out out' (faulted status line) is = absurd is
 broken_some stop out out' (complete output) is = absurd is
 broken_some stop out out' (warned output) is = absurd is
+broken_some stop out out' (managed status line) is = tt
 broken_some stop out out' (broken_off line output) is = whole_part out out' output is.2
+
+manage_some : (out out' : Option (List ℕ)) (ending : Ending) → IsOfManage ending → GrowsPartly ending out out'
+manage_some out out' (refused shown) is = absurd is
+manage_some out out' (faulted status line) is = absurd is
+manage_some out out' (complete output) is = absurd is
+manage_some out out' (warned output) is = absurd is
+manage_some out out' (managed status line) is = tt
+manage_some out out' (broken_off line output) is = absurd is
 
 module _ (judged : Judged) (out out' : Option (List ℕ)) where
   abbrev some_of : (Ending → Type 0) → Type 0
-  some_of Is = ((ending : Ending) → Is ending → AppendsPart out out' (output_in ending)) → ForEnding judged Is → AppendsSome judged out out'
+  some_of Is = ((ending : Ending) → Is ending → GrowsPartly ending out out') → ForEnding judged Is → AppendsSome judged out out'
 
   some_by : (Is : Ending → Type 0) → some_of Is
-  some_by Is f is = inr (for_ending judged Is (λ ending. AppendsPart out out' (output_in ending)) f is)
+  some_by Is f is = inr (for_ending judged Is (λ ending. GrowsPartly ending out out') f is)
 
   either_some : (stop : Stop) → (Stops judged stop × Keeps out out') ⊎ ForEnding judged (λ ending. BreaksOff stop ending out out') → AppendsSome judged out out'
   either_some stop (inl is) = inl is.1
@@ -174,6 +198,9 @@ module _ (judged : Judged) (out out' : Option (List ℕ)) where
   answer_some Unwritten a is = some_by (λ ending. GoesPartly ending out out') (partly_some out out') is.1
   answer_some (Run fault) a is = either_some (Run fault) is
   answer_some (Second line cause) a is = either_some (Second line cause) is
+  answer_some (Unmanaged fault place) a is = either_some (Unmanaged fault place) is
+  answer_some (Unheard name) a is = some_by IsOfManage (manage_some out out') is
+  answer_some Unsent a is = some_by IsOfManage (manage_some out out') is
   answer_some (Foreign line cause) a is = either_some (Foreign line cause) is
 
 -- it is said of files that were read
@@ -184,6 +211,9 @@ is_reported (Unread name) answer other is = absurd (other is)
 is_reported Unwritten answer other is = absurd (other is)
 is_reported (Run fault) answer other is = tt
 is_reported (Second line cause) answer other is = tt
+is_reported (Unmanaged fault place) answer other is = tt
+is_reported (Unheard name) answer other is = absurd (other is)
+is_reported Unsent answer other is = absurd (other is)
 is_reported (Foreign line cause) answer other is = tt
 
 pub for_some_reported : {A B : Contents → Type 0} (reported : Option Contents) → ((file : Contents) → A file → B file) → IfSome reported A → IfSome reported B

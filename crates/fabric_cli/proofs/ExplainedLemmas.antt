@@ -14,6 +14,7 @@ use Rattle.partition_file.specs.declared.fault.PartitionCause.TheVariants as par
 use Rattle.script_lines.specs.ScriptCause.{code_of as script_code}
 use Rattle.script_lines.specs.declared.script_cause.ScriptCause.{ScriptCause}
 use Rattle.script_lines.specs.declared.script_cause.ScriptCause.TheVariants as script
+use Rattle.subnet_core.specs.declared.fault.RunFault.{RunFault}
 use Rattle.subnet_core.specs.declared.fault.RunFault.TheVariants as run
 use Rattle.sweep.specs.declared.fault.SweepFault.{SweepFault}
 use Rattle.sweep.specs.declared.fault.SweepFault.TheVariants as sweep
@@ -31,10 +32,10 @@ use Rattle.netdiscover_file.specs.declared.fault.DiscoveryCause.{DiscoveryCause}
 use Rattle.netdiscover_file.specs.declared.fault.DiscoveryCause.TheVariants as discovery
 use Rattle.topology_import.specs.declared.fault.ImportCause.TheVariants as import
 use Rattle.fabric_cli.specs.declared.faults.ForeignCause.{ForeignCause}
-use Rattle.fabric_cli.specs.declared.faults.ForeignCause.TheVariants.{Discovery, Dump, Import, Keys, Smps}
-use Rattle.fabric_cli.specs.Faults.{foreign_line, partitions_line, port_line, run_line, script_line, second_line, second_script_line, topology_line}
+use Rattle.fabric_cli.specs.declared.faults.ForeignCause.TheVariants.{Discovery, Dump, Import, Keys, Replies, Smps}
+use Rattle.fabric_cli.specs.Faults.{foreign_line, managed_line, partitions_line, port_line, run_line, script_line, second_line, second_script_line, topology_line}
 use Rattle.fabric_cli.specs.declared.faults.Stop.{Stop}
-use Rattle.fabric_cli.specs.declared.faults.Stop.TheVariants.{Words, NoMemory, Unread, Unwritten, Run, Second, Foreign}
+use Rattle.fabric_cli.specs.declared.faults.Stop.TheVariants.{Words, NoMemory, Unread, Unwritten, Run, Second, Unmanaged, Unheard, Unsent, Foreign}
 
 explained_as : (c : Code) → code_of (spelling c) ≡ Some c → IsExplained (spelling c)
 explained_as c read = record { code = c; read = read; begins = begins_with_code c }
@@ -163,23 +164,49 @@ foreign_reported (Import (import.Refused cause)) number = refused_reported cause
 foreign_reported (Dump cause) number = dump_reported cause number
 foreign_reported (Keys cause) number = keys_reported cause number
 foreign_reported Smps number = reported_as code.Mf1 _ refl refl refl
+foreign_reported Replies number = reported_as code.Mf2 _ refl refl refl
+
+run_reported : (fault : RunFault) → ReportsCode (run_line fault)
+run_reported run.NoMemory = reported_as code.Memory _ refl refl refl
+run_reported (run.Topology line cause) = topology_reported cause line
+run_reported (run.Partitions line cause) = partitions_reported cause line
+run_reported (run.Sweep fault) = sweep_reported fault
+run_reported (run.NoLegalPath switch node number) = reported_as code.Ur1 _ refl refl refl
+run_reported (run.Push fault) = push_reported fault
+run_reported (run.Port cause) = port_reported cause
+run_reported (run.Script line cause) = script_reported cause line
+run_reported (run.SecondScript line cause) = second_script_reported cause line
+run_reported run.Read = reported_as code.Read _ refl refl refl
+run_reported run.Write = reported_as code.Write _ refl refl refl
+
+managed_reported : (fault : RunFault) (place : List ℕ) → ReportsCode (managed_line fault place)
+managed_reported (run.Sweep sweep.NoMemory) place = reported_as code.Memory _ refl refl refl
+managed_reported (run.Sweep sweep.NoReply) place = reported_as code.Sw1 _ refl refl refl
+managed_reported (run.Sweep sweep.WrongReply) place = reported_as code.Sw2 _ refl refl refl
+managed_reported (run.Sweep sweep.TooManyHops) place = reported_as code.Sw3 _ refl refl refl
+managed_reported (run.Sweep sweep.TooManyNodes) place = reported_as code.Sw4 _ refl refl refl
+managed_reported (run.Push push.NoReply) place = reported_as code.Tp1 _ refl refl refl
+managed_reported (run.Push push.Refused) place = reported_as code.Tp2 _ refl refl refl
+managed_reported (run.Push push.NotAsSet) place = reported_as code.Tp3 _ refl refl refl
+managed_reported run.NoMemory place = run_reported run.NoMemory
+managed_reported (run.Topology line cause) place = run_reported (run.Topology line cause)
+managed_reported (run.Partitions line cause) place = run_reported (run.Partitions line cause)
+managed_reported (run.NoLegalPath switch node number) place = run_reported (run.NoLegalPath switch node number)
+managed_reported (run.Port cause) place = run_reported (run.Port cause)
+managed_reported (run.Script line cause) place = run_reported (run.Script line cause)
+managed_reported (run.SecondScript line cause) place = run_reported (run.SecondScript line cause)
+managed_reported run.Read place = run_reported run.Read
+managed_reported run.Write place = run_reported run.Write
 
 pub stops_are_reported : (stop : Stop) → NamesCode stop
 stops_are_reported (Words text) = tt
 stops_are_reported NoMemory = reported_as code.Memory _ refl refl refl
 stops_are_reported (Unread name) = reported_as code.Read _ refl refl refl
 stops_are_reported Unwritten = reported_as code.Write _ refl refl refl
-stops_are_reported (Run run.NoMemory) = reported_as code.Memory _ refl refl refl
-stops_are_reported (Run (run.Topology line cause)) = topology_reported cause line
-stops_are_reported (Run (run.Partitions line cause)) = partitions_reported cause line
-stops_are_reported (Run (run.Sweep fault)) = sweep_reported fault
-stops_are_reported (Run (run.NoLegalPath switch node number)) = reported_as code.Ur1 _ refl refl refl
-stops_are_reported (Run (run.Push fault)) = push_reported fault
-stops_are_reported (Run (run.Port cause)) = port_reported cause
-stops_are_reported (Run (run.Script line cause)) = script_reported cause line
-stops_are_reported (Run (run.SecondScript line cause)) = second_script_reported cause line
-stops_are_reported (Run run.Read) = reported_as code.Read _ refl refl refl
-stops_are_reported (Run run.Write) = reported_as code.Write _ refl refl refl
+stops_are_reported (Run fault) = run_reported fault
+stops_are_reported (Unmanaged fault place) = managed_reported fault place.items
+stops_are_reported (Unheard name) = reported_as code.Read _ refl refl refl
+stops_are_reported Unsent = reported_as code.Write _ refl refl refl
 stops_are_reported (Second line cause) = second_reported cause line
 stops_are_reported (Foreign line cause) = foreign_reported cause line
 

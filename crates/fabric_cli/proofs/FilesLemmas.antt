@@ -7,7 +7,7 @@ use Rattle.std.specs.Borrow.{Bor}
 use Rattle.std.specs.Option.{option_to_list}
 use Rattle.step_results.specs.Steps.{◌>>=◌}
 use Rattle.fabric_cli.specs.declared.faults.Stop.{Stop}
-use Rattle.fabric_cli.specs.declared.faults.Stop.TheVariants.{Words, NoMemory, Unread, Unwritten, Run, Second, Foreign}
+use Rattle.fabric_cli.specs.declared.faults.Stop.TheVariants.{Words, NoMemory, Unread, Unwritten, Run, Second, Unmanaged, Unheard, Unsent, Foreign}
 use Rattle.fabric_cli.specs.Faults.{NamesUnread}
 use Rattle.fabric_cli.specs.Files.{Contents, OpensAll, OpensInOrder, StopsAt, all_open}
 use Rattle.fabric_cli.specs.Serving.{Judged, OfScript, judged_if_read, to_judge, bytes_if_named, left_in, opened_bytes, script_in, texts_in, texts_of}
@@ -67,6 +67,9 @@ unread_first (Some file) reads old new names more NoMemory unread = tt
 unread_first (Some file) reads old new names more Unwritten unread = tt
 unread_first (Some file) reads old new names more (Run fault) unread = tt
 unread_first (Some file) reads old new names more (Second line cause) unread = tt
+unread_first (Some file) reads old new names more (Unmanaged fault place) unread = tt
+unread_first (Some file) reads old new names more (Unheard name) unread = tt
+unread_first (Some file) reads old new names more Unsent unread = tt
 unread_first (Some file) reads old new names more (Foreign line cause) unread = tt
 
 -- where some names opened to bytes, reading stopped after them
@@ -94,6 +97,9 @@ unread_after (Some file) now reads reading first before after names more NoMemor
 unread_after (Some file) now reads reading first before after names more Unwritten same stays opened read unread = tt
 unread_after (Some file) now reads reading first before after names more (Run fault) same stays opened read unread = tt
 unread_after (Some file) now reads reading first before after names more (Second line cause) same stays opened read unread = tt
+unread_after (Some file) now reads reading first before after names more (Unmanaged fault place) same stays opened read unread = tt
+unread_after (Some file) now reads reading first before after names more (Unheard name) same stays opened read unread = tt
+unread_after (Some file) now reads reading first before after names more Unsent same stays opened read unread = tt
 unread_after (Some file) now reads reading first before after names more (Foreign line cause) same stays opened read unread = tt
 
 -- a name with bytes behind it opens to them

@@ -26,10 +26,10 @@ use Rattle.subnet_fabric.specs.BringUp.{BroughtUpState}
 use Rattle.subnet_model.specs.declared.command.Command.{Command}
 use Rattle.sweep.specs.declared.fault.SweepFault.TheVariants as sweep
 use Rattle.fabric_cli.specs.Faults.{port_line, run_line, run_status, IsOfRun}
-use Rattle.fabric_cli.specs.Serving.{Answers, AppendsSome, BreaksOff, Comes, ComesTo, CutComes, CutsAreReported, Ending, Finding, ForEnding, Judged, RunStops, Stops, ReportsCuts, cut_reported, cuts_in, comparison_text, complete, ending_over, faulted, looked_at, run_in, seen_after, smps_seen, second_stop, shares_in, changes_in, texts_with, ended, to_judge}
+use Rattle.fabric_cli.specs.Serving.{Answers, AppendsSome, BreaksOff, Comes, ComesTo, CutComes, CutsAreReported, Ending, Finding, ForEnding, Judged, ManageStop, RunStops, Stops, ReportsCuts, managed_by, managed_in, cut_reported, cuts_in, comparison_text, complete, ending_over, faulted, looked_at, run_in, seen_after, smps_seen, second_stop, shares_in, changes_in, texts_with, ended, to_judge}
 use Rattle.cli_args.specs.declared.call.Inspection.{Inspection}
 use Rattle.fabric_cli.specs.declared.faults.Stop.{Stop}
-use Rattle.fabric_cli.specs.declared.faults.Stop.TheVariants.{Words, NoMemory, Unread, Unwritten, Run, Second, Foreign}
+use Rattle.fabric_cli.specs.declared.faults.Stop.TheVariants.{Words, NoMemory, Unread, Unwritten, Run, Second, Unmanaged, Unheard, Unsent, Foreign}
 use Rattle.cli_args.specs.declared.call.CutView.{CutView}
 use Rattle.script_lines.specs.ScriptCause.{code_of as script_code}
 use Rattle.subnet_core.proofs.BringUpLemmas.{same_inventory}
@@ -181,7 +181,7 @@ nothing_up = record {
 
 -- where nothing is found over it
 abbrev nothing_found : Finding
-nothing_found = record { comparison = record { scripts_agree = false; events_equal = false }; cuts = [] }
+nothing_found = record { comparison = record { scripts_agree = false; events_equal = false }; cuts = []; managed = None }
 
 outcome_of : (given : Result InventoryState RunFault) (stop : Option RunFault) → Becomes given stop
     → (outcome : Result BroughtUpState RunFault) × Turns given outcome × (stop_of outcome ≡ stop)
@@ -222,6 +222,9 @@ module _ (topology : List ℕ) (partitions : Option (List ℕ)) (asked : Work (L
     stops_over Unwritten is = absurd is
     stops_over (Run fault) is = run_over fault is
     stops_over (Second line cause) is = for_over _ is
+    stops_over (Unmanaged fault place) is = absurd is
+    stops_over (Unheard name) is = absurd is
+    stops_over Unsent is = absurd is
     stops_over (Foreign line cause) is = for_over _ is
 
     some_over : (out out' : Option (List ℕ)) → AppendsSome over out out' → AppendsSome texts out out'
@@ -241,6 +244,9 @@ module _ (topology : List ℕ) (partitions : Option (List ℕ)) (asked : Work (L
     answers_over (Err (Words text)) sure out out' is = either_over (Words text) out out' is
     answers_over (Err (Run fault)) sure out out' is = either_over (Run fault) out out' is
     answers_over (Err (Second line cause)) sure out out' is = either_over (Second line cause) out out' is
+    answers_over (Err (Unmanaged fault place)) sure out out' is = either_over (Unmanaged fault place) out out' is
+    answers_over (Err (Unheard name)) sure out out' is = for_over _ is
+    answers_over (Err Unsent) sure out out' is = for_over _ is
     answers_over (Err (Foreign line cause)) sure out out' is = either_over (Foreign line cause) out out' is
 
     pub comes_over : (result : Result (Vec ℕ Global) Stop) → ComesTo (λ text. text.items) over result → ComesTo (λ text. text.items) texts result
@@ -331,7 +337,7 @@ module _ (topology : List ℕ) (partitions : Option (List ℕ)) where
       let turns = outcome_of given up.stop up.becomes in
       record {
         outcome = turns.0;
-        finding = record { comparison = comparison; cuts = [] };
+        finding = record nothing_found { comparison = comparison };
         comes = (turns.1, rw (turns.2, up.is) compares);
         is = rw (turns.2, up.is, reported) refl;
       }
@@ -363,7 +369,7 @@ module _ (topology : List ℕ) (partitions : Option (List ℕ)) where
       is = same_inventory given up.stop subnet.inventory up.is
 
       finding : List ℕ → Finding
-      finding reported = record { comparison = record { scripts_agree = false; events_equal = false }; cuts = reported }
+      finding reported = record nothing_found { cuts = reported }
 
       said_so : (reported : List ℕ) → ReportsCuts subnet.inventory (up_in subnet) view reported
           → Comes topology partitions (work.Cuts view) (Ok (up_in subnet)) (finding reported)
@@ -449,6 +455,22 @@ module _ (topology : List ℕ) (partitions : Option (List ℕ)) where
       let same = turns.1 (λ inventory up. smps_seen up smps) in
       answers_over topology partitions (work.Smps script smps) (Ok (up_in left)) nothing_found turns.0 result sure out out'
       (subst (λ (ending : Ending). Answers (ended ending) result sure out out') (sym same) answers)
+
+  -- ---- bring-up by SMPs, which takes no fabric of ours
+  pub manage_stops : (read : List ℕ) (fault : RunFault) → Fails (fault_in fault) given → RunStops (texts_with topology partitions (work.Manage read)) fault
+  manage_stops read fault fails =
+      run_over topology partitions (work.Manage read) (Err run.NoMemory) nothing_found tt fault
+      (stopped_by (ended (managed_in given None)) fault (λ reported.
+      let at : given ≡ Err fault = rw reported at fails in
+      let one : run_status fault ≡ 1 = inventory_at_one topology partitions fault at in
+      let same : managed_in given None ≡ faulted (run_status fault) (run_line fault) = rw at refl in
+      (one, same ∙ ap (λ (status : ℕ). faulted status (run_line fault)) one)))
+
+  pub manage_over : (read : List ℕ) (stop : Option ManageStop) (inventory : InventoryState) → given ≡ Ok inventory → (Is : Ending → Type 0) → Is (managed_by stop)
+      → ForEnding (texts_with topology partitions (work.Manage read)) Is
+  manage_over read stop inventory is Is so =
+      let same : managed_in given stop ≡ managed_by stop = rw is refl in
+      record { outcome = Err run.NoMemory; finding = record nothing_found { managed = stop }; comes = tt; is = subst Is (sym same) so }
 
   -- ---- shares and changes, which take no fabric
   abbrev large : Result InventoryState RunFault

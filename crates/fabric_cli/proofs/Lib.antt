@@ -1,6 +1,7 @@
 pub mod FilesLemmas
 pub mod ServingLemmas
 pub mod SmpsLemmas
+pub mod ManageLemmas
 pub mod JudgedLemmas
 pub mod CutLemmas
 pub mod EndingLemmas

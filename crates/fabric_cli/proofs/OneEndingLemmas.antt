@@ -76,6 +76,7 @@ module _ (topology : List ℕ) (partitions : Option (List ℕ)) where
   ended_alike (work.Cuts view) free one other a b so too = absurd (false≢true free)
   ended_alike (work.Run script) free one other a b so too = ap (λ (up : Result InventoryState RunFault). run_in up script) (same_up one other so too)
   ended_alike (work.Smps script smps) free one other a b so too = absurd (false≢true free)
+  ended_alike (work.Manage replies) free one other a b so too = absurd (false≢true free)
   ended_alike (work.Compare first second port) free one other a b so too =
       let runs = same_runs first second port one other so.0 too.0 in
       let is = so.1 in

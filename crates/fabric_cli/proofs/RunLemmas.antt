@@ -22,7 +22,7 @@ use Rattle.text_words.specs.Lines.{lines}
 use Rattle.cli_args.specs.declared.call.Work.TheVariants as work
 use Rattle.fabric_cli.specs.Faults.{run_stop, script_line}
 use Rattle.fabric_cli.specs.Laws.{RunsEndAsReports, without_reported}
-use Rattle.fabric_cli.specs.Serving.{AppendsSome, Ending, Judged, broken_off, complete, ending_by, output_in, report_or_error, run_in, script_reported, texts_with}
+use Rattle.fabric_cli.specs.Serving.{AppendsSome, Ending, GrowsPartly, Judged, broken_off, complete, ending_by, output_in, report_or_error, run_in, script_reported, texts_with}
 use Rattle.fabric_cli.specs.Serving.{Answers, BreaksOff, ForEnding, GoesOut, GoesPartly, OfScript, RunStops, StopsBehind}
 use Rattle.fabric_cli.specs.declared.answering.Answer.{Answer}
 use Rattle.fabric_cli.specs.declared.answering.Answer.TheVariants.{Complete}
@@ -49,6 +49,11 @@ part_of_more old new first rest all is part =
 pub script_output : (output : List ℕ) (found : Result (List Command) (AtLine ScriptCause)) → output_in (script_reported output found) ≡ output
 script_output output (Ok commands) = refl
 script_output output (Err at) = refl
+
+script_grows : (output : List ℕ) (found : Result (List Command) (AtLine ScriptCause)) (old new : Option (List ℕ)) → AppendsPart old new output
+    → GrowsPartly (script_reported output found) old new
+script_grows output (Ok commands) old new part = part
+script_grows output (Err at) old new part = part
 
 script_partly : (output : List ℕ) (found : Result (List Command) (AtLine ScriptCause)) (old new : Option (List ℕ)) → AppendsPart old new output
     → GoesPartly (script_reported output found) old new
@@ -80,8 +85,8 @@ module _ (topology : List ℕ) (partitions : Option (List ℕ)) (inventory : Inv
 
   some : AppendsPart old new (reported_of_lines inventory taken) → AppendsSome judged old new
   some part =
-      inr (so (λ ending. AppendsPart old new (output_in ending))
-      (rw (script_output (reported_of_lines inventory (lines script)) (judged_lines inventory.plan (lines script))) (goes_on part)))
+      inr (so (λ ending. GrowsPartly ending old new)
+      (script_grows (reported_of_lines inventory (lines script)) (judged_lines inventory.plan (lines script)) old new (goes_on part)))
 
   partly : AppendsPart old new (reported_of_lines inventory taken) → ForEnding judged (λ ending. GoesPartly ending old new)
   partly part =

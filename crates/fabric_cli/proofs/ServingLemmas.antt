@@ -4,10 +4,10 @@ use Rattle.std.specs.Io.KnownBytes.{Keeps}
 use Rattle.subnet_core.specs.declared.fault.RunFault.{RunFault}
 use Rattle.subnet_core.specs.declared.fault.RunFault.TheVariants as run
 use Rattle.fabric_cli.specs.declared.faults.Stop.{Stop}
-use Rattle.fabric_cli.specs.declared.faults.Stop.TheVariants.{Words, NoMemory, Unread, Unwritten, Run, Second, Foreign}
-use Rattle.fabric_cli.specs.Faults.{NamesUnread, line_of, memory_line, status_of, unwritten_line}
+use Rattle.fabric_cli.specs.declared.faults.Stop.TheVariants.{Words, NoMemory, Unread, Unwritten, Run, Second, Unmanaged, Unheard, Unsent, Foreign}
+use Rattle.fabric_cli.specs.Faults.{NamesUnread, line_of, memory_line, status_of, unread_line, unwritten_line}
 use Rattle.fabric_cli.specs.Files.{Contents}
-use Rattle.fabric_cli.specs.Serving.{Ending, Judged, broken_off, complete, faulted, refused, warned, BreaksOff, ForEnding, GoesPartly, IsLineOf, IsRefusal, IsRefused, RunStops, Stops, StopsBehind, ReportsStop}
+use Rattle.fabric_cli.specs.Serving.{Ending, Judged, broken_off, complete, faulted, managed, refused, warned, BreaksOff, ForEnding, GoesPartly, IsLineOf, IsOfManage, IsRefusal, IsRefused, RunStops, Stops, StopsBehind, ReportsStop}
 use Rattle.text_streams.specs.Writing.{Writes}
 use Rattle.fabric_cli.proofs.JudgedLemmas.{for_ending}
 
@@ -25,7 +25,18 @@ partly_line a b out out' may (refused shown) is = absurd is
 partly_line a b out out' may (faulted status line) is = absurd is
 partly_line a b out out' may (complete output) is = (refl, may)
 partly_line a b out out' may (warned output) is = (refl, may)
+partly_line a b out out' may (managed status line) is = absurd is
 partly_line a b out out' may (broken_off line output) is = inr (refl, may)
+
+-- bring-up by SMPs: replies that end, or an output that does not go out
+manage_line : (a b : Bool) (line : List ℕ) → (line ≡ unwritten_line) ⊎ ((name : List ℕ) × (line ≡ unread_line name)) → (ending : Ending) → IsOfManage ending
+    → IsLineOf a b ending line
+manage_line a b line said (refused shown) is = absurd is
+manage_line a b line said (faulted status fault) is = absurd is
+manage_line a b line said (complete output) is = absurd is
+manage_line a b line said (warned output) is = absurd is
+manage_line a b line said (managed status fault) is = inr said
+manage_line a b line said (broken_off fault output) is = absurd is
 
 of_output : (file : Contents) (reads : Bool) (old new : Option (List (List ℕ))) (names : List (List ℕ)) (judged : Judged) (answer : ℕ) (a b : Bool) (out out' err err' : Option (List ℕ))
     → (a ≢ true) × ForEnding judged (λ ending. GoesPartly ending out out') → ReportsStop Unwritten answer b err err'
@@ -57,6 +68,7 @@ module _ (file : Contents) (reads : Bool) (old new : Option (List (List ℕ))) (
   refusal_line text may (faulted status line) is = absurd is
   refusal_line text may (complete output) is = absurd is
   refusal_line text may (warned output) is = absurd is
+  refusal_line text may (managed status line) is = absurd is
   refusal_line text may (broken_off line output) is = absurd is
 
   of_run : (fault : RunFault) → RunStops judged fault → ReportsStop (Run fault) answer b err err' → IsRefused file reads old new names judged a b err err'
@@ -88,6 +100,9 @@ module _ (file : Contents) (reads : Bool) (old new : Option (List (List ℕ))) (
   of_stop Unwritten is unread (inl part) = absurd is
   of_stop (Run fault) is unread (inl part) = of_run fault is part
   of_stop (Second line cause) is unread (inl part) = of_fault _ 1 refl is part.reported part.status
+  of_stop (Unmanaged fault place) is unread (inl part) = absurd is
+  of_stop (Unheard name) is unread (inl part) = absurd is
+  of_stop Unsent is unread (inl part) = absurd is
   of_stop (Foreign line cause) is unread (inl part) = of_fault _ 1 refl is part.reported part.status
 
   -- a script's fault whose line does not go out
@@ -97,9 +112,22 @@ module _ (file : Contents) (reads : Bool) (old new : Option (List (List ℕ))) (
   broken_line stop out out' sure (faulted status line) is = absurd is
   broken_line stop out out' sure (complete output) is = absurd is
   broken_line stop out out' sure (warned output) is = absurd is
+  broken_line stop out out' sure (managed status line) is =
+      let one : status_of stop ≡ 1 = is.1 in
+      inl (is.0, other_status (status_of stop) answer b three sure (λ e. omega (arith, e, one)))
   broken_line stop out out' sure (broken_off line output) is =
       let one : status_of stop ≡ 1 = is.1 in
       inl (is.0, other_status (status_of stop) answer b three sure (λ e. omega (arith, e, one)))
+
+  -- bring-up by SMPs that ends in between
+  of_manage : (stop : Stop) → ForEnding judged IsOfManage → (line_of stop ≡ unwritten_line) ⊎ ((name : List ℕ) × (line_of stop ≡ unread_line name))
+      → ReportsStop stop answer b err err' → IsRefused file reads old new names judged a b err err'
+  of_manage stop is said part =
+      record {
+        line = line_of stop;
+        is = inr (inr (for_ending judged IsOfManage (λ ending. IsLineOf a b ending (line_of stop)) (manage_line a b (line_of stop) said) is));
+        reported = part.reported;
+      }
 
   of_either : (stop : Stop) (out out' : Option (List ℕ)) → (Stops judged stop × Keeps out out') ⊎ ForEnding judged (λ ending. BreaksOff stop ending out out')
       → NamesUnread (Some file) reads old new names stop → ReportsStop stop answer b err err' → IsRefused file reads old new names judged a b err err'
@@ -123,6 +151,9 @@ module _ (file : Contents) (reads : Bool) (old new : Option (List (List ℕ))) (
   of_answer Unwritten out out' is unread (inl part) = of_output file reads old new names judged answer a b out out' err err' is part
   of_answer (Run fault) out out' is unread (inl part) = of_either (Run fault) out out' is unread part
   of_answer (Second line cause) out out' is unread (inl part) = of_either (Second line cause) out out' is unread part
+  of_answer (Unmanaged fault place) out out' is unread (inl part) = of_either (Unmanaged fault place) out out' is unread part
+  of_answer (Unheard name) out out' is unread (inl part) = of_manage (Unheard name) is (inr (name.now, refl)) part
+  of_answer Unsent out out' is unread (inl part) = of_manage Unsent is (inl refl) part
   of_answer (Foreign line cause) out out' is unread (inl part) = of_either (Foreign line cause) out out' is unread part
 
 -- a call that stops, with its output written as far as it went

@@ -7,7 +7,7 @@ use Rattle.fabric_cli.proofs.EndingLemmas.{kept}
 use Rattle.fabric_cli.proofs.JudgedLemmas.{smps_over, smps_stop as smps_stopped}
 use Rattle.fabric_cli.proofs.RunLemmas.{what_is_known}
 use Rattle.fabric_cli.specs.Faults.{smps_stop}
-use Rattle.fabric_cli.specs.Serving.{Answers, AppendsSome, ended, GoesOut, GoesPartly, OfScript, output_in, smps_by, smps_seen, smps_reported, texts_with}
+use Rattle.fabric_cli.specs.Serving.{Answers, AppendsSome, ended, GoesOut, GoesPartly, GrowsPartly, OfScript, smps_by, smps_seen, smps_reported, texts_with}
 use Rattle.fabric_cli.specs.declared.answering.Answer.{Answer}
 use Rattle.fabric_cli.specs.declared.answering.Answer.TheVariants.{Complete}
 use Rattle.fabric_cli.specs.declared.faults.Stop.{Stop}
@@ -25,9 +25,9 @@ use Rattle.subnet_fabric.specs.BringUp.{BroughtUpState}
 use Rattle.text_streams.specs.Writing.{AppendsPart}
 use Rattle.text_words.specs.Lines.{lines}
 
-smps_output : (output : List ℕ) (faulty : Option ℕ) → output_in (smps_reported output faulty) ≡ output
-smps_output output None = refl
-smps_output output (Some line) = refl
+smps_grow : (output : List ℕ) (faulty : Option ℕ) (old new : Option (List ℕ)) → AppendsPart old new output → GrowsPartly (smps_reported output faulty) old new
+smps_grow output None old new part = part
+smps_grow output (Some line) old new part = part
 
 smps_partly : (output : List ℕ) (faulty : Option ℕ) (old new : Option (List ℕ)) → AppendsPart old new output → GoesPartly (smps_reported output faulty) old new
 smps_partly output None old new part = part
@@ -41,7 +41,7 @@ module _ (up : BroughtUpState) (known old new : Option (List ℕ)) (sure : Bool)
   whole all none wrote = rw none wrote
 
   some : (all : Answered) → AppendsPart old new all.output → AppendsSome (ended (smps_by all)) old new
-  some all part = inr (rw (smps_output all.output all.faulty) part)
+  some all part = inr (smps_grow all.output all.faulty old new part)
 
   module _ (X : Type 0) where
     pub smps_done : (done : X) → OfBytes known (λ bytes. EndsSo (answered 1 up.fabric (lines bytes)) (let result : Result X SmpStop = Ok done in result) old new) → of_smps (Ok Complete)

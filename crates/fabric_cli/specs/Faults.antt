@@ -1,5 +1,5 @@
 -- Errors of the program: the line of each, and its exit status.
-use Rattle.std.specs.Prelude.{ℕ, Bool, List, ◌++◌, codes, decimal, Option, Some, None, String, string_bytes}
+use Rattle.std.specs.Prelude.{ℕ, Bool, List, ◌++◌, codes, decimal, Option, Some, None, String, string_bytes, Vec}
 use Rattle.std.specs.Option.{option_map_or}
 use Rattle.std.specs.Borrow.{Bor}
 use Rattle.std.specs.Global.{Global}
@@ -16,9 +16,9 @@ use Rattle.subnet_core.specs.declared.fault.RunFault.{RunFault}
 use Rattle.subnet_core.specs.declared.fault.RunFault.TheVariants as run
 use Rattle.fabric_cli.specs.Files.{Contents, Opened, StopsAt}
 use Rattle.fabric_cli.specs.declared.faults.ForeignCause.{ForeignCause}
-use Rattle.fabric_cli.specs.declared.faults.ForeignCause.TheVariants.{Discovery, Dump, Import, Keys, Smps}
+use Rattle.fabric_cli.specs.declared.faults.ForeignCause.TheVariants.{Discovery, Dump, Import, Keys, Replies, Smps}
 use Rattle.fabric_cli.specs.declared.faults.Stop.{Stop}
-use Rattle.fabric_cli.specs.declared.faults.Stop.TheVariants.{Words, NoMemory, Unread, Unwritten, Run, Second, Foreign}
+use Rattle.fabric_cli.specs.declared.faults.Stop.TheVariants.{Words, NoMemory, Unread, Unwritten, Run, Second, Unmanaged, Unheard, Unsent, Foreign}
 use Rattle.dump_file.specs.Fault.{code_of as dump_code}
 use Rattle.pkeys_file.specs.Fault.{code_of as keys_code}
 use Rattle.text_parts.specs.Parts.{hex_text}
@@ -76,6 +76,10 @@ pkeys_line code number = codes "fault " ++ (code ++ (codes " pkeys line " ++ (de
 abbrev pub smps_line : ℕ → List ℕ
 smps_line number = codes "fault MF1 smps line " ++ (decimal number ++ codes "\n")
 
+-- `fault MF2 replies line L`
+abbrev pub replies_line : ℕ → List ℕ
+replies_line number = codes "fault MF2 replies line " ++ (decimal number ++ codes "\n")
+
 -- with the GUID of a port, and the one that its CA would have
 abbrev pub guid_word : ℕ → List ℕ
 guid_word guid = codes " " ++ hex_text (to_be_bytes w64 guid)
@@ -90,6 +94,7 @@ foreign_line (Import cause) number = netdiscover_line (import_code cause) number
 foreign_line (Dump cause) number = dump_line (dump_code cause) number
 foreign_line (Keys cause) number = pkeys_line (keys_code cause) number
 foreign_line Smps number = smps_line number
+foreign_line Replies number = replies_line number
 
 abbrev pub memory_line : List ℕ
 memory_line = codes "fault memory\n"
@@ -113,6 +118,15 @@ run_line (run.SecondScript line cause) = second_script_line (script_code cause) 
 run_line run.Read = unread_line (codes "script")
 run_line run.Write = unwritten_line
 
+-- `fault CODE PLACE`, of a fabric behind SMPs: where the last of them went, and what it asked for
+abbrev pub placed_line : (code place : List ℕ) → List ℕ
+placed_line code place = codes "fault " ++ (code ++ (codes " " ++ (place ++ codes "\n")))
+
+abbrev pub managed_line : RunFault → (place : List ℕ) → List ℕ
+managed_line (run.Sweep fault) place = option_map_or (λ code. placed_line code place) (sweep_code fault) memory_line
+managed_line (run.Push fault) place = placed_line (push_code fault) place
+managed_line fault place = run_line fault
+
 -- in a topology's own fabric discovery finds all except what is too far, and no node refuses a Set
 abbrev pub sweep_status : SweepFault → ℕ
 sweep_status TooManyHops = 1
@@ -134,6 +148,9 @@ line_of (Unread name) = unread_line name.now
 line_of Unwritten = unwritten_line
 line_of (Run fault) = run_line fault
 line_of (Second line cause) = second_line (partitions_code cause) line
+line_of (Unmanaged fault place) = managed_line fault place.items
+line_of (Unheard name) = unread_line name.now
+line_of Unsent = unwritten_line
 line_of (Foreign line cause) = foreign_line cause line
 
 abbrev pub status_of : Stop → ℕ
@@ -143,6 +160,9 @@ status_of (Unread name) = 3
 status_of Unwritten = 3
 status_of (Run fault) = run_status fault
 status_of (Second line cause) = 1
+status_of (Unmanaged fault place) = 1
+status_of (Unheard name) = 3
+status_of Unsent = 3
 status_of (Foreign line cause) = 1
 
 -- refused arguments
@@ -163,6 +183,18 @@ smps_stop smps smp.NoMemory = NoMemory
 smps_stop smps smp.Read = Unread smps
 smps_stop smps smp.Write = Unwritten
 smps_stop smps (smp.Line line) = Foreign line Smps
+
+-- the end of replies of this name, whose SMPs are written
+abbrev pub replies_stop : Bor (List ℕ) → SmpStop → Stop
+replies_stop replies smp.NoMemory = NoMemory
+replies_stop replies smp.Read = Unheard replies
+replies_stop replies smp.Write = Unsent
+replies_stop replies (smp.Line line) = Foreign line Replies
+
+-- an error of what answers SMPs
+abbrev pub managed_stop : RunFault → (place : Vec ℕ Global) → Stop
+managed_stop run.NoMemory place = NoMemory
+managed_stop fault place = Unmanaged fault place
 
 -- reading files ends only in these
 abbrev pub IsOfFiles : Stop → Type 0

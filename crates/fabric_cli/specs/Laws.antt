@@ -27,11 +27,12 @@ RunsEndAsReports =
     (topology : List ℕ) (partitions : Option (List ℕ)) (script : List ℕ) (stop : Option RunFault)
     → without_reported (run_in (up_from (inventory_of topology partitions) stop) script) ≡ ending_by (report_or_error topology partitions script stop)
 
--- a look at a fabric, and at the loss of its cables, depends on its routes
+-- a look at a fabric, and at the loss of its cables, depends on its routes; and bring-up by SMPs on their replies
 abbrev pub needs_no_routes : {W S R : Type 0} → Work W S R → Bool
 needs_no_routes (work.Inspect what script) = false
 needs_no_routes (work.Smps script smps) = false
 needs_no_routes (work.Cuts view) = false
+needs_no_routes (work.Manage replies) = false
 needs_no_routes _ = true
 
 -- every other command on a subnet has one result for the same files, whatever their fabric became

@@ -55,8 +55,8 @@ use Rattle.cli_args.specs.declared.call.Inspection.{Inspection}
 use Rattle.cli_args.specs.declared.call.Inspection.TheVariants.{Graph, Keys, Tables, Trace}
 use Rattle.cli_args.specs.declared.call.Work.{Work}
 use Rattle.cli_args.specs.declared.call.Work.TheVariants as work
-use Rattle.fabric_cli.specs.declared.faults.Stop.TheVariants.{Words, NoMemory, Unread, Unwritten, Run, Second, Foreign}
-use Rattle.fabric_cli.specs.declared.faults.ForeignCause.TheVariants.{Discovery, Dump, Import, Keys as KeysFault, Smps}
+use Rattle.fabric_cli.specs.declared.faults.Stop.TheVariants.{Words, NoMemory, Unread, Unwritten, Run, Second, Unmanaged, Unheard, Unsent, Foreign}
+use Rattle.fabric_cli.specs.declared.faults.ForeignCause.TheVariants.{Discovery, Dump, Import, Keys as KeysFault, Replies, Smps}
 use Rattle.smp_lines.specs.SmpLines.{Answered, answered}
 use Rattle.fabric_cli.specs.declared.answering.Answer.{Answer}
 use Rattle.fabric_cli.specs.declared.answering.Answer.TheVariants.{Complete, Warned}
@@ -85,19 +85,21 @@ use Rattle.netdiscover_file.specs.Discovery.{DiscoveryState, discovery_of, is_di
 use Rattle.netdiscover_file.specs.declared.fault.DiscoveryCause.{DiscoveryCause}
 use Rattle.topology_import.specs.Import.{import_of}
 use Rattle.topology_import.specs.declared.fault.ImportCause.{ImportCause}
-use Rattle.fabric_cli.specs.Faults.{foreign_line, line_of, status_of, memory_line, partitions_line, port_line, run_line, script_line, second_line, run_status, topology_line}
+use Rattle.fabric_cli.specs.Faults.{managed_line, foreign_line, line_of, status_of, memory_line, partitions_line, port_line, run_line, script_line, second_line, run_status, topology_line}
 use Rattle.fabric_cli.specs.Faults.{unread_line, unwritten_line}
 use Rattle.fabric_cli.specs.Files.{Contents, Opened, StopsAt}
 use Rattle.cli_args.specs.Words.{Asking, Names, named_inspection, named_view, opened_for}
 
 -- how an invocation ends: the arguments are refused, with this text if it is known; or an error's status and line; or a
--- whole output; or the whole audit of routes that are not safe, or of key tables that do not follow the file; or the line of a script's error, after the report of the
+-- whole output; or the whole audit of routes that are not safe, or of key tables that do not follow the file; or the result of bring-up by SMPs, with its error's line if there is one: of what is printed then nothing is
+-- said; or the line of a script's error, after the report of the
 -- lines before it, or of a partition file's error, after what is said of key tables without it
 pub data Ending : Type 0 where
   refused : Option (List ℕ) → Ending
   faulted : ℕ → List ℕ → Ending
   complete : List ℕ → Ending
   warned : List ℕ → Ending
+  managed : ℕ → List ℕ → Ending
   broken_off : (line output : List ℕ) → Ending
 
 -- the bytes of the files, as lists
@@ -123,6 +125,7 @@ bytes_work read (work.Inspect what before) = work.Inspect (named_inspection what
 bytes_work read (work.Cuts view) = work.Cuts (named_view view)
 bytes_work read (work.Run script) = work.Run read
 bytes_work read (work.Smps before smps) = work.Smps (option_map (λ bytes. bytes.items) before) read
+bytes_work read (work.Manage replies) = work.Manage read
 bytes_work read (work.Compare first second port) = work.Compare first.items second.items port.now
 
 abbrev pub texts_in : {I : Type 0} → List ℕ → Texts I → Bytes
@@ -136,6 +139,7 @@ texts_in read texts = record {
 abbrev pub left_in : {I : Type 0} → (I → Option (List ℕ)) → OpenWork I → Option (List ℕ)
 left_in remaining (work.Run script) = remaining script.input
 left_in remaining (work.Smps before smps) = remaining smps.input
+left_in remaining (work.Manage replies) = remaining replies.input
 left_in remaining _ = Some []
 
 -- these bytes, if they are known
@@ -179,6 +183,7 @@ work_of file (work.Smps script name) = do
   before ← bytes_if_named file script
   bytes ← bytes_of file name
   Ok (work.Smps before bytes)
+work_of file (work.Manage name) = bytes_of file name >>= λ bytes. Ok (work.Manage bytes)
 work_of file (work.Compare first second port) = do
   bytes ← bytes_of file first
   others ← bytes_of file second
@@ -274,6 +279,23 @@ smps_by all = smps_reported all.output all.faulty
 
 abbrev pub smps_seen : BroughtUpState → List ℕ → Ending
 smps_seen up smps = smps_by (answered 1 up.fabric (lines smps))
+
+-- ---- bring-up by SMPs: of a fabric that only answers them nothing is known, so it may be up, or any error may stop it
+pub data ManageStop : Type 0 where
+  of_fabric : RunFault → (place : List ℕ) → ManageStop
+  of_line : ℕ → ManageStop
+
+abbrev pub manage_line : ManageStop → List ℕ
+manage_line (of_fabric fault place) = managed_line fault place
+manage_line (of_line line) = foreign_line Replies line
+
+abbrev pub managed_by : Option ManageStop → Ending
+managed_by None = managed 0 []
+managed_by (Some stop) = managed 1 (manage_line stop)
+
+abbrev pub managed_in : Result InventoryState RunFault → Option ManageStop → Ending
+managed_in (Ok inventory) stop = managed_by stop
+managed_in (Err fault) stop = faulted (run_status fault) (run_line fault)
 
 -- ---- what is seen of a fabric that is up, or after a script, or the script's error
 abbrev pub seen_if_read : InventoryState → BroughtUpState → (InventoryState → BroughtUpState → Ending) → Result (List Command) (AtLine ScriptCause) → Ending
@@ -425,6 +447,7 @@ CutsAreReported _ _ view reported = Unit {0}
 pub record Finding : Type 0 where
   pub comparison : Comparison
   pub cuts : List ℕ
+  pub managed : Option ManageStop
 
 -- by what becomes of the fabric: it is up, or this error stops bring-up; and by what depends on it
 abbrev pub ending_over : List ℕ → Option (List ℕ) → Work (List ℕ) (List ℕ) (List ℕ) → Result BroughtUpState RunFault → Finding → Ending
@@ -440,6 +463,7 @@ ending_over topology partitions (work.Run script) outcome finding =
     run_in (up_from (inventory_of topology partitions) (stop_of outcome)) script
 ending_over topology partitions (work.Smps script smps) outcome finding =
     seen_after (inventory_of topology partitions) (λ inventory up. smps_seen up smps) script outcome
+ending_over topology partitions (work.Manage replies) outcome finding = managed_in (inventory_of topology partitions) finding.managed
 ending_over topology partitions (work.Compare first second port) outcome finding =
     ending_by (compared (two_runs_of topology partitions first second port (stop_of outcome)) finding.comparison)
 
@@ -453,6 +477,7 @@ Comes topology partitions (work.Cuts view) outcome finding =
     Turns (inventory_of topology partitions) outcome × CutsAreReported (inventory_of topology partitions) outcome view finding.cuts
 Comes topology partitions (work.Run script) outcome finding = Turns (inventory_of topology partitions) outcome
 Comes topology partitions (work.Smps script smps) outcome finding = TurnsAfter (inventory_of topology partitions) script outcome
+Comes topology partitions (work.Manage replies) outcome finding = Unit {0}
 Comes topology partitions (work.Compare first second port) outcome finding =
     Turns (inventory_of topology partitions) outcome
     × IfOk (two_runs_of topology partitions first second port (stop_of outcome)) (λ runs. Compares runs finding.comparison)
@@ -508,6 +533,7 @@ without_files (work.Inspect what script) = work.Inspect what (option_map (λ fil
 without_files (work.Cuts view) = work.Cuts view
 without_files (work.Run script) = work.Run tt
 without_files (work.Smps script smps) = work.Smps (option_map (λ file. tt) script) tt
+without_files (work.Manage replies) = work.Manage tt
 without_files (work.Compare first second port) = work.Compare tt tt port
 
 -- bytes for each of the files that are needed, and for no other
@@ -538,6 +564,7 @@ Ends (refused shown) status out out' err err' = (status ≡ 2) × Keeps out out'
 Ends (faulted fault line) status out out' err err' = (status ≡ fault) × Keeps out out' × Appends err err' line
 Ends (complete output) status out out' err err' = (status ≡ 0) × Appends out out' output × Keeps err err'
 Ends (warned output) status out out' err err' = (status ≡ 1) × Appends out out' output × Keeps err err'
+Ends (managed fault line) status out out' err err' = (status ≡ fault) × Appends err err' line
 Ends (broken_off fault output) status out out' err err' = (status ≡ 1) × Appends out out' output × Appends err err' fault
 
 -- an invocation that checks this ends so
@@ -550,20 +577,29 @@ output_in (refused shown) = []
 output_in (faulted fault line) = []
 output_in (complete output) = output
 output_in (warned output) = output
+output_in (managed fault line) = []
 output_in (broken_off fault output) = output
+
+-- a beginning of it was written; of bring-up by SMPs nothing is said
+abbrev pub GrowsPartly : Ending → (out out' : Option (List ℕ)) → Type 0
+GrowsPartly (managed fault line) out out' = Unit {0}
+GrowsPartly ending out out' = AppendsPart out out' (output_in ending)
 
 -- and this was written, whatever failed: nothing, or a beginning of the output
 abbrev pub AppendsSome : Judged → Option (List ℕ) → Option (List ℕ) → Type 0
-AppendsSome judged out out' = Keeps out out' ⊎ ForEnding judged (λ ending. AppendsPart out out' (output_in ending))
+AppendsSome judged out out' = Keeps out out' ⊎ ForEnding judged (λ ending. GrowsPartly ending out out')
 
 -- the line that is printed, completely or in part, if an invocation could not end so: that an output which may fail was not
 -- written, completely or up to a script's error; or the line of the error itself, at which standard error failed (also after
--- all of it was written, if the flush fails); if the arguments are refused, the text of that
+-- all of it was written, if the flush fails); if the arguments are refused, the text of that; in bring-up by SMPs any of
+-- these may be, and that replies end or cannot be read
 abbrev pub IsLineOf : (out_is_sure err_is_sure : Bool) → Ending → List ℕ → Type 0
 IsLineOf out_is_sure err_is_sure (refused shown) line = IsKnown shown line × (err_is_sure ≢ true)
 IsLineOf out_is_sure err_is_sure (faulted status fault) line = (line ≡ fault) × (err_is_sure ≢ true)
 IsLineOf out_is_sure err_is_sure (complete output) line = (line ≡ unwritten_line) × (out_is_sure ≢ true)
 IsLineOf out_is_sure err_is_sure (warned output) line = (line ≡ unwritten_line) × (out_is_sure ≢ true)
+IsLineOf out_is_sure err_is_sure (managed status fault) line =
+    ((line ≡ fault) × (err_is_sure ≢ true)) ⊎ ((line ≡ unwritten_line) ⊎ ((name : List ℕ) × (line ≡ unread_line name)))
 IsLineOf out_is_sure err_is_sure (broken_off fault output) line =
     ((line ≡ fault) × (err_is_sure ≢ true)) ⊎ ((line ≡ unwritten_line) × (out_is_sure ≢ true))
 
@@ -624,6 +660,9 @@ Stops judged (Unread name) = Unit {0}
 Stops judged Unwritten = ⊥
 Stops judged (Run fault) = RunStops judged fault
 Stops judged (Second line cause) = ForEnding judged (λ ending. ending ≡ faulted 1 (second_line (partitions_code cause) line))
+Stops judged (Unmanaged fault place) = ⊥
+Stops judged (Unheard name) = ⊥
+Stops judged Unsent = ⊥
 Stops judged (Foreign line cause) = ForEnding judged (λ ending. ending ≡ faulted 1 (foreign_line cause line))
 
 -- of a stop its line is printed, and with its status if the line can be written
@@ -636,6 +675,7 @@ abbrev pub IsReportedStop : Stop → Type 0
 IsReportedStop (Words text) = Unit {0}
 IsReportedStop (Run fault) = Unit {0}
 IsReportedStop (Second line cause) = Unit {0}
+IsReportedStop (Unmanaged fault place) = Unit {0}
 IsReportedStop (Foreign line cause) = Unit {0}
 IsReportedStop _ = ⊥
 
@@ -680,6 +720,7 @@ status_in Warned = 1
 abbrev pub GoesOut : Answer → Ending → (out out' : Option (List ℕ)) → Type 0
 GoesOut Complete (complete output) out out' = Appends out out' output
 GoesOut Warned (warned output) out out' = Appends out out' output
+GoesOut Complete (managed status line) out out' = (status ≡ 0) × (line ≡ [])
 GoesOut _ _ out out' = ⊥
 
 -- a beginning of it was
@@ -692,13 +733,21 @@ GoesPartly _ out out' = ⊥
 -- it ends with this stop, after what was written
 abbrev pub BreaksOff : Stop → Ending → (out out' : Option (List ℕ)) → Type 0
 BreaksOff stop (broken_off fault output) out out' = (line_of stop ≡ fault) × (status_of stop ≡ 1) × Appends out out' output
+BreaksOff stop (managed status line) out out' = (line_of stop ≡ line) × (status_of stop ≡ 1) × (status ≡ 1)
 BreaksOff stop _ out out' = ⊥
+
+-- it ends in bring-up by SMPs
+abbrev pub IsOfManage : Ending → Type 0
+IsOfManage (managed status line) = Unit {0}
+IsOfManage _ = ⊥
 
 -- it stops, with the output up to there written
 abbrev pub StopsBehind : Judged → Stop → (out_is_sure : Bool) → (out out' : Option (List ℕ)) → Type 0
 StopsBehind judged NoMemory out_is_sure out out' = AppendsSome judged out out'
 StopsBehind judged (Unread name) out_is_sure out out' = AppendsSome judged out out'
 StopsBehind judged Unwritten out_is_sure out out' = (out_is_sure ≢ true) × ForEnding judged (λ ending. GoesPartly ending out out')
+StopsBehind judged (Unheard name) out_is_sure out out' = ForEnding judged IsOfManage
+StopsBehind judged Unsent out_is_sure out out' = ForEnding judged IsOfManage
 StopsBehind judged stop out_is_sure out out' =
     (Stops judged stop × Keeps out out') ⊎ ForEnding judged (λ ending. BreaksOff stop ending out out')
 

@@ -14,9 +14,11 @@ use crate::reading::OpenFile;
 use crate::texts::Texts;
 use cli_args::Work;
 use route_audit::Audit;
-use smp_lines::answer_smps;
-use std::alloc::Global;
-use subnet_core::{Subnet, left_by, run_stream};
+use smp_lines::{LineWire, SmpStop, answer_smps, place_text};
+use std::alloc::{AllocError, Global};
+use subnet_core::{
+    Inventory, RunFault, Subnet, left_by, manage, read_inventory, run_stream, up_text,
+};
 use text_streams::{Output, Reader, write_whole};
 
 /// The result once the output is written.
@@ -76,6 +78,7 @@ pub fn answered_of_texts<'a, I: Reader + Drop, O: Output>(
                 Err(fault) => Err(Stop::Run(fault)),
             }
         }
+        Work::Manage(replies) => managed(alloc, topology, partitions, replies, out),
         Work::Compare {
             first,
             second,
@@ -184,6 +187,74 @@ fn smps_answered<'a, R: Reader + Drop, O: Output>(
     match answer_smps(alloc, &mut fabric, &mut input, out) {
         Ok(()) => Ok(Answer::Complete),
         Err(stop) => Err(Stop::of_smps(name, stop)),
+    }
+}
+
+/// Brings up whatever answers the SMPs that are written, and writes what is up at the end.
+fn managed<'a, R: Reader + Drop, O: Output>(
+    alloc: Global,
+    topology: &[u8],
+    partitions: Option<&[u8]>,
+    replies: OpenFile<'a, R>,
+    out: &mut O,
+) -> Result<Answer, Stop<'a>>
+    ensures exact { (read : List ℕ) → Answers (texts_with topology.now (option_copied partitions.entry) (work.Manage read)) result
+        (O.is_sure out.old) (O.contents out.old) (O.contents out.new) }
+    ensures unread { IfErr result (LeavesUnread (λ _. ⊥)) }
+{
+    let inventory = match read_inventory(alloc, topology, partitions) {
+        Ok(inventory) => inventory,
+        Err(fault) => return Err(Stop::Run(fault)),
+    };
+    let OpenFile { name, mut input } = replies;
+    match brought_up(alloc, &inventory, &mut input, out) {
+        Ok(text) => {
+            if write_whole(out, text.as_slice()) {
+                Ok(Answer::Complete)
+            } else {
+                Err(Stop::Unsent)
+            }
+        }
+        Err(Unmanaged::Lines(stop)) => Err(Stop::of_replies(name, stop)),
+        Err(Unmanaged::Fabric { fault, place }) => Err(Stop::of_managed(fault, place)),
+    }
+}
+
+/// Why nothing is up.
+enum Unmanaged {
+    /// SMPs or replies are at their end.
+    Lines(SmpStop),
+    /// What answers is not brought up.
+    Fabric {
+        /// Why not.
+        fault: RunFault,
+        /// Where the last SMP went, and what it asked for.
+        place: Vec<u8>,
+    },
+}
+
+impl From<AllocError> for Unmanaged {
+    fn from(_error: AllocError) -> Unmanaged {
+        Unmanaged::Lines(SmpStop::NoMemory)
+    }
+}
+
+/// Brings up what answers, and returns what is printed of it.
+fn brought_up<R: Reader, O: Output>(
+    alloc: Global,
+    inventory: &Inventory,
+    replies: &mut R,
+    out: &mut O,
+) -> Result<Vec<u8>, Unmanaged> {
+    let mut wire = LineWire::new(alloc, replies, out);
+    let managed = manage(alloc, inventory, &mut wire);
+    match (wire.stop(), managed) {
+        (Some(stop), _) => Err(Unmanaged::Lines(stop)),
+        (None, Err(fault)) => {
+            let place = place_text(alloc, wire.last())?;
+            Err(Unmanaged::Fabric { fault, place })
+        }
+        (None, Ok(up)) => Ok(up_text(inventory, &up, wire.exchanges())?),
     }
 }
 

@@ -2,9 +2,9 @@
 
 ghost use Rattle.std.specs.Prelude.{◌≡◌, ◌++◌, IfOk, OnOk, option_map};
 ghost use Rattle.std.specs.Option.{option_map_or};
-ghost use Rattle.fabric_cli.specs.Faults.{dump_line, foreign_line, guid_word, guids_line, netdiscover_line, pkeys_line, smps_line};
-ghost use Rattle.fabric_cli.specs.Faults.{fabric_line, line_of, memory_line, no_path_line, port_line, run_line, run_status, unwritten_line};
-ghost use Rattle.fabric_cli.specs.Faults.{run_stop, second_line, smps_stop, status_of, stop_of, sweep_status};
+ghost use Rattle.fabric_cli.specs.Faults.{dump_line, foreign_line, guid_word, guids_line, netdiscover_line, pkeys_line, replies_line, smps_line};
+ghost use Rattle.fabric_cli.specs.Faults.{fabric_line, line_of, memory_line, no_path_line, port_line, run_line, run_status, unread_line, unwritten_line};
+ghost use Rattle.fabric_cli.specs.Faults.{managed_line, managed_stop, placed_line, replies_stop, run_stop, second_line, smps_stop, status_of, stop_of, sweep_status};
 ghost use Rattle.fabric_cli.specs.declared.faults.Stop.TheVariants.{NoMemory};
 ghost use Rattle.script_lines.specs.ScriptCause.{code_of as script_code};
 ghost use Rattle.partition_file.specs.Fault.{code_of as partitions_code};
@@ -53,6 +53,17 @@ pub enum Stop<'a> {
         /// What is wrong there.
         cause: PartitionCause,
     },
+    /// What answers SMPs is not brought up.
+    Unmanaged {
+        /// Why not.
+        fault: RunFault,
+        /// Where the last SMP went, and what it asked for.
+        place: Vec<u8>,
+    },
+    /// The replies of this name are at their end, or cannot be read.
+    Unheard(&'a str),
+    /// SMPs cannot be written, or what is printed once a fabric is up.
+    Unsent,
     /// The output of another program has an error, or describes nothing that is printed here; or SMPs have one.
     Foreign {
         /// The line of the error, from 1; 0 if it belongs to no line.
@@ -75,6 +86,8 @@ pub enum ForeignCause {
     Keys(KeysCause),
     /// In SMPs: the line is none.
     Smps,
+    /// In replies: the line is none.
+    Replies,
 }
 
 impl<'a> Stop<'a> {
@@ -115,15 +128,41 @@ impl<'a> Stop<'a> {
         }
     }
 
+    /// The stop for the end of replies of this name whose SMPs are written.
+    pub fn of_replies(replies: &'a str, stop: SmpStop) -> Self
+        ensures { result ≡ replies_stop replies.entry stop }
+    {
+        match stop {
+            SmpStop::NoMemory => Stop::NoMemory,
+            SmpStop::Read => Stop::Unheard(replies),
+            SmpStop::Write => Stop::Unsent,
+            SmpStop::Line(line) => Stop::Foreign {
+                line: line as usize,
+                cause: ForeignCause::Replies,
+            },
+        }
+    }
+
+    /// The stop for an error of what answers SMPs, the last of which went to that place.
+    pub fn of_managed(fault: RunFault, place: Vec<u8>) -> Self
+        ensures { result ≡ managed_stop fault place }
+    {
+        match fault {
+            RunFault::NoMemory => Stop::NoMemory,
+            fault => Stop::Unmanaged { fault, place },
+        }
+    }
+
     /// The exit status.
     pub fn status(&self) -> u8
         ensures { result ≡ status_of self.now }
     {
         match self {
             Stop::Words(_) => WORDS_REFUSED,
-            Stop::NoMemory | Stop::Unread(_) | Stop::Unwritten => REFUSED,
+            Stop::NoMemory | Stop::Unread(_) | Stop::Unwritten | Stop::Unheard(_) | Stop::Unsent =>
+                REFUSED,
             Stop::Run(fault) => run_status(fault),
-            Stop::Second { .. } | Stop::Foreign { .. } => FAULT,
+            Stop::Second { .. } | Stop::Unmanaged { .. } | Stop::Foreign { .. } => FAULT,
         }
     }
 
@@ -134,10 +173,11 @@ impl<'a> Stop<'a> {
         match self {
             Stop::Words(text) => Vec::from_slice(alloc, text.as_bytes()),
             Stop::NoMemory => memory_line(alloc),
-            Stop::Unread(name) => Ok(format!(in alloc; "fault read {name}\n")?.into_bytes()),
-            Stop::Unwritten => unwritten_line(alloc),
+            Stop::Unread(name) | Stop::Unheard(name) => unread_line(alloc, *name),
+            Stop::Unwritten | Stop::Unsent => unwritten_line(alloc),
             Stop::Run(fault) => run_line(alloc, fault),
             Stop::Second { line, cause } => second_line(alloc, *line, *cause),
+            Stop::Unmanaged { fault, place } => managed_line(alloc, fault, place),
             Stop::Foreign { line, cause } => foreign_line(alloc, *line, *cause),
         }
     }
@@ -171,6 +211,12 @@ fn memory_line(alloc: Global) -> Result<Vec<u8>, AllocError>
     ensures { IfOk result (λ text. text.items ≡ memory_line) }
 {
     Vec::from_slice(alloc, MEMORY_LINE.as_bytes())
+}
+
+fn unread_line(alloc: Global, name: &str) -> Result<Vec<u8>, AllocError>
+    ensures { IfOk result (λ text. text.items ≡ unread_line name.now) }
+{
+    Ok(format!(in alloc; "fault read {name}\n")?.into_bytes())
 }
 
 fn unwritten_line(alloc: Global) -> Result<Vec<u8>, AllocError>
@@ -214,6 +260,28 @@ fn run_line(alloc: Global, fault: &RunFault) -> Result<Vec<u8>, AllocError>
         RunFault::Read => Vec::from_slice(alloc, b"fault read script\n"),
         RunFault::Write => unwritten_line(alloc),
     }
+}
+
+fn managed_line(alloc: Global, fault: &RunFault, place: &[u8]) -> Result<Vec<u8>, AllocError>
+    ensures { IfOk result (λ text. text.items ≡ managed_line fault.now place.now) }
+{
+    match fault {
+        RunFault::Sweep(fault) => match fault.code() {
+            Some(code) => placed_line(alloc, code, place),
+            None => memory_line(alloc),
+        },
+        RunFault::Push(fault) => placed_line(alloc, fault.code(), place),
+        fault => run_line(alloc, fault),
+    }
+}
+
+fn placed_line(alloc: Global, code: &str, place: &[u8]) -> Result<Vec<u8>, AllocError>
+    ensures { IfOk result (λ text. text.items ≡ placed_line code.now place.now) }
+{
+    let mut text = format!(in alloc; "fault {code} ")?.into_bytes();
+    text.extend_from_slice(place)?;
+    text.extend_from_slice(b"\n")?;
+    Ok(text)
 }
 
 fn fabric_line(alloc: Global, code: &str) -> Result<Vec<u8>, AllocError>
@@ -264,6 +332,7 @@ fn foreign_line(alloc: Global, line: usize, cause: ForeignCause) -> Result<Vec<u
         ForeignCause::Dump(cause) => dump_line(alloc, cause.code(), line),
         ForeignCause::Keys(cause) => pkeys_line(alloc, cause.code(), line),
         ForeignCause::Smps => smps_line(alloc, line),
+        ForeignCause::Replies => replies_line(alloc, line),
     }
 }
 
@@ -289,6 +358,12 @@ fn smps_line(alloc: Global, line: usize) -> Result<Vec<u8>, AllocError>
     ensures { IfOk result (λ text. text.items ≡ smps_line line) }
 {
     Ok(format!(in alloc; "fault MF1 smps line {line}\n")?.into_bytes())
+}
+
+fn replies_line(alloc: Global, line: usize) -> Result<Vec<u8>, AllocError>
+    ensures { IfOk result (λ text. text.items ≡ replies_line line) }
+{
+    Ok(format!(in alloc; "fault MF2 replies line {line}\n")?.into_bytes())
 }
 
 /// The line with a port's GUID and the one that its CA would have.

@@ -1,4 +1,4 @@
-//! The files of an invocation, read in order. The script of `run` and the SMPs of `smp` are only opened.
+//! The files of an invocation, read in order. The script of `run`, the SMPs of `smp` and the replies of `manage` are only opened.
 
 ghost use Rattle.std.specs.Prelude.{◌≡◌, ℕ, List, Ok, true, is_some, option_copied, option_map, IfErr, IfOk, IfSome, OnOk};
 ghost use Rattle.std.specs.Option.{option_to_list};
@@ -116,6 +116,7 @@ fn work_of<'a, F: Files>(
             script: read_if_named(alloc, files, *script)?,
             smps: open_file(files, *smps)?,
         }),
+        Work::Manage(replies) => Ok(Work::Manage(open_file(files, *replies)?)),
         Work::Compare {
             first,
             second,

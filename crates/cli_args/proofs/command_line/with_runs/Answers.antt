@@ -7,4 +7,5 @@ returns c app is =
     let graphs = c.with_command-graphs.ensures _ _ traces c.graph_command.ensures.words refl in
     let runs = c.with_command-runs.ensures _ _ graphs c.run_command.ensures.words refl in
     let smps = c.with_command-smps.ensures _ _ runs c.smp_command.ensures.words refl in
-    c.with_command.ensures _ _ smps c.compare_command.ensures.words refl
+    let managed = c.with_command-managed.ensures _ _ smps c.manage_command.ensures.words refl in
+    c.with_command.ensures _ _ managed c.compare_command.ensures.words refl

@@ -1,5 +1,6 @@
 use Rattle.std.proofs.Common.{[], option_map, refl}
 use Rattle.cli_args.specs.declared.call.Work.TheVariants as work
+use Rattle.fabric_cli.proofs.ManageLemmas.{whatever_is_read}
 use Rattle.fabric_cli.proofs.SmpsLemmas.{smps_after, smps_unanswered}
 use Rattle.fabric_cli.specs.Serving.{texts_with}
 use Rattle.fabric_cli.proofs.answering.answered_of_texts.Goals as goal
@@ -10,6 +11,11 @@ returns-clause-exact g c =
     let judged = texts_with c.args.texts.topology.items (option_map (λ items. items.items) c.args.texts.partitions) asked in
     let made = rw (c.as_slice-topology.ensures.value, c.slice_of-partitions.ensures, c.as_slice-first.ensures.value, c.as_slice-second.ensures.value) at c.compared.ensures.exact in
     rw c.in-Compare.is ([], refl, c.written-in-Compare.ensures.exact judged made)
+
+pub returns-in-Manage-clause-exact : goal.returns-in-Manage-clause-exact
+returns-in-Manage-clause-exact g c =
+    let exact = rw (c.as_slice-topology.ensures.value, c.slice_of-partitions.ensures) at c.managed.ensures.exact in
+    rw c.in-Manage.is (whatever_is_read (g.I.Reader.remaining c.in-Manage.replies.input) _ exact)
 
 pub returns-in-Ok-clause-exact : goal.returns-in-Ok-clause-exact
 returns-in-Ok-clause-exact g c =

@@ -45,3 +45,6 @@ returns-in_err-open_file-in-Smps-clause-unread g c =
 pub returns-in_ok-open_file-in-Smps-clause-order : goal.returns-in_ok-open_file-in-Smps-clause-order
 returns-in_ok-open_file-in-Smps-clause-order g c =
     rw c.in-Smps.is (opens_whole _ _ _ (opens_more _ _ _ _ _ c.read_if_named-in-Smps.ensures.opened c.open_file-in-Smps.ensures.opened))
+
+pub returns-in_ok-open_file-in-Manage-clause-last : goal.returns-in_ok-open_file-in-Manage-clause-last
+returns-in_ok-open_file-in-Manage-clause-last g c = λ word is. absurd is

@@ -1,0 +1,5 @@
+use Rattle.cli_args.proofs.command_line.manage_command.Goals as goal
+
+pub returns-clause-words : goal.returns-clause-words
+returns-clause-words c =
+    c.described.ensures.words _ (c.with_arg-command.ensures _ _ c.subnet_command.ensures c.wanted_replies.ensures.rule)
