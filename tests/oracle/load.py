@@ -1,14 +1,17 @@
 #!/usr/bin/env python3
 """Works out anew what `fabric load` has to print of a fabric and a dump:
-    tests/oracle/load.py FABRIC DUMP
-FABRIC is a topology, or what ibnetdiscover printed. It knows nothing of the program: it follows the packets of each pair one by
-one, with the set of ports by which they left a switch.
+    tests/oracle/load.py FABRIC DUMP [PARTS]
+FABRIC is a topology, or what ibnetdiscover printed. With PARTS, a partition file, FABRIC is a topology, and only pairs count that
+may talk. It knows nothing of the program: it follows the packets of each pair one by one, with the set of ports by which they left
+a switch.
 """
 import collections
+import re
 import sys
 
 sys.dont_write_bytecode = True
 import audit  # noqa: E402
+from topology import Topology  # noqa: E402
 
 
 def followed(net, place, lid):
@@ -49,7 +52,37 @@ def level_lines(net, loads, channels):
             yield f"level {level} most {max(numbers)} mean {hundredths(total * 100 // len(numbers))} ratio {hundredths(ratio)}"
 
 
-def load(net):
+def memberships(file, guids, manager):
+    """For each of these CA ports, by GUID, the partitions that it is in, by base, and whether it is a full member."""
+    if file == "-":
+        return {guid: {0x7FFF: True} for guid in guids}
+    found = {guid: {0x7FFF: True} if guid == manager else {} for guid in guids}
+    listed = {}
+    for definition in re.sub(r"#.*", "", open(file).read()).split(";")[:-1]:
+        head, ports = definition.split(":", 1)
+        key, *flags = [part.strip() for part in head.split(",")]
+        default = "full" if "defmember=full" in flags else "limited"
+        words = [[part.strip() for part in port.split("=")] for port in ports.split(",") if port.strip()]
+        listed.setdefault(int(key.split("=")[1], 16) & 0x7FFF, []).extend((word, *(membership or [default])) for word, *membership in words)
+    for base, words in {0x7FFF: [("ALL", "limited")], **listed}.items():
+        for word, membership in words:
+            for guid in guids if word in ("ALL", "ALL_CAS") else [manager] if word == "SELF" else [int(word, 16)] if word[0].isdigit() else []:
+                if guid in found:
+                    found[guid][base] = found[guid].get(base, False) or membership == "full"
+    return found
+
+
+def talkers(topology, partitions):
+    """Whether packets of one CA port go to another: they are members of some partition, one of them at least a full one."""
+    read = Topology(topology)
+    ends = {(name, number): node.guid + number for name, node in read.nodes.items() if not node.is_switch for number in range(1, node.ports + 1)}
+    found = memberships(partitions, list(ends.values()), ends[read.manager])
+    places = {name: place for place, name in enumerate(read.nodes)}
+    held = {(places[name], number): found[guid] for (name, number), guid in ends.items()}
+    return lambda a, b: any(held[a][base] or held[b][base] for base in held[a] if base in held[b])
+
+
+def load(net, talk=lambda source, end: True):
     """The lines."""
     sources = [(at[0], end) for at, end in net.far.items() if net.is_switch(at[0]) and net.is_host(end[0])]
     channels = sorted(at for at, end in net.far.items() if net.is_switch(at[0]) and net.is_switch(end[0]))
@@ -58,7 +91,7 @@ def load(net):
         if not net.is_host(end[0]):
             continue
         for place in {place for place, _ in sources}:
-            count = sum(1 for at, source in sources if at == place and source != end)
+            count = sum(1 for at, source in sources if at == place and source != end and talk(source, end))
             ports, fate = followed(net, place, lid)
             fates[fate] += count
             for port in ports:
@@ -72,4 +105,4 @@ def load(net):
 
 
 if __name__ == "__main__":
-    print("\n".join(load(audit.Net(*sys.argv[1:]))))
+    print("\n".join(load(audit.Net(*sys.argv[1:3]), *[talkers(sys.argv[1], parts) for parts in sys.argv[3:]])))

@@ -6,4 +6,4 @@ use Rattle.cable_load.specs.Text.{level_means, level_words, least_line, load_lin
 
 pub texts_are_so : TextsAreSo
 unfolding level_means level_words digits least_line load_line mean_line most_line pairs_line text_by text_of
-texts_are_so = record { even = refl; lost = refl; looped = refl; unknown = refl; small_mean = refl; great_mean = refl }
+texts_are_so = record { even = refl; lost = refl; looped = refl; unknown = refl; shared = refl; apart = refl; small_mean = refl; great_mean = refl }

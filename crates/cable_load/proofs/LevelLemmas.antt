@@ -1,5 +1,5 @@
 -- Rounds of marks are distances.
-use Rattle.std.proofs.Common.{ℕ, zero, suc, ◌≡◌, ◌∙◌, ◌+◌, ◌-◌, ◌<◌, ◌≤◌, ◌==◌, ◌||◌, ap, inl, inr, refl, sym, Bool, true, false, cond, not, List, [], ◌∷◌, count_by, filter, flat_map, get_or, length, map, slice_get, Option, Some, None, arith}
+use Rattle.std.proofs.Common.{ℕ, zero, suc, ◌≡◌, ◌∙◌, ◌+◌, ◌-◌, ◌<◌, ◌≤◌, ◌==◌, ◌||◌, ap, inl, inr, refl, sym, Bool, true, false, cond, not, List, [], ◌∷◌, count_by, filter, flat_map, get_or, length, map, Option, arith}
 use Rattle.std.specs.List.{list_any, range_with_len}
 use Rattle.std.specs.Option.{option_map_or}
 use Rattle.std.proofs.lemmas.Bool.{cases_Bool, cases_lt, eqb-true, false≢true, or_left, or_right}
@@ -14,9 +14,9 @@ use Rattle.route_audit.specs.declared.following.Turn.TheVariants as turns
 use Rattle.route_audit.specs.Following.{turn_by}
 use Rattle.route_audit.specs.Net.{NetState}
 use Rattle.cable_load.specs.declared.loaded.Loaded.{Loaded}
-use Rattle.cable_load.specs.Levels.{carries, goes_near, is_marked, is_near, is_next, leads_near, level_at, level_by, level_of, levels_of, marks_of, of_level, rounds_of, some_lead}
+use Rattle.cable_load.specs.Levels.{goes_near, is_marked, is_near, is_next, leads_near, level_at, level_by, level_of, levels_of, marks_of, of_level, rounds_of, some_lead}
 use Rattle.cable_load.specs.Laws.{LeadsToHost, LevelsAreDistances}
-use Rattle.cable_load.specs.Sources.{attached, host_behind}
+use Rattle.cable_load.specs.Sources.{host_behind}
 use Rattle.route_audit.proofs.EndlessLemmas.{in_range}
 
 -- ---- a node that is not there is not near

@@ -1,5 +1,7 @@
 pub mod WayLemmas
 pub mod SumLemmas
+pub mod KeyLemmas
+pub mod TalkLemmas
 pub mod PairLemmas
 pub mod OrderLemmas
 pub mod LineLemmas

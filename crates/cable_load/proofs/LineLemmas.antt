@@ -1,6 +1,6 @@
 -- Loads, and the lines that report them.
 use Rattle.std.proofs.Common.{◌≡◌, ◌∙◌, inl, inr, ap, refl, sym, ℕ, zero, suc, ◌+◌, ◌<◌, ◌≤◌, Bool, true, false, cond, not, ◌==◌, ◌&&◌, List, [], ◌∷◌, filter, flat_map, length, map, nat_le, arith}
-use Rattle.std.specs.List.{count_by, list_any, range_with_len}
+use Rattle.std.specs.List.{count_by, list_any, range_with_len, sum_by}
 use Rattle.std.proofs.lemmas.Bool.{cases_Bool, cases_lt}
 use Rattle.std.proofs.lemmas.Bool.Decides.{nat_tests}
 use Rattle.std.proofs.lemmas.List.Sums.{count_by-le-length, sum_by-append, sum_by-cons}
@@ -12,10 +12,10 @@ use Rattle.route_audit.specs.Attached.{ports_of}
 use Rattle.route_audit.specs.Channels.{channels, channels_of, is_channel}
 use Rattle.route_audit.specs.Net.{NetState}
 use Rattle.cable_load.specs.declared.loaded.Loaded.{Loaded}
-use Rattle.cable_load.specs.Laws.{EachChannelHasOneLine, LoadsAreOfPairs, LoadsStayWithin, is_at}
-use Rattle.cable_load.specs.Loads.{loaded, loads, most_of}
+use Rattle.cable_load.specs.Laws.{EachChannelHasOneLine, LoadsAddUp, LoadsAreOfPairs, LoadsStayWithin, is_at, ports_used}
+use Rattle.cable_load.specs.Loads.{load, loaded, loads, most_of}
 use Rattle.cable_load.specs.Order.{from_load, has_load, ordered}
-use Rattle.cable_load.specs.Sources.{pairs_by}
+use Rattle.cable_load.specs.Sources.{Pair}
 use Rattle.cable_load.specs.Ways.{goes_over}
 use Rattle.cable_load.proofs.OrderLemmas.{AreUpTo, up_to_most}
 
@@ -221,14 +221,35 @@ all_up_to p (one ∷ all) most up =
 count_ordered : (p : Loaded → Bool) (all : List Loaded) → count_by p (ordered all) ≡ count_by p all
 count_ordered p all = count_from p all (most_of all) ∙ all_up_to p all (most_of all) (up_to_most all)
 
+-- ---- sums of counts, the other way round
+sum_both : {X : Type 0} (f g : X → ℕ) (xs : List X) → sum_by (λ x. f x + g x) xs ≡ sum_by f xs + sum_by g xs
+sum_both f g [] = refl
+sum_both f g (x ∷ xs) =
+    let both = sum_by-cons (λ one. f one + g one) x xs in
+    let one = sum_by-cons f x xs in
+    let other = sum_by-cons g x xs in
+    let rest = sum_both f g xs in
+    omega (arith, both, one, other, rest)
+
+sum_none : {X : Type 0} (xs : List X) → 0 ≡ sum_by (λ x. 0) xs
+sum_none [] = refl
+sum_none (x ∷ xs) = let more = sum_by-cons (λ one. 0) x xs in let rest = sum_none xs in omega (arith, more, rest)
+
+pub loads_add_up : LoadsAddUp
+loads_add_up net pairs [] = sum_none pairs
+loads_add_up net pairs (at ∷ some) =
+    sum_by-cons (load net pairs) at some ∙ ap (λ (n : ℕ). load net pairs at + n) (loads_add_up net pairs some)
+    ∙ sym (sum_both (λ pair. cond (goes_over net at pair) 1 0) (ports_used net some) pairs)
+    ∙ ap (λ (f : Pair → ℕ). sum_by f pairs) (λ place pair. sym (count_first (λ one. goes_over net one pair) at some) place)
+
 -- ---- the laws
 pub loads_are_of_pairs : LoadsAreOfPairs
-loads_are_of_pairs net all at = none_counted (goes_over net at) (pairs_by net all)
+loads_are_of_pairs net pairs at = none_counted (goes_over net at) pairs
 
 pub loads_stay_within : LoadsStayWithin
-loads_stay_within net all at = count_by-le-length (goes_over net at) (pairs_by net all)
+loads_stay_within net pairs at = count_by-le-length (goes_over net at) pairs
 
 pub each_channel_has_one_line : EachChannelHasOneLine
-each_channel_has_one_line net all at =
-    count_ordered (is_at at) (loads net all) ∙ count_mapped (is_at at) (loaded net all) (channels net)
+each_channel_has_one_line net pairs at =
+    count_ordered (is_at at) (loads net pairs) ∙ count_mapped (is_at at) (loaded net pairs) (channels net)
     ∙ one_or_none (λ channel. is_same_port channel at) (channels net) (channels_once net at)

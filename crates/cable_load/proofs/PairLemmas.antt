@@ -1,13 +1,13 @@
 -- Pairs, counted by the switches from which they come.
-use Rattle.std.proofs.Common.{◌≡◌, ◌∙◌, inl, inr, ap, refl, sym, ℕ, suc, ◌+◌, ◌*◌, ◌<◌, ◌≤◌, Bool, true, false, cond, not, ◌&&◌, List, [], ◌∷◌, flat_map, length, arith}
+use Rattle.std.proofs.Common.{◌≡◌, ◌∙◌, inl, inr, ap, refl, sym, ℕ, suc, ◌+◌, ◌*◌, ◌<◌, ◌≤◌, Bool, true, false, cond, ◌&&◌, List, [], ◌∷◌, ◌++◌, flat_map, get_or, length, take, arith}
 use Rattle.std.proofs.Common.{Option}
 use Rattle.std.specs.List.{count_by}
 use Rattle.std.specs.Option.{option_and_then, option_map_or}
 use Rattle.std.proofs.lemmas.Bool.{cases_Bool, cases_lt}
-use Rattle.std.proofs.lemmas.List.{get_or_past}
-use Rattle.std.proofs.lemmas.List.Sums.{sum_by-cons}
+use Rattle.std.proofs.lemmas.List.{flat_map_more, get_or_past, take_more}
+use Rattle.std.proofs.lemmas.List.Sums.{sum_by-append, sum_by-cons}
 use Rattle.std.proofs.lemmas.Option.{slice_get_past}
-use Rattle.fabric_parts.specs.Cable.{is_same_port, port}
+use Rattle.fabric_parts.specs.Cable.{port}
 use Rattle.fabric_parts.specs.declared.cable.PortRef.{PortRef}
 use Rattle.topo_file.specs.Node.{ports_at}
 use Rattle.topo_file.specs.declared.node.Node.{Node}
@@ -20,10 +20,10 @@ use Rattle.route_audit.specs.declared.following.Fate.TheVariants as fates
 use Rattle.route_audit.specs.Following.{fate}
 use Rattle.route_audit.specs.Pairs.{is_fate}
 use Rattle.cable_load.specs.Counts.{counted_by, counts_of}
-use Rattle.cable_load.specs.Sources.{Entrance, Pair, pair_from, pairs_in}
-use Rattle.cable_load.specs.Walk.{is_other, of_pairs, on_way, others, sum_at, AreSums, GrowBy}
+use Rattle.cable_load.specs.Sources.{Entrance, Pair, pair_from, pairs_in, sends}
+use Rattle.cable_load.specs.Walk.{of_pairs, on_way, senders, sum_at, AreSums, GrowBy}
 use Rattle.cable_load.specs.Ways.{goes_over, is_lost, is_on, is_unknown, loses, way}
-use Rattle.cable_load.proofs.SumLemmas.{grow_same}
+use Rattle.cable_load.proofs.SumLemmas.{grow_on, grow_same}
 
 abbrev pair_of : (lid : ℕ) → (end : PortRef) → (place : ℕ) → (source : PortRef) → Pair
 pair_of lid end place source = record { source = source; place = place; lid = lid; end = end }
@@ -32,19 +32,23 @@ pair_of lid end place source = record { source = source; place = place; lid = li
 zero_more : (n : ℕ) → 0 + n ≡ n
 zero_more n = omega arith
 
-others_own : (end source : PortRef) (ports : List PortRef) → is_same_port source end ≡ true → others end (source ∷ ports) ≡ others end ports
-others_own end source ports own = sum_by-cons (λ port. cond (is_other end port) 1 0) source ports ∙ ap (λ (b : Bool). cond (not b) 1 0 + others end ports) own ∙ zero_more (others end ports)
+none_more : (talk : PortRef → PortRef → Bool) (end source : PortRef) (ports : List PortRef) → sends talk source end ≡ false
+    → senders talk end (source ∷ ports) ≡ senders talk end ports
+none_more talk end source ports silent =
+    sum_by-cons (λ port. cond (sends talk port end) 1 0) source ports ∙ ap (λ (b : Bool). cond b 1 0 + senders talk end ports) silent ∙ zero_more (senders talk end ports)
 
-others_more : (end source : PortRef) (ports : List PortRef) → is_same_port source end ≡ false → others end (source ∷ ports) ≡ 1 + others end ports
-others_more end source ports other = sum_by-cons (λ port. cond (is_other end port) 1 0) source ports ∙ ap (λ (b : Bool). cond (not b) 1 0 + others end ports) other
+sender_more : (talk : PortRef → PortRef → Bool) (end source : PortRef) (ports : List PortRef) → sends talk source end ≡ true
+    → senders talk end (source ∷ ports) ≡ 1 + senders talk end ports
+sender_more talk end source ports sending =
+    sum_by-cons (λ port. cond (sends talk port end) 1 0) source ports ∙ ap (λ (b : Bool). cond b 1 0 + senders talk end ports) sending
 
-pairs_own : (lid : ℕ) (end : PortRef) (place : ℕ) (source : PortRef) (ports : List PortRef) → is_same_port source end ≡ true
-    → flat_map (pair_from lid end place) (source ∷ ports) ≡ flat_map (pair_from lid end place) ports
-pairs_own lid end place source ports own = rw own refl
+no_pair : (talk : PortRef → PortRef → Bool) (lid : ℕ) (end : PortRef) (place : ℕ) (source : PortRef) (ports : List PortRef) → sends talk source end ≡ false
+    → flat_map (pair_from talk lid end place) (source ∷ ports) ≡ flat_map (pair_from talk lid end place) ports
+no_pair talk lid end place source ports silent = rw silent refl
 
-pairs_more : (lid : ℕ) (end : PortRef) (place : ℕ) (source : PortRef) (ports : List PortRef) → is_same_port source end ≡ false
-    → flat_map (pair_from lid end place) (source ∷ ports) ≡ pair_of lid end place source ∷ flat_map (pair_from lid end place) ports
-pairs_more lid end place source ports other = rw other refl
+pair_more : (talk : PortRef → PortRef → Bool) (lid : ℕ) (end : PortRef) (place : ℕ) (source : PortRef) (ports : List PortRef) → sends talk source end ≡ true
+    → flat_map (pair_from talk lid end place) (source ∷ ports) ≡ pair_of lid end place source ∷ flat_map (pair_from talk lid end place) ports
+pair_more talk lid end place source ports sending = rw sending refl
 
 -- ---- those from one switch: all pass the test, or none
 one_more : (b : Bool) (n : ℕ) → cond b 1 0 + cond b n 0 ≡ cond b (1 + n) 0
@@ -55,53 +59,70 @@ none_none : (b : Bool) (n : ℕ) → n ≡ cond b n n
 none_none true n = refl
 none_none false n = refl
 
-pub count_pairs : (q : Pair → Bool) (v : Bool) (lid : ℕ) (end : PortRef) (place : ℕ) (ports : List PortRef) → ((source : PortRef) → q (pair_of lid end place source) ≡ v)
-    → count_by q (flat_map (pair_from lid end place) ports) ≡ cond v (others end ports) 0
-count_pairs q v lid end place [] same = none_none v 0
-count_pairs q v lid end place (source ∷ ports) same = elim (cases_Bool (is_same_port source end)) [
-  | inl own ↦
-      ap (count_by q) (pairs_own lid end place source ports own) ∙ count_pairs q v lid end place ports same
-      ∙ ap (λ (n : ℕ). cond v n 0) (sym (others_own end source ports own))
-  | inr other ↦
-      ap (count_by q) (pairs_more lid end place source ports other)
-      ∙ sum_by-cons (λ pair. cond (q pair) 1 0) (pair_of lid end place source) (flat_map (pair_from lid end place) ports)
-      ∙ ap (λ (b : Bool). cond b 1 0 + count_by q (flat_map (pair_from lid end place) ports)) (same source)
-      ∙ ap (λ (n : ℕ). cond v 1 0 + n) (count_pairs q v lid end place ports same)
-      ∙ one_more v (others end ports)
-      ∙ ap (λ (n : ℕ). cond v n 0) (sym (others_more end source ports other))
+pub count_pairs : (q : Pair → Bool) (v : Bool) (talk : PortRef → PortRef → Bool) (lid : ℕ) (end : PortRef) (place : ℕ) (ports : List PortRef)
+    → ((source : PortRef) → q (pair_of lid end place source) ≡ v)
+    → count_by q (flat_map (pair_from talk lid end place) ports) ≡ cond v (senders talk end ports) 0
+count_pairs q v talk lid end place [] same = none_none v 0
+count_pairs q v talk lid end place (source ∷ ports) same = elim (cases_Bool (sends talk source end)) [
+  | inr silent ↦
+      ap (count_by q) (no_pair talk lid end place source ports silent) ∙ count_pairs q v talk lid end place ports same
+      ∙ ap (λ (n : ℕ). cond v n 0) (sym (none_more talk end source ports silent))
+  | inl sending ↦
+      ap (count_by q) (pair_more talk lid end place source ports sending)
+      ∙ sum_by-cons (λ pair. cond (q pair) 1 0) (pair_of lid end place source) (flat_map (pair_from talk lid end place) ports)
+      ∙ ap (λ (b : Bool). cond b 1 0 + count_by q (flat_map (pair_from talk lid end place) ports)) (same source)
+      ∙ ap (λ (n : ℕ). cond v 1 0 + n) (count_pairs q v talk lid end place ports same)
+      ∙ one_more v (senders talk end ports)
+      ∙ ap (λ (n : ℕ). cond v n 0) (sym (sender_more talk end source ports sending))
 ]
 
-pub length_pairs : (lid : ℕ) (end : PortRef) (place : ℕ) (ports : List PortRef) → length (flat_map (pair_from lid end place) ports) ≡ others end ports
-length_pairs lid end place [] = refl
-length_pairs lid end place (source ∷ ports) = elim (cases_Bool (is_same_port source end)) [
-  | inl own ↦
-      ap (λ (pairs : List Pair). length pairs) (pairs_own lid end place source ports own) ∙ length_pairs lid end place ports ∙ sym (others_own end source ports own)
-  | inr other ↦
-      let rest = length_pairs lid end place ports in
-      let more = others_more end source ports other in
-      let long : suc (length (flat_map (pair_from lid end place) ports)) ≡ others end (source ∷ ports) = omega (arith, rest, more) in
-      ap (λ (pairs : List Pair). length pairs) (pairs_more lid end place source ports other) ∙ long
+pub length_pairs : (talk : PortRef → PortRef → Bool) (lid : ℕ) (end : PortRef) (place : ℕ) (ports : List PortRef)
+    → length (flat_map (pair_from talk lid end place) ports) ≡ senders talk end ports
+length_pairs talk lid end place [] = refl
+length_pairs talk lid end place (source ∷ ports) = elim (cases_Bool (sends talk source end)) [
+  | inr silent ↦
+      ap (λ (pairs : List Pair). length pairs) (no_pair talk lid end place source ports silent) ∙ length_pairs talk lid end place ports
+      ∙ sym (none_more talk end source ports silent)
+  | inl sending ↦
+      let rest = length_pairs talk lid end place ports in
+      let more = sender_more talk end source ports sending in
+      let long : suc (length (flat_map (pair_from talk lid end place) ports)) ≡ senders talk end (source ∷ ports) = omega (arith, rest, more) in
+      ap (λ (pairs : List Pair). length pairs) (pair_more talk lid end place source ports sending) ∙ long
 ]
 
 -- ---- what their walk adds is theirs
-pub walk_is : (net : NetState) (lid : ℕ) (end : PortRef) (one : Entrance) (weight : ℕ) (before after : List ℕ) → weight ≡ others end one.ports
-    → GrowBy (on_way net lid one.place weight) before after → GrowBy (of_pairs net (pairs_in lid end one)) before after
-walk_is net lid end one weight before after is grown =
-    grow_same (on_way net lid one.place weight) (of_pairs net (pairs_in lid end one)) before after
+pub walk_is : (net : NetState) (talk : PortRef → PortRef → Bool) (lid : ℕ) (end : PortRef) (one : Entrance) (weight : ℕ) (before after : List ℕ) → weight ≡ senders talk end one.ports
+    → GrowBy (on_way net lid one.place weight) before after → GrowBy (of_pairs net (pairs_in talk lid end one)) before after
+walk_is net talk lid end one weight before after is grown =
+    grow_same (on_way net lid one.place weight) (of_pairs net (pairs_in talk lid end one)) before after
     (λ place number _ _.
     ap (λ (n : ℕ). on_way net lid one.place n place number) is
-    ∙ sym (count_pairs (goes_over net (port place number)) (is_on place (way net lid one.place) && leaves_by net (port place number) lid) lid end one.place one.ports (λ source. refl)))
+    ∙ sym (count_pairs (goes_over net (port place number)) (is_on place (way net lid one.place) && leaves_by net (port place number) lid) talk lid end one.place one.ports (λ source. refl)))
     grown
 
-pub none_is : (net : NetState) (lid : ℕ) (end : PortRef) (one : Entrance) (sums : List ℕ) → others end one.ports ≡ 0 → GrowBy (of_pairs net (pairs_in lid end one)) sums sums
-none_is net lid end one sums none = record {
+pub none_is : (net : NetState) (talk : PortRef → PortRef → Bool) (lid : ℕ) (end : PortRef) (one : Entrance) (sums : List ℕ) → senders talk end one.ports ≡ 0 → GrowBy (of_pairs net (pairs_in talk lid end one)) sums sums
+none_is net talk lid end one sums none = record {
   long = refl;
   each = λ place number within low.
       let on = is_on place (way net lid one.place) && leaves_by net (port place number) lid in
-      let nothing : of_pairs net (pairs_in lid end one) place number ≡ 0 =
-      count_pairs (goes_over net (port place number)) on lid end one.place one.ports (λ source. refl) ∙ ap (λ (n : ℕ). cond on n 0) none ∙ sym (none_none on 0) in
+      let nothing : of_pairs net (pairs_in talk lid end one) place number ≡ 0 =
+      count_pairs (goes_over net (port place number)) on talk lid end one.place one.ports (λ source. refl) ∙ ap (λ (n : ℕ). cond on n 0) none ∙ sym (none_none on 0) in
       omega (arith, nothing);
 }
+
+-- ---- pairs of one more of a list
+pub pairs_more : (net : NetState) (pairs : Entrance → List Pair) (all : List Entrance) (index : ℕ) (one none : Entrance) (before mid after : List ℕ) → index < length all
+    → get_or all index none ≡ one → GrowBy (of_pairs net (flat_map pairs (take index all))) before mid → GrowBy (of_pairs net (pairs one)) mid after
+    → GrowBy (of_pairs net (flat_map pairs (take (index + 1) all))) before after
+pairs_more net pairs all index one none before mid after within here first second =
+    let some = take index all in
+    let joined : flat_map pairs some ++ pairs one ≡ flat_map pairs (take (index + 1) all) =
+    flat_map_more pairs [] some one ∙ ap (λ (last : Entrance). flat_map pairs (some ++ last ∷ [])) (sym here) ∙ ap (flat_map pairs) (sym (take_more all index none within)) in
+    grow_on (of_pairs net (flat_map pairs some)) (of_pairs net (pairs one)) (of_pairs net (flat_map pairs (take (index + 1) all))) before mid after
+    (λ place number _ _.
+    sym (sum_by-append (λ pair. cond (goes_over net (port place number) pair) 1 0) (flat_map pairs some) (pairs one))
+    ∙ ap (λ (both : List Pair). of_pairs net both place number) joined)
+    first second
 
 -- ---- a node that is not there has no entry
 no_entry : (net : NetState) (lid place : ℕ) → length net.plan.nodes ≤ place → entry net lid place ≡ Unreported
@@ -138,17 +159,17 @@ sums_are net pairs sums has place number low = elim (cases_lt place (length net.
 ]
 
 -- ---- counts of those from one switch to one LID
-pub counts_from : (net : NetState) (lid : ℕ) (end : PortRef) (one : Entrance) (count : ℕ) (found : Fate) → count ≡ others end one.ports
-    → found ≡ fate net lid end one.place → counted_by found count ≡ counts_of net (pairs_in lid end one)
-counts_from net lid end one count found is found_is =
+pub counts_from : (net : NetState) (talk : PortRef → PortRef → Bool) (lid : ℕ) (end : PortRef) (one : Entrance) (count : ℕ) (found : Fate) → count ≡ senders talk end one.ports
+    → found ≡ fate net lid end one.place → counted_by found count ≡ counts_of net (pairs_in talk lid end one)
+counts_from net talk lid end one count found is found_is =
     let here = fate net lid end one.place in
-    let all : count ≡ length (pairs_in lid end one) = is ∙ sym (length_pairs lid end one.place one.ports) in
-    let lost : cond (loses found) count 0 ≡ count_by (is_lost net) (pairs_in lid end one) =
+    let all : count ≡ length (pairs_in talk lid end one) = is ∙ sym (length_pairs talk lid end one.place one.ports) in
+    let lost : cond (loses found) count 0 ≡ count_by (is_lost net) (pairs_in talk lid end one) =
     ap (λ (f : Fate). cond (loses f) count 0) found_is ∙ ap (λ (n : ℕ). cond (loses here) n 0) is
-    ∙ sym (count_pairs (is_lost net) (loses here) lid end one.place one.ports (λ source. refl)) in
-    let unknown : cond (is_fate fates.Unknown found) count 0 ≡ count_by (is_unknown net) (pairs_in lid end one) =
+    ∙ sym (count_pairs (is_lost net) (loses here) talk lid end one.place one.ports (λ source. refl)) in
+    let unknown : cond (is_fate fates.Unknown found) count 0 ≡ count_by (is_unknown net) (pairs_in talk lid end one) =
     ap (λ (f : Fate). cond (is_fate fates.Unknown f) count 0) found_is ∙ ap (λ (n : ℕ). cond (is_fate fates.Unknown here) n 0) is
-    ∙ sym (count_pairs (is_unknown net) (is_fate fates.Unknown here) lid end one.place one.ports (λ source. refl)) in
+    ∙ sym (count_pairs (is_unknown net) (is_fate fates.Unknown here) talk lid end one.place one.ports (λ source. refl)) in
     ap (λ (n : ℕ). record { pairs = n; lost = cond (loses found) count 0; unknown = cond (is_fate fates.Unknown found) count 0 }) all
-    ∙ ap (λ (n : ℕ). record { pairs = length (pairs_in lid end one); lost = n; unknown = cond (is_fate fates.Unknown found) count 0 }) lost
-    ∙ ap (λ (n : ℕ). record { pairs = length (pairs_in lid end one); lost = count_by (is_lost net) (pairs_in lid end one); unknown = n }) unknown
+    ∙ ap (λ (n : ℕ). record { pairs = length (pairs_in talk lid end one); lost = n; unknown = cond (is_fate fates.Unknown found) count 0 }) lost
+    ∙ ap (λ (n : ℕ). record { pairs = length (pairs_in talk lid end one); lost = count_by (is_lost net) (pairs_in talk lid end one); unknown = n }) unknown

@@ -1,12 +1,15 @@
 -- What is printed, in examples: the two switches of `WrongRules.antt`, each with a host.
-use Rattle.std.specs.Prelude.{ℕ, ◌≡◌, List, [], ◌∷◌, ◌++◌, codes, Option, Some, None}
+use Rattle.std.specs.Prelude.{ℕ, ◌≡◌, Bool, List, [], ◌∷◌, ◌++◌, codes, Some, None}
 use Rattle.dump_file.specs.declared.destination.Destination.TheVariants as destinations
 use Rattle.dump_file.specs.declared.row.Row.{Row}
 use Rattle.dump_file.specs.declared.table.Table.{Table}
 use Rattle.fabric_parts.specs.Cable.{port}
+use Rattle.fabric_parts.specs.declared.cable.PortRef.{PortRef}
 use Rattle.route_audit.specs.declared.lids.Aim.{Aim}
 use Rattle.route_audit.specs.Net.{NetState}
 use Rattle.route_audit.specs.Plan.{plan_of}
+use Rattle.cable_load.specs.Sources.{pairs_by}
+use Rattle.cable_load.specs.Talk.{may_talk}
 use Rattle.cable_load.specs.Text.{hundredths, text_by}
 use Rattle.cable_load.specs.WrongRules.{a_plan}
 
@@ -28,29 +31,43 @@ of_a_alone first second = record { plan = plan_of a_plan; dump = record { tables
 abbrev pub both : List Aim
 both = record { lid = 1; guid = Some 257; end = Some (port 2 1) } ∷ record { lid = 2; guid = Some 513; end = Some (port 3 1) } ∷ []
 
+abbrev pub shown : NetState → (talk : PortRef → PortRef → Bool) → List ℕ
+shown net talk = text_by net (pairs_by net talk both)
+
+-- the P_Key of each of the two hosts' ports
+abbrev pub by_keys : (first second : ℕ) → PortRef → PortRef → Bool
+by_keys first second = may_talk (Some (record { at = port 2 1; keys = first ∷ [] } ∷ record { at = port 3 1; keys = second ∷ [] } ∷ []))
+
 abbrev pub line : List ℕ → List ℕ
 line text = text ++ 10 ∷ []
 
 pub record TextsAreSo : Type 0 where
   -- each host reaches the other
   pub even :
-      text_by (with_ports 1 2 2 1) both
+      shown (with_ports 1 2 2 1) (may_talk None)
       ≡ line (codes "load A/2 B/2 1") ++ line (codes "load B/2 A/2 1") ++ line (codes "most 1") ++ line (codes "least 1") ++ line (codes "mean 1.00")
       ++ line (codes "level 0 most 1 mean 1.00 ratio 1.00") ++ line (codes "pairs 2, lost 0, unknown 0")
   -- B has no port for LID 2, and sends LID 1 to a port without a cable
   pub lost :
-      text_by (with_ports 1 2 9 255) both
+      shown (with_ports 1 2 9 255) (may_talk None)
       ≡ line (codes "load A/2 B/2 1") ++ line (codes "load B/2 A/2 0") ++ line (codes "most 1") ++ line (codes "least 0") ++ line (codes "mean 0.50")
       ++ line (codes "level 0 most 1 mean 0.50 ratio 2.00") ++ line (codes "pairs 2, lost 2, unknown 0")
   -- A and B send LID 2 to one another: its pair counts once on each
   pub looped :
-      text_by (with_ports 1 2 2 2) both
+      shown (with_ports 1 2 2 2) (may_talk None)
       ≡ line (codes "load B/2 A/2 2") ++ line (codes "load A/2 B/2 1") ++ line (codes "most 2") ++ line (codes "least 1") ++ line (codes "mean 1.50")
       ++ line (codes "level 0 most 2 mean 1.50 ratio 1.33") ++ line (codes "pairs 2, lost 1, unknown 0")
   -- of B the dump has no table
   pub unknown :
-      text_by (of_a_alone 1 2) both
+      shown (of_a_alone 1 2) (may_talk None)
       ≡ line (codes "load A/2 B/2 1") ++ line (codes "load B/2 A/2 0") ++ line (codes "most 1") ++ line (codes "least 0") ++ line (codes "mean 0.50")
       ++ line (codes "level 0 most 1 mean 0.50 ratio 2.00") ++ line (codes "pairs 2, lost 0, unknown 2")
+  -- h is a full member of a partition, and k a limited one
+  pub shared : shown (with_ports 1 2 2 1) (by_keys 0x8001 1) ≡ shown (with_ports 1 2 2 1) (may_talk None)
+  -- both are limited
+  pub apart :
+      shown (with_ports 1 2 2 1) (by_keys 1 1)
+      ≡ line (codes "load A/2 B/2 0") ++ line (codes "load B/2 A/2 0") ++ line (codes "most 0") ++ line (codes "least 0") ++ line (codes "mean 0.00")
+      ++ line (codes "level 0 most 0 mean 0.00 ratio 0.00") ++ line (codes "pairs 0, lost 0, unknown 0")
   pub small_mean : hundredths 7 ≡ codes "0.07"
   pub great_mean : hundredths 12345 ≡ codes "123.45"

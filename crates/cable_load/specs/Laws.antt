@@ -1,6 +1,6 @@
--- What is so of all fabrics, dumps and LIDs: the statements of the laws of `src/laws.rt`.
-use Rattle.std.specs.Prelude.{ℕ, ◌+◌, ◌<◌, ◌≤◌, ◌≡◌, ◌==◌, Bool, true, not, List, [], ◌∷◌, count_by, length, if◌then◌else◌}
-use Rattle.std.specs.List.{list_any}
+-- What is so of all fabrics, dumps, LIDs and pairs: the statements of the laws of `src/laws.rt`.
+use Rattle.std.specs.Prelude.{ℕ, ◌+◌, ◌<◌, ◌≤◌, ◌≡◌, ◌==◌, Bool, true, not, List, [], ◌∷◌, count_by, filter, length, if◌then◌else◌}
+use Rattle.std.specs.List.{list_any, sum_by}
 use Rattle.fabric_parts.specs.Cable.{is_same_port}
 use Rattle.fabric_parts.specs.declared.cable.PortRef.{PortRef}
 use Rattle.topo_file.specs.Node.{is_switch_at, ports_at}
@@ -14,9 +14,9 @@ use Rattle.route_audit.specs.Net.{NetState}
 use Rattle.cable_load.specs.declared.levels.TheConstants.{LEVELS}
 use Rattle.cable_load.specs.declared.loaded.Loaded.{Loaded}
 use Rattle.cable_load.specs.Levels.{carries, level_of}
-use Rattle.cable_load.specs.Loads.{load, loads, pair_count}
+use Rattle.cable_load.specs.Loads.{load, loads}
 use Rattle.cable_load.specs.Order.{ordered}
-use Rattle.cable_load.specs.Sources.{pairs_by}
+use Rattle.cable_load.specs.Sources.{Pair, pairs_by}
 use Rattle.cable_load.specs.Ways.{goes_over, is_on, way}
 
 -- ---- the switches of a way
@@ -29,34 +29,60 @@ pub record FollowsWays (ways : NetState → (lid place : ℕ) → List ℕ) : Ty
 abbrev pub WaysAreWhole : Type 0
 WaysAreWhole = FollowsWays way
 
--- ---- loads
+-- ---- which pairs count
+abbrev pub all_talk : (source end : PortRef) → Bool
+all_talk source end = true
+
+abbrev pub is_heard : (talk : PortRef → PortRef → Bool) → Pair → Bool
+is_heard talk pair = talk pair.source pair.end
+
+-- of all pairs those whose ports talk, in the same order, and no others
+abbrev pub CountsTalkers : (NetState → (talk : PortRef → PortRef → Bool) → List Aim → List Pair) → Type 0
+CountsTalkers pairs =
+    (net : NetState) (talk : PortRef → PortRef → Bool) (all : List Aim) → pairs net talk all ≡ filter (is_heard talk) (pairs_by net all_talk all)
+
+abbrev pub TalkersCount : Type 0
+TalkersCount = CountsTalkers pairs_by
+
+-- ---- loads, of whichever pairs
 -- a port has no load exactly where no pair goes over it
-abbrev pub ReportsUnused : (NetState → List Aim → PortRef → ℕ) → Type 0
+abbrev pub ReportsUnused : (NetState → List Pair → PortRef → ℕ) → Type 0
 ReportsUnused loaded =
-    (net : NetState) (all : List Aim) (at : PortRef) → (loaded net all at == 0) ≡ not (list_any (goes_over net at) (pairs_by net all))
+    (net : NetState) (pairs : List Pair) (at : PortRef) → (loaded net pairs at == 0) ≡ not (list_any (goes_over net at) pairs)
 
 abbrev pub LoadsAreOfPairs : Type 0
 LoadsAreOfPairs = ReportsUnused load
 
 -- no load is more than there are pairs
-abbrev pub StaysWithin : (NetState → List Aim → PortRef → ℕ) → Type 0
-StaysWithin loaded = (net : NetState) (all : List Aim) (at : PortRef) → loaded net all at ≤ pair_count net all
+abbrev pub StaysWithin : (NetState → List Pair → PortRef → ℕ) → Type 0
+StaysWithin loaded = (net : NetState) (pairs : List Pair) (at : PortRef) → loaded net pairs at ≤ length pairs
 
 abbrev pub LoadsStayWithin : Type 0
 LoadsStayWithin = StaysWithin load
+
+-- over whichever ports, the loads add up to how many of these ports the packets of each pair leave by
+abbrev pub ports_used : NetState → List PortRef → Pair → ℕ
+ports_used net some pair = count_by (λ at. goes_over net at pair) some
+
+abbrev pub AddsUp : (NetState → List Pair → PortRef → ℕ) → Type 0
+AddsUp loaded =
+    (net : NetState) (pairs : List Pair) (some : List PortRef) → sum_by (loaded net pairs) some ≡ sum_by (ports_used net some) pairs
+
+abbrev pub LoadsAddUp : Type 0
+LoadsAddUp = AddsUp load
 
 -- ---- lines
 abbrev pub is_at : PortRef → Loaded → Bool
 is_at at one = is_same_port one.at at
 
 -- each channel has one line, and no other port has one
-abbrev pub NamesEachOnce : (NetState → List Aim → List Loaded) → Type 0
+abbrev pub NamesEachOnce : (NetState → List Pair → List Loaded) → Type 0
 NamesEachOnce lines =
-    (net : NetState) (all : List Aim) (at : PortRef)
-    → count_by (is_at at) (lines net all) ≡ (if list_any (λ channel. is_same_port channel at) (channels net) then 1 else 0)
+    (net : NetState) (pairs : List Pair) (at : PortRef)
+    → count_by (is_at at) (lines net pairs) ≡ (if list_any (λ channel. is_same_port channel at) (channels net) then 1 else 0)
 
-abbrev pub lines_of : NetState → List Aim → List Loaded
-lines_of net all = ordered (loads net all)
+abbrev pub lines_of : NetState → List Pair → List Loaded
+lines_of net pairs = ordered (loads net pairs)
 
 abbrev pub EachChannelHasOneLine : Type 0
 EachChannelHasOneLine = NamesEachOnce lines_of

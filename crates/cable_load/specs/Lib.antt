@@ -1,3 +1,5 @@
+pub mod Talk
+pub mod KeyClasses
 pub mod Sources
 pub mod Ways
 pub mod Loads

@@ -1,28 +1,22 @@
--- How many pairs go over each channel. A channel is a port of a switch that has a cable to a switch: a direction of a cable.
+-- How many of some pairs go over each channel. A channel is a port of a switch that has a cable to a switch: a direction of a cable.
 use Rattle.std.specs.Prelude.{ℕ, ◌*◌, ◌/◌, ◌==◌, nat_lt, List, count_by, length, map, if◌then◌else◌}
 use Rattle.std.specs.List.{fold, sum_by}
 use Rattle.fabric_parts.specs.declared.cable.PortRef.{PortRef}
-use Rattle.route_audit.specs.declared.lids.Aim.{Aim}
 use Rattle.route_audit.specs.Channels.{channels}
 use Rattle.route_audit.specs.Net.{NetState}
 use Rattle.cable_load.specs.declared.loaded.Loaded.{Loaded}
-use Rattle.cable_load.specs.Sources.{pairs_by}
+use Rattle.cable_load.specs.Sources.{Pair}
 use Rattle.cable_load.specs.Ways.{goes_over}
 
--- to these LIDs
-abbrev pub load : NetState → List Aim → PortRef → ℕ
-load net all at = count_by (goes_over net at) (pairs_by net all)
+abbrev pub load : NetState → List Pair → PortRef → ℕ
+load net pairs at = count_by (goes_over net at) pairs
 
-abbrev pub loaded : NetState → List Aim → PortRef → Loaded
-loaded net all at = record { load = load net all at; at = at }
+abbrev pub loaded : NetState → List Pair → PortRef → Loaded
+loaded net pairs at = record { load = load net pairs at; at = at }
 
 -- in the order of switches, and then of ports
-abbrev pub loads : NetState → List Aim → List Loaded
-loads net all = map (loaded net all) (channels net)
-
--- ---- counts
-abbrev pub pair_count : NetState → List Aim → ℕ
-pair_count net all = length (pairs_by net all)
+abbrev pub loads : NetState → List Pair → List Loaded
+loads net pairs = map (loaded net pairs) (channels net)
 
 -- ---- the greatest load, the least, and the sum
 abbrev pub greater : ℕ → Loaded → ℕ

@@ -1,5 +1,5 @@
 -- The pairs that load cables: a host's port that is attached to a switch, which sends, and a LID of another host's port.
-use Rattle.std.specs.Prelude.{ℕ, ◌+◌, List, [], ◌∷◌, flat_map, map, if◌then◌else◌, Option, Some, None}
+use Rattle.std.specs.Prelude.{ℕ, ◌+◌, ◌&&◌, Bool, not, List, [], ◌∷◌, flat_map, map, if◌then◌else◌, Option, Some, None}
 use Rattle.std.specs.List.{range_with_len}
 use Rattle.std.specs.Option.{option_map_or}
 use Rattle.fabric_parts.specs.Cable.{far_end, is_same_port, port}
@@ -42,22 +42,24 @@ pub record Pair : Type 0 where
   pub lid : ℕ
   pub end : PortRef
 
--- a port does not send to itself
-abbrev pub pair_from : (lid : ℕ) → (end : PortRef) → (place : ℕ) → (source : PortRef) → List Pair
-pair_from lid end place source =
-    if is_same_port source end then [] else record { source = source; place = place; lid = lid; end = end } ∷ []
+-- one port sends to another, and not to itself, if `talk` has it of the two
+abbrev pub sends : (talk : PortRef → PortRef → Bool) → (source end : PortRef) → Bool
+sends talk source end = not (is_same_port source end) && talk source end
 
-abbrev pub pairs_in : (lid : ℕ) → (end : PortRef) → Entrance → List Pair
-pairs_in lid end one = flat_map (pair_from lid end one.place) one.ports
+abbrev pub pair_from : (talk : PortRef → PortRef → Bool) → (lid : ℕ) → (end : PortRef) → (place : ℕ) → (source : PortRef) → List Pair
+pair_from talk lid end place source = if sends talk source end then record { source = source; place = place; lid = lid; end = end } ∷ [] else []
+
+abbrev pub pairs_in : (talk : PortRef → PortRef → Bool) → (lid : ℕ) → (end : PortRef) → Entrance → List Pair
+pairs_in talk lid end one = flat_map (pair_from talk lid end one.place) one.ports
 
 -- to the LID of a host's port, from all switches
-abbrev pub pairs_to_end : NetState → (lid : ℕ) → Option PortRef → List Pair
-pairs_to_end net lid (Some end) = if is_host net.plan end.node then flat_map (pairs_in lid end) (entrances net) else []
-pairs_to_end net lid None = []
+abbrev pub pairs_to_end : NetState → (talk : PortRef → PortRef → Bool) → (lid : ℕ) → Option PortRef → List Pair
+pairs_to_end net talk lid (Some end) = if is_host net.plan end.node then flat_map (pairs_in talk lid end) (entrances net) else []
+pairs_to_end net talk lid None = []
 
-abbrev pub pairs_to : NetState → Aim → List Pair
-pairs_to net aim = pairs_to_end net aim.lid aim.end
+abbrev pub pairs_to : NetState → (talk : PortRef → PortRef → Bool) → Aim → List Pair
+pairs_to net talk aim = pairs_to_end net talk aim.lid aim.end
 
 -- to all these LIDs
-abbrev pub pairs_by : NetState → List Aim → List Pair
-pairs_by net all = flat_map (pairs_to net) all
+abbrev pub pairs_by : NetState → (talk : PortRef → PortRef → Bool) → List Aim → List Pair
+pairs_by net talk all = flat_map (pairs_to net talk) all

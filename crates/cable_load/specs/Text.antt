@@ -1,12 +1,11 @@
 -- What is printed of the loads of a fabric.
-use Rattle.std.specs.Prelude.{ℕ, ◌/◌, ◌%◌, List, [], ◌∷◌, ◌++◌, codes, decimal, flat_map, Option, Some, None}
+use Rattle.std.specs.Prelude.{ℕ, ◌/◌, ◌%◌, Bool, List, [], ◌∷◌, ◌++◌, codes, decimal, flat_map, Option, Some, None}
 use Rattle.std.specs.List.{range_with_len}
 use Rattle.dump_file.specs.Dump.{DumpState}
 use Rattle.fabric_parts.specs.Cable.{far_end}
 use Rattle.fabric_parts.specs.declared.cable.PortRef.{PortRef}
 use Rattle.netdiscover_file.specs.Discovery.{DiscoveryState}
 use Rattle.topo_file.specs.Topology.{TopologyState}
-use Rattle.route_audit.specs.declared.lids.Aim.{Aim}
 use Rattle.route_audit.specs.Lids.{aims}
 use Rattle.route_audit.specs.Lines.{port_text}
 use Rattle.route_audit.specs.Net.{NetState}
@@ -18,7 +17,8 @@ use Rattle.cable_load.specs.declared.levels.TheConstants.{LEVELS}
 use Rattle.cable_load.specs.Levels.{of_level}
 use Rattle.cable_load.specs.Loads.{least_of, loads, mean_of, most_of, ratio_of}
 use Rattle.cable_load.specs.Order.{ordered}
-use Rattle.cable_load.specs.Sources.{pairs_by}
+use Rattle.cable_load.specs.Sources.{Pair, pairs_by}
+use Rattle.cable_load.specs.Talk.{may_talk}
 
 -- ---- `load A/3 B/3 12`: the channel's port, the port at the other end of its cable, and how many pairs go over it
 abbrev pub end_text : NetState → Option PortRef → List ℕ
@@ -73,17 +73,18 @@ pairs_line counts =
 unfoldable pub text_of : NetState → List Loaded → Counts → List ℕ
 text_of net all counts = flat_map (load_line net) (ordered all) ++ summary all ++ levels_text net all ++ pairs_line counts
 
-unfoldable pub text_by : NetState → List Aim → List ℕ
-text_by net all = text_of net (loads net all) (counts_of net (pairs_by net all))
+unfoldable pub text_by : NetState → List Pair → List ℕ
+text_by net pairs = text_of net (loads net pairs) (counts_of net pairs)
 
-unfoldable pub load_text_of : NetState → List ℕ
-load_text_of net = text_by net (aims net)
+unfoldable pub load_text_of : NetState → (talk : PortRef → PortRef → Bool) → List ℕ
+load_text_of net talk = text_by net (pairs_by net talk (aims net))
 
-abbrev pub load_of_plan : PlanState → DumpState → List ℕ
-load_of_plan plan dump = load_text_of (record { plan = plan; dump = dump })
+abbrev pub load_of_plan : PlanState → DumpState → (talk : PortRef → PortRef → Bool) → List ℕ
+load_of_plan plan dump talk = load_text_of (record { plan = plan; dump = dump }) talk
 
+-- with no partition file it is unknown who may talk to whom: all pairs count
 abbrev pub load_text : TopologyState → DumpState → List ℕ
-load_text topology dump = load_of_plan (plan_of topology) dump
+load_text topology dump = load_of_plan (plan_of topology) dump (may_talk None)
 
 abbrev pub load_text_found : DiscoveryState → DumpState → List ℕ
-load_text_found found dump = load_of_plan (plan_found found) dump
+load_text_found found dump = load_of_plan (plan_found found) dump (may_talk None)

@@ -1,7 +1,7 @@
 -- How the loads are added up: a step of the code, on which no definition of the subject stands. The sums of all ports are one list,
 -- in which each node has 256; a walk stamps the nodes that it comes to.
-use Rattle.std.specs.Prelude.{ℕ, ◌≡◌, ◌+◌, ◌*◌, ◌<◌, ◌==◌, ◌&&◌, Bool, false, not, List, count_by, get_or, length, if◌then◌else◌, Option, Some, None}
-use Rattle.fabric_parts.specs.Cable.{is_same_port, port}
+use Rattle.std.specs.Prelude.{ℕ, ◌≡◌, ◌+◌, ◌*◌, ◌<◌, ◌==◌, ◌&&◌, Bool, false, List, count_by, get_or, length, if◌then◌else◌, Option, Some, None}
+use Rattle.fabric_parts.specs.Cable.{port}
 use Rattle.fabric_parts.specs.declared.cable.PortRef.{PortRef}
 use Rattle.route_audit.specs.declared.entry.Entry.{Entry}
 use Rattle.route_audit.specs.Channels.{is_out}
@@ -9,7 +9,7 @@ use Rattle.route_audit.specs.Net.{NetState}
 use Rattle.route_audit.specs.Plan.{is_host}
 use Rattle.route_audit.specs.declared.lids.Aim.{Aim}
 use Rattle.cable_load.specs.declared.loads.Target.{Target}
-use Rattle.cable_load.specs.Sources.{Pair}
+use Rattle.cable_load.specs.Sources.{Pair, sends}
 use Rattle.cable_load.specs.Ways.{goes_over, passes}
 
 -- ---- sums
@@ -50,12 +50,9 @@ is_stamped marks stamp place = get_or marks place 0 == stamp
 abbrev pub AreBelow : ℕ → List ℕ → Type 0
 AreBelow stamp marks = (other place : ℕ) → stamp < other → is_stamped marks other place ≡ false
 
--- ---- ports other than this one
-abbrev pub is_other : PortRef → PortRef → Bool
-is_other end port = not (is_same_port port end)
-
-abbrev pub others : PortRef → List PortRef → ℕ
-others end ports = count_by (is_other end) ports
+-- ---- how many of these ports send to one
+abbrev pub senders : (talk : PortRef → PortRef → Bool) → (end : PortRef) → List PortRef → ℕ
+senders talk end ports = count_by (λ source. sends talk source end) ports
 
 -- ---- the LID of a host's port
 abbrev pub target_if : NetState → (lid : ℕ) → Option PortRef → Option Target

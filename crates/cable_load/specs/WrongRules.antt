@@ -1,5 +1,5 @@
 -- Wrong rules for what is reported, and the law that each breaks.
-use Rattle.std.specs.Prelude.{ℕ, ◌+◌, ◌*◌, ◌==◌, ◌&&◌, not, List, [], ◌∷◌, codes, count_by, filter, Some}
+use Rattle.std.specs.Prelude.{ℕ, ◌+◌, ◌*◌, ◌==◌, ◌&&◌, Bool, not, List, [], ◌∷◌, codes, count_by, filter, None, Some}
 use Rattle.dump_file.specs.declared.destination.Destination.TheVariants as destinations
 use Rattle.dump_file.specs.declared.table.Table.{Table}
 use Rattle.fabric_parts.specs.Cable.{port}
@@ -12,10 +12,11 @@ use Rattle.route_audit.specs.declared.lids.Aim.{Aim}
 use Rattle.route_audit.specs.Net.{NetState}
 use Rattle.route_audit.specs.Plan.{plan_of}
 use Rattle.cable_load.specs.declared.loaded.Loaded.{Loaded}
-use Rattle.cable_load.specs.Laws.{FollowsWays, MeasuresLevels, NamesEachOnce, ReportsUnused, StaysWithin, lines_of}
+use Rattle.cable_load.specs.Laws.{AddsUp, CountsTalkers, FollowsWays, MeasuresLevels, NamesEachOnce, ReportsUnused, StaysWithin, all_talk, lines_of}
 use Rattle.cable_load.specs.Levels.{level_of}
 use Rattle.cable_load.specs.Loads.{load}
-use Rattle.cable_load.specs.Sources.{pairs_by}
+use Rattle.cable_load.specs.Sources.{Pair, pairs_by}
+use Rattle.cable_load.specs.Talk.{may_talk}
 use Rattle.cable_load.specs.Ways.{goes_over, is_lost, way_within}
 
 -- ---- two switches A and B with a cable from A/2 to B/2, and the hosts h at A/1 and k at B/1
@@ -41,6 +42,9 @@ two_switches first second = record { plan = plan_of a_plan; dump = record { tabl
 abbrev pub to_k : List Aim
 to_k = record { lid = 2; guid = Some 513; end = Some (port 3 1) } ∷ []
 
+abbrev pub pairs_to_k : NetState → List Pair
+pairs_to_k net = pairs_by net (may_talk None) to_k
+
 -- ---- a way ends at its first switch
 abbrev pub one_switch : NetState → (lid place : ℕ) → List ℕ
 one_switch net lid place = way_within net lid 1 place
@@ -49,22 +53,36 @@ abbrev pub WaysGoOn : Type 0
 WaysGoOn = FollowsWays one_switch → ⊥
 
 -- ---- pairs that are lost load nothing
-abbrev pub load_of_reached : NetState → List Aim → PortRef → ℕ
-load_of_reached net all at = count_by (λ pair. goes_over net at pair && not (is_lost net pair)) (pairs_by net all)
+abbrev pub load_of_reached : NetState → List Pair → PortRef → ℕ
+load_of_reached net pairs at = count_by (λ pair. goes_over net at pair && not (is_lost net pair)) pairs
 
 abbrev pub LostPairsLoad : Type 0
 LostPairsLoad = ReportsUnused load_of_reached → ⊥
 
+-- ---- ports that may not talk count too
+abbrev pub silent_too : NetState → (talk : PortRef → PortRef → Bool) → List Aim → List Pair
+silent_too net talk all = pairs_by net all_talk all
+
+abbrev pub SilentPortsDoNotCount : Type 0
+SilentPortsDoNotCount = CountsTalkers silent_too → ⊥
+
+-- ---- a pair loads the first port alone by which its packets leave
+abbrev pub first_alone : NetState → List Pair → PortRef → ℕ
+first_alone net pairs at = count_by (λ pair. (pair.place == at.node) && goes_over net at pair) pairs
+
+abbrev pub FirstPortsDoNotAddUp : Type 0
+FirstPortsDoNotAddUp = AddsUp first_alone → ⊥
+
 -- ---- each pair counts twice
-abbrev pub twice : NetState → List Aim → PortRef → ℕ
-twice net all at = load net all at * 2
+abbrev pub twice : NetState → List Pair → PortRef → ℕ
+twice net pairs at = load net pairs at * 2
 
 abbrev pub PairsCountOnce : Type 0
 PairsCountOnce = StaysWithin twice → ⊥
 
 -- ---- a channel without load has no line
-abbrev pub used_lines : NetState → List Aim → List Loaded
-used_lines net all = filter (λ one. not (one.load == 0)) (lines_of net all)
+abbrev pub used_lines : NetState → List Pair → List Loaded
+used_lines net pairs = filter (λ one. not (one.load == 0)) (lines_of net pairs)
 
 abbrev pub UnusedChannelsHaveALine : Type 0
 UnusedChannelsHaveALine = NamesEachOnce used_lines → ⊥

@@ -3,9 +3,11 @@
 ghost use Rattle.std.specs.Prelude.{◌≡◌, ◌+◌, length, flat_map, IfOk, OnOk};
 ghost use Rattle.cable_load.specs.Counts.{counted_by, counts_of, plus};
 ghost use Rattle.cable_load.specs.Sources.{entrances, pairs_by, pairs_in, pairs_to};
+ghost use Rattle.cable_load.specs.Talk.{may_talk};
 
 use crate::loads::{Target, target_of};
 use crate::sources::Entrance;
+use crate::talk::Talk;
 use route_audit::{Aim, Fate, Net};
 use std::alloc::AllocError;
 
@@ -58,11 +60,12 @@ fn with_from(
     net: &Net<'_>,
     counts: Counts,
     one: &Entrance,
+    talk: &Talk,
     target: Target,
 ) -> Result<Counts, AllocError>
-    ensures { IfOk result (λ sum. sum ≡ plus counts (counts_of net.now (pairs_in target.lid target.end one.now))) }
+    ensures { IfOk result (λ sum. sum ≡ plus counts (counts_of net.now (pairs_in (may_talk talk.now) target.lid target.end one.now))) }
 {
-    let count = one.others(target.end);
+    let count = one.senders(talk, target.end);
     let found = net.fate(target.lid, target.end, one.place());
     plus(counts, counted_by(found, count))
 }
@@ -72,32 +75,44 @@ fn with_all(
     net: &Net<'_>,
     counts: Counts,
     all: &[Entrance],
+    talk: &Talk,
     target: Target,
 ) -> Result<Counts, AllocError>
-    ensures { IfOk result (λ sum. sum ≡ plus counts (counts_of net.now (flat_map (pairs_in target.lid target.end) all.now))) }
+    ensures { IfOk result (λ sum. sum ≡ plus counts (counts_of net.now (flat_map (pairs_in (may_talk talk.now) target.lid target.end) all.now))) }
 {
     let mut sum = counts;
     for one in all {
-        sum = with_from(net, sum, one, target)?;
+        sum = with_from(net, sum, one, talk, target)?;
     }
     Ok(sum)
 }
 
 /// With what goes to a LID, if it is that of a host's port.
-fn with_to(net: &Net<'_>, counts: Counts, all: &[Entrance], aim: &Aim) -> Result<Counts, AllocError>
+fn with_to(
+    net: &Net<'_>,
+    counts: Counts,
+    all: &[Entrance],
+    talk: &Talk,
+    aim: &Aim,
+) -> Result<Counts, AllocError>
     requires { all.now ≡ entrances net.now }
-    ensures { IfOk result (λ sum. sum ≡ plus counts (counts_of net.now (pairs_to net.now aim.now))) }
+    ensures { IfOk result (λ sum. sum ≡ plus counts (counts_of net.now (pairs_to net.now (may_talk talk.now) aim.now))) }
 {
     match target_of(net, aim) {
-        Some(target) => with_all(net, counts, all, target),
+        Some(target) => with_all(net, counts, all, talk, target),
         None => Ok(counts),
     }
 }
 
 /// Of all pairs to these LIDs.
-pub(crate) fn counted(net: &Net<'_>, all: &[Entrance], aims: &[Aim]) -> Result<Counts, AllocError>
+pub(crate) fn counted(
+    net: &Net<'_>,
+    all: &[Entrance],
+    talk: &Talk,
+    aims: &[Aim],
+) -> Result<Counts, AllocError>
     requires { all.now ≡ entrances net.now }
-    ensures { IfOk result (λ sum. sum ≡ counts_of net.now (pairs_by net.now aims.now)) }
+    ensures { IfOk result (λ sum. sum ≡ counts_of net.now (pairs_by net.now (may_talk talk.now) aims.now)) }
 {
     let mut sum = Counts {
         pairs: 0,
@@ -105,7 +120,7 @@ pub(crate) fn counted(net: &Net<'_>, all: &[Entrance], aims: &[Aim]) -> Result<C
         unknown: 0,
     };
     for aim in aims {
-        sum = with_to(net, sum, all, aim)?;
+        sum = with_to(net, sum, all, talk, aim)?;
     }
     Ok(sum)
 }

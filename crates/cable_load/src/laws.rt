@@ -2,7 +2,7 @@
 
 ghost use Rattle.std.specs.Prelude.{◌≡◌};
 ghost use Rattle.cable_load.specs.declared.levels.TheConstants.{LEVELS};
-ghost use Rattle.cable_load.specs.Laws.{EachChannelHasOneLine, LevelsAreDistances, LoadsAreOfPairs, LoadsStayWithin, WaysAreWhole};
+ghost use Rattle.cable_load.specs.Laws.{EachChannelHasOneLine, LevelsAreDistances, LoadsAddUp, LoadsAreOfPairs, LoadsStayWithin, TalkersCount, WaysAreWhole};
 
 /// A switch is on the way of a LID if and only if packets come to it along the entries, over however many switches.
 pub fn ways_are_whole()
@@ -19,9 +19,19 @@ pub fn the_numbers()
     ensures { LEVELS ≡ 16 }
 {}
 
+/// Of all pairs those count whose ports talk.
+pub fn talkers_count()
+    ensures { TalkersCount }
+{}
+
 /// A channel has the load 0 if and only if no pair goes over it.
 pub fn loads_are_of_pairs()
     ensures { LoadsAreOfPairs }
+{}
+
+/// The loads of some ports add up to how many of these the packets of each pair leave by.
+pub fn loads_add_up()
+    ensures { LoadsAddUp }
 {}
 
 /// No load is greater than the number of pairs.

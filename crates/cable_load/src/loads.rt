@@ -2,14 +2,15 @@
 
 ghost use Rattle.std.specs.Prelude.{List, ◌≡◌, ◌<◌, ◌-◌, ◌*◌, length, flat_map, IfOk, OnOk};
 ghost use Rattle.route_audit.specs.Net.{NetState};
-ghost use Rattle.route_audit.specs.declared.lids.Aim.{Aim};
 ghost use Rattle.cable_load.specs.Loads.{loaded, loads};
-ghost use Rattle.cable_load.specs.Sources.{entrances, pairs_by, pairs_in, pairs_to};
+ghost use Rattle.cable_load.specs.Sources.{Pair, entrances, pairs_by, pairs_in, pairs_to};
+ghost use Rattle.cable_load.specs.Talk.{may_talk};
 ghost use Rattle.cable_load.specs.Walk.{of_pairs, target_of, AreBelow, AreSums, GrowBy};
 
 use crate::loaded::Loaded;
 use crate::sources::Entrance;
 use crate::sums::{blank_sums, sum_at, zeros};
+use crate::talk::Talk;
 use crate::walk::{Flow, add_way};
 use fabric_parts::PortRef;
 use route_audit::{Aim, Net};
@@ -33,6 +34,13 @@ pub(crate) fn target_of(net: &Net<'_>, aim: &Aim) -> Option<Target>
     }
 }
 
+/// Where packets go, and between which ports they do.
+#[derive(Clone, Copy)]
+struct Destination<'a> {
+    target: Target,
+    talk: &'a Talk,
+}
+
 /// Adds what goes to a LID from one switch.
 fn add_from(
     net: &Net<'_>,
@@ -40,19 +48,20 @@ fn add_from(
     marks: &mut [usize],
     stamp: usize,
     one: &Entrance,
-    target: Target,
+    to: Destination<'_>,
 ) -> Result<(), AllocError>
     requires stamp { 0 < stamp }
     requires fresh { AreBelow (stamp - 1) marks.old }
     requires long { length sums.old ≡ length marks.old * 256 }
     ensures long { length marks.new ≡ length marks.old }
     ensures below { AreBelow stamp marks.new }
-    ensures sums { OnOk result (GrowBy (of_pairs net.now (pairs_in target.lid target.end one.now)) sums.old sums.new) }
+    ensures sums { OnOk result (GrowBy (of_pairs net.now (pairs_in (may_talk to.entry.talk.now) to.entry.target.lid to.entry.target.end one.now))
+        sums.old sums.new) }
 {
     let flow = Flow {
-        lid: target.lid,
+        lid: to.target.lid,
         place: one.place(),
-        count: one.others(target.end),
+        count: one.senders(to.talk, to.target.end),
     };
     if flow.count == 0 {
         return Ok(());
@@ -66,14 +75,16 @@ fn add_from_all(
     alloc: Global,
     sums: &mut [usize],
     all: &[Entrance],
+    talk: &Talk,
     target: Target,
 ) -> Result<(), AllocError>
     requires { length sums.old ≡ length net.now.plan.nodes * 256 }
-    ensures { OnOk result (GrowBy (of_pairs net.now (flat_map (pairs_in target.lid target.end) all.now)) sums.old sums.new) }
+    ensures { OnOk result (GrowBy (of_pairs net.now (flat_map (pairs_in (may_talk talk.now) target.lid target.end) all.now)) sums.old sums.new) }
 {
+    let to = Destination { target, talk };
     let mut marks = zeros(alloc, net.nodes().len())?;
     for (index, one) in all.iter().enumerate() {
-        add_from(net, sums, &mut marks, index + 1, one, target)?;
+        add_from(net, sums, &mut marks, index + 1, one, to)?;
     }
     Ok(())
 }
@@ -84,14 +95,15 @@ fn add_to(
     alloc: Global,
     sums: &mut [usize],
     all: &[Entrance],
+    talk: &Talk,
     aim: &Aim,
 ) -> Result<(), AllocError>
     requires all { all.now ≡ entrances net.now }
     requires long { length sums.old ≡ length net.now.plan.nodes * 256 }
-    ensures { OnOk result (GrowBy (of_pairs net.now (pairs_to net.now aim.now)) sums.old sums.new) }
+    ensures { OnOk result (GrowBy (of_pairs net.now (pairs_to net.now (may_talk talk.now) aim.now)) sums.old sums.new) }
 {
     match target_of(net, aim) {
-        Some(target) => add_from_all(net, alloc, sums, all, target),
+        Some(target) => add_from_all(net, alloc, sums, all, talk, target),
         None => Ok(()),
     }
 }
@@ -101,20 +113,21 @@ fn sums_of(
     net: &Net<'_>,
     alloc: Global,
     all: &[Entrance],
+    talk: &Talk,
     aims: &[Aim],
 ) -> Result<Vec<usize>, AllocError>
     requires { all.now ≡ entrances net.now }
-    ensures { IfOk result (λ sums. AreSums net.now (pairs_by net.now aims.now) sums.items) }
+    ensures { IfOk result (λ sums. AreSums net.now (pairs_by net.now (may_talk talk.now) aims.now) sums.items) }
 {
     let mut sums = blank_sums(alloc, net.nodes().len())?;
     for aim in aims {
-        add_to(net, alloc, &mut sums, all, aim)?;
+        add_to(net, alloc, &mut sums, all, talk, aim)?;
     }
     Ok(sums)
 }
 
 fn loaded_by(sums: &[usize], at: PortRef) -> Loaded
-    ensures { (net : NetState) (all : List Aim) → AreSums net (pairs_by net all) sums.now → result ≡ loaded net all at }
+    ensures { (net : NetState) (pairs : List Pair) → AreSums net pairs sums.now → result ≡ loaded net pairs at }
 {
     Loaded {
         load: sum_at(sums, at.node, at.port),
@@ -127,12 +140,13 @@ pub(crate) fn loads(
     net: &Net<'_>,
     alloc: Global,
     all: &[Entrance],
+    talk: &Talk,
     aims: &[Aim],
 ) -> Result<Vec<Loaded>, AllocError>
     requires { all.now ≡ entrances net.now }
-    ensures { IfOk result (λ found. found.items ≡ loads net.now aims.now) }
+    ensures { IfOk result (λ found. found.items ≡ loads net.now (pairs_by net.now (may_talk talk.now) aims.now)) }
 {
-    let sums = sums_of(net, alloc, all, aims)?;
+    let sums = sums_of(net, alloc, all, talk, aims)?;
     let channels = net.channels(alloc)?;
     let mut loads = Vec::new(alloc);
     for at in &channels {

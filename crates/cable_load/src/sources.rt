@@ -1,9 +1,11 @@
 //! The ports that send: those of hosts that are attached to switches.
 
 ghost use Rattle.std.specs.Prelude.{◌≡◌, ◌<◌, ◌++◌, IfOk, OnOk};
-ghost use Rattle.cable_load.specs.Sources.{attached, entrance, entrances, host_at, host_behind};
-ghost use Rattle.cable_load.specs.Walk.{is_other, others};
+ghost use Rattle.cable_load.specs.Sources.{attached, entrance, entrances, host_at, host_behind, sends};
+ghost use Rattle.cable_load.specs.Talk.{may_talk};
+ghost use Rattle.cable_load.specs.Walk.{senders};
 
+use crate::talk::Talk;
 use fabric_parts::PortRef;
 use route_audit::{Net, ports_at};
 use std::alloc::{AllocError, Global};
@@ -38,24 +40,28 @@ impl Entrance {
         self.place
     }
 
-    /// How many of the ports are others than this one.
-    pub(crate) fn others(&self, end: PortRef) -> usize
-        ensures { result ≡ others end self.now.ports }
+    /// How many of the ports send to this one.
+    pub(crate) fn senders(&self, talk: &Talk, end: PortRef) -> usize
+        ensures { result ≡ senders (may_talk talk.now) end self.now.ports }
     {
-        others(self.ports.as_slice(), end)
+        senders(self.ports.as_slice(), talk, end)
     }
 }
 
-fn is_other(end: PortRef, port: PortRef) -> bool
-    ensures { result ≡ is_other end port }
+/// Whether one port sends to another.
+fn sends(talk: &Talk, source: PortRef, end: PortRef) -> bool
+    ensures { result ≡ sends (may_talk talk.now) source end }
 {
-    port != end
+    source != end && talk.may_talk(source, end)
 }
 
-fn others(ports: &[PortRef], end: PortRef) -> usize
-    ensures { result ≡ others end ports.now }
+fn senders(ports: &[PortRef], talk: &Talk, end: PortRef) -> usize
+    ensures { result ≡ senders (may_talk talk.now) end ports.now }
 {
-    ports.iter().filter(|port| is_other(end, **port)).count()
+    ports
+        .iter()
+        .filter(|source| sends(talk, **source, end))
+        .count()
 }
 
 /// Adds the port at the other end of the cable, if it is a host's.

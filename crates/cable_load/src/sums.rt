@@ -5,8 +5,8 @@ ghost use Rattle.cable_load.specs.Walk.{at_port, sum_at, GrowBy};
 
 use std::alloc::{AllocError, Global};
 
-/// The place of a port's sum: each node has 256. None if the number is too great for any list.
-fn slot(place: usize, number: u8) -> Option<usize>
+/// The place of a port among those of all nodes: each node has 256. None if the number is too great for any list.
+pub(crate) fn slot(place: usize, number: u8) -> Option<usize>
     ensures some { IfSome result (λ index. index ≡ place * 256 + number) }
     ensures none { IfNone result (2 ^ 64 ≤ place * 256 + number) }
 {

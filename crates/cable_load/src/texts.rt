@@ -8,6 +8,7 @@ ghost use Rattle.cable_load.specs.Loads.{greater, least_of, lesser, loads, mean_
 ghost use Rattle.cable_load.specs.Text.{level_line, level_means, level_text, level_words, levels_text};
 ghost use Rattle.cable_load.specs.Counts.{counts_of};
 ghost use Rattle.cable_load.specs.Sources.{pairs_by};
+ghost use Rattle.cable_load.specs.Talk.{may_talk};
 ghost use Rattle.cable_load.specs.Text.{end_text, hundredths, least_line, load_line, load_of_plan, load_text, load_text_found, load_text_of, mean_line, most_line, pairs_line, summary, text_by, text_of};
 
 use crate::counting::{Counts, counted};
@@ -16,6 +17,7 @@ use crate::loaded::Loaded;
 use crate::loads::loads;
 use crate::order::ordered;
 use crate::sources::entrances;
+use crate::talk::Talk;
 use dump_file::Dump;
 use fabric_parts::PortRef;
 use netdiscover_file::Discovery;
@@ -273,35 +275,42 @@ fn text_of(
 }
 
 #[tactic(auto, unfolding(crate::specs::Text::text_by))]
-fn text_by(net: &Net<'_>, alloc: Global, aims: &[Aim]) -> Result<Vec<u8>, AllocError>
-    ensures { IfOk result (λ text. text.items ≡ text_by net.now aims.now) }
+fn text_by(net: &Net<'_>, alloc: Global, talk: &Talk, aims: &[Aim]) -> Result<Vec<u8>, AllocError>
+    ensures { IfOk result (λ text. text.items ≡ text_by net.now (pairs_by net.now (may_talk talk.now) aims.now)) }
 {
     let entrances = entrances(net, alloc)?;
-    let loads = loads(net, alloc, &entrances, aims)?;
-    let counts = counted(net, &entrances, aims)?;
+    let loads = loads(net, alloc, &entrances, talk, aims)?;
+    let counts = counted(net, &entrances, talk, aims)?;
     let text = text_of(net, alloc, loads, counts)?;
     Ok(text)
 }
 
 #[tactic(auto, unfolding(crate::specs::Text::load_text_of))]
-fn load_text_of(net: &Net<'_>, alloc: Global) -> Result<Vec<u8>, AllocError>
-    ensures { IfOk result (λ text. text.items ≡ load_text_of net.now) }
+fn load_text_of(net: &Net<'_>, alloc: Global, talk: &Talk) -> Result<Vec<u8>, AllocError>
+    ensures { IfOk result (λ text. text.items ≡ load_text_of net.now (may_talk talk.now)) }
 {
     let aims = net.aims(alloc)?;
-    let text = text_by(net, alloc, &aims)?;
+    let text = text_by(net, alloc, talk, &aims)?;
     Ok(text)
 }
 
-fn load_of_plan(alloc: Global, plan: &Plan, dump: &Dump) -> Result<Vec<u8>, AllocError>
-    ensures { IfOk result (λ text. text.items ≡ load_of_plan plan.now dump.now) }
+/// How many pairs go over each direction of a cable between two switches, by the LFTs that a dump shows. A pair is a host's port that
+/// sends, and a LID of another host's port to which it does. It can only run out of memory; a number of 2^64 pairs or more is refused
+/// as if it did.
+pub fn load_of_plan(
+    alloc: Global,
+    plan: &Plan,
+    dump: &Dump,
+    talk: &Talk,
+) -> Result<Vec<u8>, AllocError>
+    ensures { IfOk result (λ text. text.items ≡ load_of_plan plan.now dump.now (may_talk talk.now)) }
 {
     let net = Net::new(alloc, plan, dump)?;
-    let text = load_text_of(&net, alloc)?;
+    let text = load_text_of(&net, alloc, talk)?;
     Ok(text)
 }
 
-/// How many pairs go over each direction of a cable between two switches, by the LFTs that a dump shows over a topology. It can
-/// only run out of memory; a number of 2^64 pairs or more is refused as if it did.
+/// The same over a topology, for all pairs.
 pub fn load_text(
     alloc: Global,
     topology: &LargeTopology,
@@ -310,7 +319,7 @@ pub fn load_text(
     ensures { IfOk result (λ text. text.items ≡ load_text topology.now dump.now) }
 {
     let plan = Plan::of(alloc, topology)?;
-    load_of_plan(alloc, &plan, dump)
+    load_of_plan(alloc, &plan, dump, &Talk::of_all())
 }
 
 /// The same over a discovery.
@@ -318,5 +327,5 @@ pub fn load_text_found(alloc: Global, found: &Discovery, dump: &Dump) -> Result<
     ensures { IfOk result (λ text. text.items ≡ load_text_found found.now dump.now) }
 {
     let plan = Plan::found(alloc, found)?;
-    load_of_plan(alloc, &plan, dump)
+    load_of_plan(alloc, &plan, dump, &Talk::of_all())
 }

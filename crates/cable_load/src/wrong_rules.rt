@@ -1,7 +1,7 @@
 //! Wrong rules for what is reported, and the law that each breaks, so that a reader sees that the laws say something. Each
 //! function does nothing: its contract says that with this rule the law is false.
 
-ghost use Rattle.cable_load.specs.WrongRules.{LevelsBeginAt0, NotAllAreLeaves, LostPairsLoad, PairsCountOnce, UnusedChannelsHaveALine, WaysGoOn};
+ghost use Rattle.cable_load.specs.WrongRules.{FirstPortsDoNotAddUp, LevelsBeginAt0, NotAllAreLeaves, LostPairsLoad, PairsCountOnce, SilentPortsDoNotCount, UnusedChannelsHaveALine, WaysGoOn};
 
 /// If a way ended at its first switch, packets would come to a switch that is not on it.
 pub fn ways_go_on()
@@ -11,6 +11,16 @@ pub fn ways_go_on()
 /// If pairs that are lost were not counted, a channel that one goes over would have no load.
 pub fn lost_pairs_load()
     ensures { LostPairsLoad }
+{}
+
+/// If pairs counted whose ports may not talk, two ports apart would count.
+pub fn silent_ports_do_not_count()
+    ensures { SilentPortsDoNotCount }
+{}
+
+/// If a pair loaded the first port alone by which its packets leave, the loads of two ports would not add up.
+pub fn first_ports_do_not_add_up()
+    ensures { FirstPortsDoNotAddUp }
 {}
 
 /// If each pair counted twice, a load would be more than there are pairs.

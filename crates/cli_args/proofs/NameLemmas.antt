@@ -9,7 +9,7 @@ use Rattle.clap.proofs.OnLiterals.{clap_on_literals}
 use Rattle.code_texts.specs.Codes.{code_of}
 use Rattle.code_texts.specs.declared.code.Code.{Code}
 use Rattle.cli_args.specs.Laws.{FilesAreNamedAsGiven, FilesStandInOrder, IsWordOf, NamesKeepTheirBlanks}
-use Rattle.cli_args.specs.Words.{Names, audit_keys_by, audit_keys_with, asked_by, asked_by_command, asked_of, asked_or, call_in, compare_by, cuts_by, diff_by, dumped, dumped_by, explain_by, file_in, graph_with, guid_by, import_by, is_given, in_subnet, inspect_by, manage_by, opened_for, run_by, scripts_by, smps_by}
+use Rattle.cli_args.specs.Words.{Names, audit_keys_by, audit_keys_with, asked_by, asked_by_command, asked_of, asked_or, call_in, compare_by, cuts_by, diff_by, dumped, dumped_by, explain_by, file_in, graph_with, guid_by, import_by, is_given, in_subnet, inspect_by, load_by, load_with, manage_by, opened_for, run_by, scripts_by, smps_by}
 use Rattle.cli_args.specs.Words.{subcommand_in, text_for, trace_by, work_names}
 use Rattle.cli_args.specs.declared.call.Call.{Call}
 use Rattle.cli_args.specs.declared.call.CutView.TheVariants.{All as AllCuts, One, Picture}
@@ -167,6 +167,33 @@ dumped_given view rows call is = by (first_of (codes "FABRIC") rows) refl (first
     by (Some topology) t None d is = absurd cc
     by None t dump d is = absurd cc
 
+load_given : (rows : List Row) → IsGiven rows (load_by rows)
+load_given rows call is =
+    by (first_of (codes "FABRIC") rows) refl (first_of (codes "PARTS") rows) refl (first_of (codes "SCRIPT") rows) refl (first_of (codes "DUMP") rows) refl
+    (is_given rows (codes "ALL")) is
+  where
+    script_given : (script : Option Text) → first_of (codes "SCRIPT") rows ≡ script → All (IsWordOf rows) (option_to_list script)
+    script_given None s = All-nil (IsWordOf rows)
+    script_given (Some word) s = All-cons (IsWordOf rows) word [] (codes "SCRIPT", s) (All-nil (IsWordOf rows))
+
+    by : (fabric : Option Text) → first_of (codes "FABRIC") rows ≡ fabric → (partitions : Option Text) → first_of (codes "PARTS") rows ≡ partitions
+        → (script : Option Text) → first_of (codes "SCRIPT") rows ≡ script → (tables : Option Text) → first_of (codes "DUMP") rows ≡ tables → (all : Bool)
+        → load_with fabric partitions script tables all ≡ Some call → All (IsWordOf rows) (opened_for (Ok call))
+    by (Some fabric) f None p None s (Some tables) d false is =
+        subst (λ (asked : Call Names Text). All (IsWordOf rows) (opened_for (Ok asked))) (same_call _ call is)
+        (All-cons (IsWordOf rows) fabric (tables ∷ []) (codes "FABRIC", f)
+        (All-cons (IsWordOf rows) tables [] (codes "DUMP", d) (All-nil (IsWordOf rows))))
+    by (Some fabric) f (Some partitions) p script s None d all is =
+        subst (λ (asked : Call Names Text). All (IsWordOf rows) (opened_for (Ok asked))) (same_call _ call is)
+        (All-cons (IsWordOf rows) fabric _ (codes "FABRIC", f)
+        (All-append (IsWordOf rows) _ _ (file_given rows partitions (codes "PARTS", p)) (script_given script s)))
+    by None f None p None s (Some tables) d false is = absurd cc
+    by None f (Some partitions) p script s None d all is = absurd cc
+    by fabric f None p (Some script) s tables d all is = absurd cc
+    by fabric f None p None s None d all is = absurd cc
+    by fabric f None p None s (Some tables) d true is = absurd cc
+    by fabric f (Some partitions) p script s (Some tables) d all is = absurd cc
+
 audit_keys_given : (rows : List Row) → IsGiven rows (audit_keys_by rows)
 audit_keys_given rows call is =
     by (first_of (codes "NETDISCOVER") rows) refl (first_of (codes "PKEYS") rows) refl (first_of (codes "PARTS") rows) refl (guid_by (first_of (codes "SM") rows)) is
@@ -211,7 +238,7 @@ command_given command.Compare rows = subnet_given rows _ (compare_given rows)
 command_given command.Cuts rows = subnet_given rows _ (cuts_given rows (first_of (codes "PORT") rows) (first_of (codes "PORT2") rows))
 command_given command.Import rows = import_given rows (guid_by (first_of (codes "SM") rows))
 command_given command.Audit rows = dumped_given dump_view.Audit rows
-command_given command.Load rows = dumped_given dump_view.Load rows
+command_given command.Load rows = load_given rows
 command_given command.AuditKeys rows = audit_keys_given rows
 command_given command.Explain rows = explain_given rows (first_of (codes "CODE") rows)
 
@@ -251,5 +278,6 @@ files_stand_in_order = record {
   cuts = refl;
   audit = refl;
   load = refl;
+  loads = refl;
   audit_keys = refl;
 }

@@ -79,16 +79,18 @@ import_command = with_rule (with_rule (new_app (codes "import")) (wanted (codes 
 abbrev pub audit_command : App
 audit_command = with_rule (with_rule (new_app (codes "audit")) (wanted (codes "FABRIC"))) (wanted (codes "DUMP"))
 
--- `--dump DUMP`, which has to be given
+-- `--dump DUMP`
 abbrev pub dump_option : Rule
-dump_option = record (new_rule (codes "DUMP")) { long = Some (codes "dump"); action = Some Set; required = true; value_names = 1 }
-
-abbrev pub load_command : App
-load_command = with_rule (with_rule (new_app (codes "load")) (wanted (codes "FABRIC"))) dump_option
+dump_option = record (new_rule (codes "DUMP")) { long = Some (codes "dump"); action = Some Set; value_names = 1 }
 
 -- `--all`
 abbrev pub all_flag : Rule
 all_flag = record (new_rule (codes "ALL")) { long = Some (codes "all"); action = Some SetTrue }
+
+abbrev pub load_command : App
+load_command =
+    let files = with_rule (with_rule (new_app (codes "load")) (wanted (codes "FABRIC"))) (optional (codes "PARTS")) in
+    with_rule (with_rule (with_rule files (optional (codes "SCRIPT"))) dump_option) all_flag
 
 abbrev pub audit_keys_command : App
 audit_keys_command =

@@ -59,7 +59,7 @@ abbrev pub about_audit : List ℕ
 about_audit = codes "Judges the LFTs of a real fabric: whether its routes are safe"
 
 abbrev pub about_load : List ℕ
-about_load = codes "Prints how many pairs go over each cable of a real fabric"
+about_load = codes "Prints how many pairs go over each cable between two switches"
 
 abbrev pub about_audit_keys : List ℕ
 about_audit_keys = codes "Compares the P_Key tables of a real fabric with a partition file"
@@ -126,6 +126,9 @@ help_of_fabric = codes "What ibnetdiscover printed of the fabric, or its topolog
 
 abbrev pub help_of_all : List ℕ
 help_of_all = codes "Lists each pair of ports, however many a partition has"
+
+abbrev pub help_of_all_pairs : List ℕ
+help_of_all_pairs = codes "Counts all pairs, also those that may not talk"
 
 abbrev pub help_of_netdiscover : List ℕ
 help_of_netdiscover = codes "What ibnetdiscover printed of the fabric"

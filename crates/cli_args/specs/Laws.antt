@@ -55,4 +55,6 @@ pub record FilesStandInOrder : Type 0 where
   pub cuts : opened_by (codes "cuts" ∷ codes "net" ∷ codes "parts" ∷ codes "h1/1" ∷ codes "h2/1" ∷ []) ≡ codes "net" ∷ codes "parts" ∷ []
   pub audit : opened_by (codes "audit" ∷ codes "net" ∷ codes "dump" ∷ []) ≡ codes "net" ∷ codes "dump" ∷ []
   pub load : opened_by (codes "load" ∷ codes "--dump" ∷ codes "dump" ∷ codes "net" ∷ []) ≡ codes "net" ∷ codes "dump" ∷ []
+  pub loads : opened_by (codes "load" ∷ codes "net" ∷ codes "parts" ∷ codes "sends" ∷ codes "--all" ∷ [])
+      ≡ codes "net" ∷ codes "parts" ∷ codes "sends" ∷ []
   pub audit_keys : opened_by (codes "audit-keys" ∷ codes "net" ∷ codes "keys" ∷ codes "parts" ∷ []) ≡ codes "net" ∷ codes "keys" ∷ codes "parts" ∷ []

@@ -19,12 +19,12 @@ use Rattle.cli_args.specs.declared.call.CutView.TheVariants.{All, One, Picture}
 use Rattle.cli_args.specs.declared.call.Call.TheVariants.{AuditKeys, Dumped, Explain, Import, Subnet}
 use Rattle.cli_args.specs.declared.call.Work.{Work}
 use Rattle.cli_args.specs.declared.call.Inspection.{Inspection}
-use Rattle.cli_args.specs.declared.call.Inspection.TheVariants.{Graph, Keys, Tables, Trace}
+use Rattle.cli_args.specs.declared.call.Inspection.TheVariants.{Graph, Keys, Load, Tables, Trace}
 use Rattle.cli_args.specs.declared.call.DumpView.{DumpView}
 use Rattle.cli_args.specs.declared.call.DumpView.TheVariants as dump_view
 use Rattle.cli_args.specs.declared.call.Subcommand.{Subcommand}
 use Rattle.cli_args.specs.declared.call.Subcommand.TheVariants as command
-use Rattle.cli_args.specs.declared.help.TheConstants.{NO_SCRIPT_WITH_CUTS, NO_SECOND_PORT, NO_SUCH_CODE, NO_SUCH_GUID, NO_SUCH_KEYS_GUID, NO_SUCH_NUMBER}
+use Rattle.cli_args.specs.declared.help.TheConstants.{NO_SCRIPT_WITH_CUTS, NO_SECOND_PORT, NO_SUCH_CODE, NO_SUCH_GUID, NO_SUCH_KEYS_GUID, NO_SUCH_NUMBER, PARTS_OR_DUMP}
 use Rattle.cli_args.specs.declared.call.Work.TheVariants.{Check, Compare, Cuts, Diff, Inspect, Manage, Run, Shares, Smps}
 use Rattle.text_words.specs.Number.{if_under, number_in, u16_in}
 
@@ -39,6 +39,7 @@ named_inspection Tables = Tables
 named_inspection Keys = Keys
 named_inspection (Trace port dlid p_key) = Trace port.now dlid p_key
 named_inspection Graph = Graph
+named_inspection (Load all) = Load all
 
 abbrev pub named_view : CutView (Bor Text) → CutView Text
 named_view All = All
@@ -164,6 +165,21 @@ dumped_by view _ _ = None
 abbrev pub dumped : DumpView → List Row → Option (Call Names Text)
 dumped view rows = dumped_by view (first_of (codes "FABRIC") rows) (first_of (codes "DUMP") rows)
 
+-- loads, after the commands of a script if one is given
+abbrev pub loads_in : (script : Option Text) → (all : Bool) → Work Text Text Text
+loads_in script all = Inspect (Load all) script
+
+-- by a dump alone, or in the subnet of a topology and of partitions
+abbrev pub load_with : (fabric partitions script dump : Option Text) → (all : Bool) → Option (Call Names Text)
+load_with fabric None None (Some dump) false = dumped_by dump_view.Load fabric (Some dump)
+load_with fabric (Some partitions) script None all = asked_by fabric (Some partitions) (Some (loads_in script all))
+load_with fabric _ _ _ _ = None
+
+abbrev pub load_by : List Row → Option (Call Names Text)
+load_by rows =
+    load_with (first_of (codes "FABRIC") rows) (first_of (codes "PARTS") rows) (first_of (codes "SCRIPT") rows) (first_of (codes "DUMP") rows)
+    (is_given rows (codes "ALL"))
+
 -- a discovery, answers of smpquery and partitions
 abbrev pub audit_keys_with : Option Text → Option Text → Option Text → Option (Option ℕ) → (all : Bool) → Option (Call Names Text)
 audit_keys_with (Some netdiscover) (Some pkeys) (Some partitions) (Some manager) all = Some (AuditKeys netdiscover pkeys (file_in partitions) manager all)
@@ -182,7 +198,7 @@ explain_by (Some word) = option_map (λ code. Explain (Some code)) (code_of word
 -- `check` takes no more arguments than its subnet's, `shares` takes a port, and `tables`, `keys`, `trace` and `graph` take a script,
 -- `cuts` two ports;
 -- `diff` needs other partitions, `trace` a packet, `run` a script, `smp` SMPs, `manage` replies, and `compare` two scripts and a port; `import` needs a file of
--- its own and takes a GUID, `audit` and `load` need a fabric and a dump, `audit-keys` two files of its own and partitions, and takes a GUID, and
+-- its own and takes a GUID, `audit` needs a fabric and a dump, and `load` these or a topology and partitions, and takes a script; `audit-keys` two files of its own and partitions, and takes a GUID, and
 -- `explain` takes a code
 abbrev pub call_in : Subcommand → List Row → Option (Call Names Text)
 call_in command.Check rows = in_subnet rows (Some Check)
@@ -199,7 +215,7 @@ call_in command.Compare rows = in_subnet rows (compare_by rows)
 call_in command.Cuts rows = in_subnet rows (cuts_by (first_of (codes "PORT") rows) (first_of (codes "PORT2") rows))
 call_in command.Import rows = import_by (first_of (codes "NETDISCOVER") rows) (guid_by (first_of (codes "SM") rows))
 call_in command.Audit rows = dumped dump_view.Audit rows
-call_in command.Load rows = dumped dump_view.Load rows
+call_in command.Load rows = load_by rows
 call_in command.AuditKeys rows = audit_keys_by rows
 call_in command.Explain rows = explain_by (first_of (codes "CODE") rows)
 
@@ -226,13 +242,15 @@ subcommand_in word =
     else None
 
 -- the text for an argument that clap accepts and the command cannot take: in a trace it is not a number, in an import or an audit of
--- keys not a GUID, in cuts the second port is missing, in a picture `--cuts` has a script, and else it is not a code
+-- keys not a GUID, in cuts the second port is missing, in a picture `--cuts` has a script, loads have neither partitions nor a dump, or both,
+-- and else it is not a code
 abbrev pub text_for : Subcommand → Text
 text_for command.Trace = NO_SUCH_NUMBER.now
 text_for command.Import = NO_SUCH_GUID.now
 text_for command.AuditKeys = NO_SUCH_KEYS_GUID.now
 text_for command.Cuts = NO_SECOND_PORT.now
 text_for command.Graph = NO_SCRIPT_WITH_CUTS.now
+text_for command.Load = PARTS_OR_DUMP.now
 text_for _ = NO_SUCH_CODE.now
 
 abbrev pub asked_or : Text → Option (Call Names Text) → Asking

@@ -37,7 +37,7 @@ pub enum Subcommand {
     Import,
     /// `audit`, which judges the routes of a real fabric.
     Audit,
-    /// `load`, which prints how many pairs go over each cable of a real fabric.
+    /// `load`, which prints how many pairs go over each cable.
     Load,
     /// `audit-keys`, which compares the P_Key tables of a real fabric with a partition file.
     AuditKeys,
@@ -115,6 +115,11 @@ pub enum Inspection<W> {
     Trace(W, u16, u16),
     /// A picture of its nodes and cables.
     Graph,
+    /// How many pairs go over each cable.
+    Load {
+        /// Whether also pairs count that may not talk.
+        all: bool,
+    },
 }
 
 /// What to print of the LFTs of a real fabric.

@@ -12,7 +12,7 @@ ghost use Rattle.cli_args.specs.Help.{about_audit, about_audit_keys, about_check
 ghost use Rattle.cli_args.specs.Help.{about_manage, about_program, about_run, about_smp};
 ghost use Rattle.cli_args.specs.Help.{about_shares, about_tables, about_trace, help_of_code, help_of_dlid, help_of_key};
 ghost use Rattle.cli_args.specs.Help.{help_of_compared, help_of_first_script, help_of_partitions, help_of_second_script};
-ghost use Rattle.cli_args.specs.Help.{help_of_all, help_of_cuts, help_of_dump, help_of_first_end, help_of_second_end};
+ghost use Rattle.cli_args.specs.Help.{help_of_all, help_of_all_pairs, help_of_cuts, help_of_dump, help_of_first_end, help_of_second_end};
 ghost use Rattle.cli_args.specs.Help.{help_of_fabric, help_of_manager, help_of_netdiscover, help_of_pkeys, help_of_port, help_of_replies, help_of_script, help_of_script_before, help_of_smps};
 ghost use Rattle.cli_args.specs.Help.{help_of_second_partitions, help_of_sender, help_of_topology};
 ghost use Rattle.cli_args.specs.Help.{program_name, program_version, text_in};
@@ -249,6 +249,27 @@ fn all_flag<'a>(alloc: Global) -> Arg<'a>
         .help("Lists each pair of ports, however many a partition has")
 }
 
+fn all_pairs_flag<'a>(alloc: Global) -> Arg<'a>
+    ensures global { result.global ≡ false }
+    ensures rule { rule_of result ≡ all_flag }
+    ensures help { text_in result.help ≡ Some help_of_all_pairs }
+{
+    Arg::new(alloc, "ALL")
+        .long("all")
+        .action(ArgAction::SetTrue)
+        .help("Counts all pairs, also those that may not talk")
+}
+
+fn optional_partitions<'a>(alloc: Global) -> Arg<'a>
+    ensures global { result.global ≡ false }
+    ensures rule { rule_of result ≡ optional (codes "PARTS") }
+    ensures help { text_in result.help ≡ Some help_of_partitions }
+{
+    Arg::new(alloc, "PARTS").action(ArgAction::Set).help(
+        "The partition file, or `-` for the default partition alone",
+    )
+}
+
 fn wanted_netdiscover<'a>(alloc: Global) -> Arg<'a>
     ensures global { result.global ≡ false }
     ensures rule { rule_of result ≡ wanted (codes "NETDISCOVER") }
@@ -301,7 +322,6 @@ fn dump_option<'a>(alloc: Global) -> Arg<'a>
     Arg::new(alloc, "DUMP")
         .long("dump")
         .value_name("DUMP")
-        .required(true)
         .action(ArgAction::Set)
         .help("The LFTs, as dump_fts prints them")
 }
@@ -524,14 +544,17 @@ fn audit_command<'a>(alloc: Global) -> Result<Command<'a>, AllocError>
     described(with_arg(found, wanted_dump(alloc)), ABOUT_AUDIT, AUDIT)
 }
 
-/// The command that prints how many pairs go over each cable of a real fabric.
+/// The command that prints how many pairs go over each cable.
 fn load_command<'a>(alloc: Global) -> Result<Command<'a>, AllocError>
     ensures words { IfOk result (λ command. app_of command ≡ load_command) }
     ensures about { IfOk result (λ command. text_in (fields_of command).about ≡ Some about_load) }
     ensures help { IfOk result (λ command. text_in (fields_of command).after_help ≡ Some LOAD.now) }
 {
     let found = with_arg(Ok(Command::new(alloc, "load")), wanted_fabric(alloc));
-    described(with_arg(found, dump_option(alloc)), ABOUT_LOAD, LOAD)
+    let files = with_arg(found, optional_partitions(alloc));
+    let runs = with_arg(files, optional_script(alloc));
+    let command = with_arg(with_arg(runs, dump_option(alloc)), all_pairs_flag(alloc));
+    described(command, ABOUT_LOAD, LOAD)
 }
 
 /// The command that compares the P_Key tables of a real fabric with a partition file.

@@ -39,7 +39,7 @@ pub(crate) const ABOUT_IMPORT: &str =
 pub(crate) const ABOUT_AUDIT: &str =
     "Judges the LFTs of a real fabric: whether its routes are safe";
 
-pub(crate) const ABOUT_LOAD: &str = "Prints how many pairs go over each cable of a real fabric";
+pub(crate) const ABOUT_LOAD: &str = "Prints how many pairs go over each cable between two switches";
 
 pub(crate) const ABOUT_AUDIT_KEYS: &str =
     "Compares the P_Key tables of a real fabric with a partition file";
@@ -322,6 +322,12 @@ pub(crate) const NO_SCRIPT_WITH_CUTS: &str =
 For more information, try 'fabric graph --help'.
 ";
 
+pub(crate) const PARTS_OR_DUMP: &str =
+    "error: either PARTS is needed, or --dump DUMP without PARTS, SCRIPT and --all
+
+For more information, try 'fabric load --help'.
+";
+
 pub(crate) const NO_SECOND_PORT: &str = "error: PORT2, the other end of the cable, is missing
 
 For more information, try 'fabric cuts --help'.
@@ -433,9 +439,16 @@ For example, for your own fabric:
 );
 
 pub(crate) const LOAD: &str = with_statuses!(
-    "FABRIC is what ibnetdiscover printed, of a fabric of any size, or a topology. The LFTs are followed as
-they are, whichever SM wrote them; nothing is brought up. A pair is a CA port that is attached to a
-switch and sends, and a LID of another CA port. Routers count as CAs, aggregation nodes do not.
+    "A pair is a CA port that is attached to a switch and sends, and a LID of another CA port. Routers
+count as CAs, aggregation nodes do not. There are two forms:
+
+  fabric load TOPO PARTS [SCRIPT] [--all]
+    brings up the subnet of a topology and partitions. Only pairs that may talk count, or with --all
+    all. With SCRIPT the fabric is as the commands of that script leave it, without the cables that
+    are down.
+  fabric load FABRIC --dump DUMP
+    takes the LFTs as they are, whichever SM wrote them; nothing is brought up. FABRIC is what
+    ibnetdiscover printed, of a fabric of any size, or a topology. All pairs count.
 
 Each direction of each cable between two switches has a line with the number of pairs that go over it,
 from the first port to the second. The greatest load comes first:

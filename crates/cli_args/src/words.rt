@@ -3,10 +3,10 @@
 ghost use Rattle.std.specs.Prelude.{◌≡◌, ◌^◌, Ok, Some, map, string_bytes, option_map, IfOk, IfErr};
 ghost use Rattle.clap.specs.Words.{first_of, found_of, rows_of, subcommand_rows_of};
 ghost use Rattle.cli_args.specs.Refusals.{IsOfGiven, IsOfWords, ReportsAll};
-ghost use Rattle.cli_args.specs.Words.{asked_in, asked_of, call_in, compare_by, cuts_by, diff_by, dumped, dumped_by, explain_by, file_in, given_items, guid_by};
+ghost use Rattle.cli_args.specs.Words.{asked_by, asked_in, asked_of, call_in, compare_by, cuts_by, diff_by, dumped, dumped_by, explain_by, file_in, given_items, guid_by};
 ghost use Rattle.cli_args.specs.Words.{audit_keys_by, import_by, in_subnet};
 ghost use Rattle.text_words.specs.Number.{if_under, number_in};
-ghost use Rattle.cli_args.specs.Words.{graph_by, graph_with, inspect_by, is_given, named_call, named_found, named_inspection};
+ghost use Rattle.cli_args.specs.Words.{graph_by, graph_with, inspect_by, is_given, load_by, load_with, loads_in, named_call, named_found, named_inspection};
 ghost use Rattle.cli_args.specs.Words.{manage_by, named_work, run_by, smps_by, subcommand_in, text_for, trace_by, u16_by};
 
 use crate::call::{
@@ -15,7 +15,7 @@ use crate::call::{
 use crate::command_line::Parser;
 use crate::help::{
     NO_SCRIPT_WITH_CUTS, NO_SECOND_PORT, NO_SUCH_CODE, NO_SUCH_GUID, NO_SUCH_KEYS_GUID,
-    NO_SUCH_NUMBER, NOT_TEXT,
+    NO_SUCH_NUMBER, NOT_TEXT, PARTS_OR_DUMP,
 };
 use clap::ArgMatches;
 use code_texts::Code;
@@ -119,6 +119,7 @@ fn text_for(command: Subcommand) -> &'static str
         Subcommand::AuditKeys => NO_SUCH_KEYS_GUID,
         Subcommand::Cuts => NO_SECOND_PORT,
         Subcommand::Graph => NO_SCRIPT_WITH_CUTS,
+        Subcommand::Load => PARTS_OR_DUMP,
         _ => NO_SUCH_CODE,
     }
 }
@@ -148,7 +149,7 @@ fn call_of<'a>(command: Subcommand, found: &ArgMatches<'a>) -> Option<Call<Asked
         }
         Subcommand::Import => import_by(word_of(found, "NETDISCOVER"), word_of(found, "SM")),
         Subcommand::Audit => dumped(DumpView::Audit, found),
-        Subcommand::Load => dumped(DumpView::Load, found),
+        Subcommand::Load => load_by(found),
         Subcommand::AuditKeys => audit_keys(found),
         Subcommand::Explain => explain_by(word_of(found, "CODE")),
     }
@@ -168,9 +169,20 @@ fn in_subnet<'a>(
 ) -> Option<Call<Asked<'a>, &'a str>>
     ensures { option_map named_call result ≡ in_subnet (rows_of (found_of found.now)) (option_map named_work work.entry) }
 {
+    asked_by(word_of(found, "TOPO"), word_of(found, "PARTS"), work)
+}
+
+fn asked_by<'a>(
+    topology: Option<&'a str>,
+    partitions: Option<&'a str>,
+    work: Option<NamedWork<'a>>,
+) -> Option<Call<Asked<'a>, &'a str>>
+    ensures { option_map named_call result ≡ asked_by (option_map (λ word. word.now) topology.entry)
+        (option_map (λ word. word.now) partitions.entry) (option_map named_work work.entry) }
+{
     Some(Call::Subnet(Asked {
-        topology: word_of(found, "TOPO")?,
-        partitions: file_in(word_of(found, "PARTS")?),
+        topology: topology?,
+        partitions: file_in(partitions?),
         work: work?,
     }))
 }
@@ -340,6 +352,44 @@ fn dumped<'a>(view: DumpView, found: &ArgMatches<'a>) -> Option<Call<Asked<'a>, 
     ensures { option_map named_call result ≡ dumped view (rows_of (found_of found.now)) }
 {
     dumped_by(view, word_of(found, "FABRIC"), word_of(found, "DUMP"))
+}
+
+/// The loads of cables by a dump, or those of the subnet of a topology and partitions.
+fn load_by<'a>(found: &ArgMatches<'a>) -> Option<Call<Asked<'a>, &'a str>>
+    ensures { option_map named_call result ≡ load_by (rows_of (found_of found.now)) }
+{
+    let fabric = word_of(found, "FABRIC");
+    let partitions = word_of(found, "PARTS");
+    let script = word_of(found, "SCRIPT");
+    let dump = word_of(found, "DUMP");
+    load_with(fabric, partitions, script, dump, is_given(found, "ALL"))
+}
+
+fn load_with<'a>(
+    fabric: Option<&'a str>,
+    partitions: Option<&'a str>,
+    script: Option<&'a str>,
+    dump: Option<&'a str>,
+    all: bool,
+) -> Option<Call<Asked<'a>, &'a str>>
+    ensures { option_map named_call result ≡ load_with (option_map (λ word. word.now) fabric.entry)
+        (option_map (λ word. word.now) partitions.entry) (option_map (λ word. word.now) script.entry)
+        (option_map (λ word. word.now) dump.entry) all }
+{
+    match (partitions, script, dump, all) {
+        (None, None, Some(_), false) => dumped_by(DumpView::Load, fabric, dump),
+        (Some(_), script, None, all) => asked_by(fabric, partitions, loads_in(script, all)),
+        _ => None,
+    }
+}
+
+fn loads_in(script: Option<&str>, all: bool) -> Option<NamedWork<'_>>
+    ensures { option_map named_work result ≡ Some (loads_in (option_map (λ word. word.now) script.entry) all) }
+{
+    Some(Work::Inspect {
+        what: Inspection::Load { all },
+        script,
+    })
 }
 
 /// The P_Key tables of a fabric against a partition file.

@@ -1,3 +1,4 @@
 pub mod SoundLemmas
 pub mod EndLemmas
+pub mod GuidLemmas
 pub mod ExampleLemmas

@@ -49,7 +49,7 @@ rise_more top row (first ∷ rest) follows rises =
     rise_after top 0 row first rest above parts.1 rises
 
 -- ---- whose LIDs are
-or_before : (a b c : Option ℕ) → option_or a (option_or b c) ≡ option_or (option_or a b) c
+pub or_before : (a b c : Option ℕ) → option_or a (option_or b c) ≡ option_or (option_or a b) c
 or_before (Some x) b c = refl
 or_before None b c = refl
 

@@ -1,6 +1,6 @@
 //! What was dumped.
 
-ghost use Rattle.std.specs.Prelude.{◌≡◌, true};
+ghost use Rattle.std.specs.Prelude.{◌≡◌, true, IfOk};
 ghost use Rattle.std.specs.List.{list_all, IsDistinct};
 ghost use Rattle.dump_file.specs.Row.{end_of};
 ghost use Rattle.dump_file.specs.Sound.{have_one_end, is_rising, shares_switch, IsSound};
@@ -8,6 +8,7 @@ ghost use Rattle.dump_file.specs.Table.{place_of, rows_of};
 
 use crate::ends::EndList;
 use crate::table::{Table, TableList};
+use std::alloc::{AllocError, Global};
 use std::marker::Model;
 
 /// The linear forwarding tables of a fabric, and whose its LIDs are.
@@ -32,6 +33,16 @@ impl Model for Dump {
 }
 
 impl Dump {
+    /// The dump of these tables, which agree with one another. It can only run out of memory.
+    pub fn of(alloc: Global, tables: Vec<Table>) -> Result<Dump, AllocError>
+        requires { IsSound (record { tables = tables.items }) }
+        ensures { IfOk result (λ dump. dump ≡ record { tables = tables.items }) }
+    {
+        let ends = EndList::of(alloc, &tables)?;
+        let tables = TableList::of(alloc, tables)?;
+        Ok(Dump { tables, ends })
+    }
+
     /// Says all at once what is so of every dump that was read. It does nothing.
     pub fn known_sound(&self)
         ensures { IsSound self.now }

@@ -1,8 +1,13 @@
 //! Whose each LID is.
 
-ghost use Rattle.std.specs.Prelude.{◌≡◌, ◌<◌, ◌==◌, [], Some, ℕ, if◌then◌else◌, length, OnErr, OnOk};
-ghost use Rattle.dump_file.specs.Index.{end_known};
+ghost use Rattle.std.specs.Prelude.{◌≡◌, ◌<◌, ◌==◌, [], Some, ℕ, if◌then◌else◌, length, IfOk, OnErr, OnOk};
+ghost use Rattle.std.specs.Option.{option_or};
+ghost use Rattle.dump_file.specs.Index.{KnowsEnds, end_known};
+ghost use Rattle.dump_file.specs.Row.{end_of, said_of};
+ghost use Rattle.dump_file.specs.Table.{rows_of};
 
+use crate::row::Row;
+use crate::table::Table;
 use std::alloc::{AllocError, Global};
 use std::marker::Model;
 
@@ -27,6 +32,41 @@ impl EndList {
         EndList {
             ends: Vec::new(alloc),
         }
+    }
+
+    /// The end port of each LID of which a row of these tables says one: of several the first counts. It can only run out of
+    /// memory.
+    pub(crate) fn of(alloc: Global, tables: &[Table]) -> Result<EndList, AllocError>
+        ensures { IfOk result (λ ends. KnowsEnds ends (rows_of tables.now)) }
+    {
+        let mut ends = EndList::new(alloc);
+        for table in tables {
+            ends.add_rows(table.rows.as_slice())?;
+        }
+        Ok(ends)
+    }
+
+    /// Notes whose LIDs are that have no end port yet, by these rows.
+    fn add_rows(&mut self, rows: &[Row]) -> Result<(), AllocError>
+        ensures { OnOk result ((lid : ℕ) → end_known self.new lid ≡ option_or (end_known self.old lid) (end_of lid rows.now)) }
+    {
+        for row in rows {
+            self.add_row(*row)?;
+        }
+        Ok(())
+    }
+
+    /// The same by one row.
+    fn add_row(&mut self, row: Row) -> Result<(), AllocError>
+        ensures { OnOk result ((lid : ℕ) → end_known self.new lid ≡ option_or (end_known self.old lid) (said_of lid row)) }
+    {
+        let Some(guid) = row.destination.guid() else {
+            return Ok(());
+        };
+        if self.end_of(row.lid).is_some() {
+            return Ok(());
+        }
+        self.insert(row.lid, guid)
     }
 
     pub(crate) fn end_of(&self, lid: u16) -> Option<u64>

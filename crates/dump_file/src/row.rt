@@ -40,7 +40,8 @@ impl Model for RowList {
 }
 
 impl RowList {
-    pub(crate) fn of(rows: Vec<Row>) -> RowList
+    /// These rows.
+    pub fn of(rows: Vec<Row>) -> RowList
         ensures { result ≡ rows.items }
     {
         RowList { rows }

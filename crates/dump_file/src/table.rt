@@ -1,6 +1,8 @@
 //! Tables.
 
-ghost use Rattle.std.specs.Prelude.{◌≡◌, [], ◌∷◌, ◌++◌, None, OnErr, OnOk};
+ghost use Rattle.std.specs.Prelude.{◌≡◌, [], ◌∷◌, ◌++◌, None, map, IfOk, OnErr, OnOk};
+ghost use Rattle.std.specs.List.{IsDistinct};
+ghost use Rattle.dump_file.specs.Sound.{shares_switch};
 ghost use Rattle.dump_file.specs.Table.{place_of, table_of};
 
 use crate::heading::Heading;
@@ -55,6 +57,15 @@ impl TableList {
         }
     }
 
+    /// These tables. It can only run out of memory.
+    pub(crate) fn of(alloc: Global, tables: Vec<Table>) -> Result<TableList, AllocError>
+        requires { IsDistinct shares_switch tables.items }
+        ensures { IfOk result (λ list. list ≡ tables.items) }
+    {
+        let guids = guids_of(alloc, &tables)?;
+        Ok(TableList { guids, tables })
+    }
+
     pub(crate) fn as_slice(&self) -> &[Table]
         ensures { result.now ≡ self.now }
     {
@@ -91,4 +102,16 @@ impl TableList {
         })?;
         Ok(())
     }
+}
+
+/// The GUIDs of these tables, each at the place of its table.
+fn guids_of(alloc: Global, tables: &[Table]) -> Result<IndexSet<u64>, AllocError>
+    requires { IsDistinct shares_switch tables.now }
+    ensures { IfOk result (λ guids. guids.keys ≡ map (λ table. table.guid) tables.now) }
+{
+    let mut guids = IndexSet::new(alloc);
+    for table in tables {
+        guids.insert(table.guid)?;
+    }
+    Ok(guids)
 }

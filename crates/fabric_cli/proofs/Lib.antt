@@ -13,3 +13,4 @@ pub mod PortLineLemmas
 pub mod PrintedLemmas
 pub mod OneEndingLemmas
 pub mod KeysLemmas
+pub mod LoadLemmas

@@ -17,6 +17,7 @@ use Rattle.subnet_model.specs.Configuration.{ConfigurationState}
 use Rattle.script_lines.specs.declared.script_cause.ScriptCause.{ScriptCause}
 use Rattle.script_lines.specs.ScriptCause.{code_of as script_code}
 use Rattle.fabric_graph.specs.Graph.{graph_text}
+use Rattle.own_loads.specs.OwnLoads.{own_load_text}
 use Rattle.fabric_tables.specs.Keys.{keys_text}
 use Rattle.fabric_parts.specs.declared.cable.PortRef.{PortRef}
 use Rattle.fabric_tables.specs.Multicast.{tables_text}
@@ -52,7 +53,7 @@ use Rattle.code_texts.specs.Texts.{explained}
 use Rattle.cli_args.specs.declared.call.Call.TheVariants as call
 use Rattle.cli_args.specs.declared.call.Call.TheVariants.{Explain, Subnet}
 use Rattle.cli_args.specs.declared.call.Inspection.{Inspection}
-use Rattle.cli_args.specs.declared.call.Inspection.TheVariants.{Graph, Keys, Tables, Trace}
+use Rattle.cli_args.specs.declared.call.Inspection.TheVariants.{Graph, Keys, Load, Tables, Trace}
 use Rattle.cli_args.specs.declared.call.Work.{Work}
 use Rattle.cli_args.specs.declared.call.Work.TheVariants as work
 use Rattle.fabric_cli.specs.declared.faults.Stop.TheVariants.{Words, NoMemory, Unread, Unwritten, Run, Second, Unmanaged, Unheard, Unsent, Foreign}
@@ -268,6 +269,7 @@ looked_at inventory up Tables = complete (tables_text inventory.plan.nodes inven
 looked_at inventory up Keys = complete (keys_text inventory.plan.nodes inventory.configuration.ports up.fabric)
 looked_at inventory up (Trace port dlid p_key) = traced inventory up dlid p_key (adapter_place inventory.plan port)
 looked_at inventory up Graph = complete (graph_text inventory.plan inventory.configuration up.routes up.fabric [])
+looked_at inventory up (Load all) = complete (own_load_text inventory.plan inventory.configuration.ports up.routes.lids up.fabric all)
 
 -- ---- SMPs that its fabric answers, one after the other: all of them, or those before the first faulty line
 abbrev pub smps_reported : List ℕ → Option ℕ → Ending

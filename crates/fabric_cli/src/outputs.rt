@@ -4,7 +4,7 @@ ghost use Rattle.std.specs.Prelude.{◌≡◌, Err, Ok, Some, None, option_copie
 ghost use Rattle.cable_cuts.specs.Fate.{HaveBroughtUp};
 ghost use Rattle.cli_args.specs.Words.{named_inspection, named_view};
 ghost use Rattle.cli_args.specs.declared.call.CutView.TheVariants.{All as AllCuts, One as OneCut, Picture as CutPicture};
-ghost use Rattle.cli_args.specs.declared.call.Inspection.TheVariants.{Graph as IsGraph, Keys as IsKeys, Tables as IsTables};
+ghost use Rattle.cli_args.specs.declared.call.Inspection.TheVariants.{Graph as IsGraph, Keys as IsKeys, Load as IsLoad, Tables as IsTables};
 ghost use Rattle.cli_args.specs.declared.call.Work.TheVariants as work;
 ghost use Rattle.fabric_cli.specs.Faults.{IsOfRun};
 ghost use Rattle.fabric_cli.specs.Serving.{asked_port, changes_in, looked_at, second_stop, shares_in, texts_with, traced};
@@ -29,6 +29,7 @@ use fabric_graph::graph_text;
 use fabric_parts::Limits;
 use fabric_tables::{keys_text, tables_text};
 use netdiscover_file::{Discovery, DiscoveryFault, is_discovery};
+use own_loads::own_load_text;
 use packet_trace::trace_text;
 use partition_changes::changes_text;
 use port_shares::listed_shares;
@@ -179,6 +180,7 @@ fn looked_at<'a>(
         Inspection::Keys => keyed(alloc, subnet),
         Inspection::Trace(port, dlid, p_key) => traced(alloc, subnet, port, *dlid, *p_key),
         Inspection::Graph => drawn(alloc, subnet),
+        Inspection::Load { all } => loaded(alloc, subnet, *all),
     }
 }
 
@@ -216,6 +218,22 @@ fn drawn<'a>(alloc: Global, subnet: &Subnet) -> Result<Vec<u8>, Stop<'a>>
         subnet.routes(),
         subnet.fabric(),
         &[],
+    ))
+}
+
+/// How many pairs go over each cable: those that may talk, or all.
+fn loaded<'a>(alloc: Global, subnet: &Subnet, all: bool) -> Result<Vec<u8>, Stop<'a>>
+    ensures exact { ComesTo (λ text. text.items) (ended (looked_at subnet.now.inventory (up_in subnet.now) (IsLoad all))) result }
+    ensures fault { IfErr result IsOfRun }
+{
+    let inventory = subnet.inventory();
+    text_or_stop(own_load_text(
+        alloc,
+        inventory.topology(),
+        inventory.configuration().ports(),
+        subnet.routes().lids(),
+        subnet.fabric(),
+        all,
     ))
 }
 

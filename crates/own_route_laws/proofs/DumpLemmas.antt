@@ -26,11 +26,13 @@ use Rattle.topo_file.specs.Topology.{TopologyState}
 use Rattle.topo_file.specs.declared.node.Node.{Node as PlannedNode}
 use Rattle.updn_routes.specs.Routes.{home_of, hop_to}
 use Rattle.updn_routes.specs.Subnet.{RoutesState}
+use Rattle.own_loads.specs.HeldRows.{held_entry, row_for}
+use Rattle.own_loads.proofs.RowLemmas.{reported_of}
 use Rattle.own_route_laws.specs.Laws.{ADumpShowsWhatIsHeld, over}
-use Rattle.own_route_laws.specs.OwnTables.{dump_of, row_for, table_for}
-use Rattle.own_route_laws.specs.Shown.{HasRow, held_entry}
+use Rattle.own_route_laws.specs.OwnTables.{dump_of, table_for}
+use Rattle.own_route_laws.specs.Shown.{HasRow}
 use Rattle.own_route_laws.proofs.HeldLemmas.{holds}
-use Rattle.own_route_laws.proofs.ShownLemmas.{all_reported, no_row, row_found, table_found, table_is, reported_of}
+use Rattle.own_route_laws.proofs.ShownLemmas.{all_reported, no_row, row_found, table_found, table_is}
 use Rattle.own_route_laws.proofs.StandLemmas.{place_for}
 
 -- a LID that some GUID has is one from 1 on

@@ -22,8 +22,9 @@ use Rattle.topo_file.specs.Node.{is_switch_at}
 use Rattle.topo_file.specs.Topology.{TopologyState}
 use Rattle.updn_routes.specs.Routes.{next_hop}
 use Rattle.updn_routes.specs.Subnet.{RoutesState, place_of}
+use Rattle.own_loads.specs.HeldRows.{held_entry}
 use Rattle.own_route_laws.specs.Laws.{over}
-use Rattle.own_route_laws.specs.Shown.{HasRow, Shows, held_entry}
+use Rattle.own_route_laws.specs.Shown.{HasRow, Shows}
 use Rattle.own_route_laws.proofs.TurnLemmas.{one_row}
 use Rattle.own_route_laws.proofs.StandLemmas.{Stands}
 

@@ -27,9 +27,9 @@ use Rattle.topo_file.specs.Sound.{IsSound}
 use Rattle.topo_file.specs.Topology.{TopologyState}
 use Rattle.topo_file.specs.declared.node.Node.{Node}
 use Rattle.updn_routes.specs.Subnet.{RoutesState}
+use Rattle.own_loads.specs.HeldRows.{destination_of, held_entry, is_switchs, row_for, rows_from}
 use Rattle.own_route_laws.specs.Laws.{over}
-use Rattle.own_route_laws.specs.OwnTables.{destination_of, dump_of, is_switchs, row_for, rows_from}
-use Rattle.own_route_laws.specs.Shown.{held_entry}
+use Rattle.own_route_laws.specs.OwnTables.{dump_of}
 use Rattle.own_route_laws.proofs.DumpLemmas.{has_place, table_there}
 use Rattle.own_route_laws.proofs.GuidLemmas.{port_is}
 use Rattle.own_route_laws.proofs.HeldLemmas.{holds}

@@ -35,16 +35,17 @@ use Rattle.topo_file.specs.Sound.{IsSound}
 use Rattle.topo_file.specs.Topology.{TopologyState}
 use Rattle.updn_routes.specs.Routes.{home_of, hop_to, next_hop, port_towards}
 use Rattle.updn_routes.specs.Subnet.{RoutesState}
+use Rattle.own_loads.specs.HeldRows.{held_entry, row_for, rows_from}
+use Rattle.own_loads.proofs.RowLemmas.{said_is, reported_of}
 use Rattle.own_route_laws.specs.Laws.{ItNamesEachPort, over}
-use Rattle.own_route_laws.specs.OwnTables.{dump_of, row_for, rows_from, tables_for}
-use Rattle.own_route_laws.specs.Shown.{held_entry}
+use Rattle.own_route_laws.specs.OwnTables.{dump_of, tables_for}
 use Rattle.own_route_laws.proofs.DumpLemmas.{has_place}
 use Rattle.own_route_laws.proofs.EndLemmas.{Hung, adapter_hung, planned}
 use Rattle.own_route_laws.proofs.HeldLemmas.{Holds, holds}
 use Rattle.own_route_laws.proofs.KindLemmas.{with_end_set}
 use Rattle.own_route_laws.proofs.GuidLemmas.{port_of_end}
 use Rattle.own_route_laws.proofs.ReachLemmas.{HasHome, is_end, port_home_of}
-use Rattle.own_route_laws.proofs.ShownLemmas.{all_reported, row_found, said_is, reported_of}
+use Rattle.own_route_laws.proofs.ShownLemmas.{all_reported, row_found}
 use Rattle.own_route_laws.proofs.StandLemmas.{few, is_switch_there}
 
 -- a row says whose the LID is

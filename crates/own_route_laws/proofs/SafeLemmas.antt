@@ -43,9 +43,9 @@ use Rattle.topo_file.specs.Sound.{IsSound, ends_at_ports, is_port}
 use Rattle.topo_file.specs.Topology.{TopologyState}
 use Rattle.topo_file.specs.declared.node.Node.{Node as PlannedNode}
 use Rattle.updn_routes.specs.Subnet.{RoutesState}
+use Rattle.own_loads.specs.HeldRows.{destination_of, held_entry, is_switchs, row_for}
 use Rattle.own_route_laws.specs.Laws.{OwnRoutesAreSafe, RoutesAreSafeWithCablesDown, SomeSwitchCarriesAHost, over}
-use Rattle.own_route_laws.specs.OwnTables.{destination_of, dump_of, is_switchs, row_for, table_for, tables_for}
-use Rattle.own_route_laws.specs.Shown.{held_entry}
+use Rattle.own_route_laws.specs.OwnTables.{dump_of, table_for, tables_for}
 use Rattle.own_route_laws.proofs.DumpLemmas.{a_dump_shows_what_is_held, named_lid, planned_there, table_there}
 use Rattle.own_route_laws.proofs.EndLemmas.{has_end, planned}
 use Rattle.own_route_laws.proofs.FreeLemmas.{is_free}

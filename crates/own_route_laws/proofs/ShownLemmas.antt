@@ -1,17 +1,12 @@
 -- The dump of what the switches of a fabric hold shows it.
 use Rattle.std.proofs.Common.{ℕ, zero, suc, ◌≡◌, ◌+◌, ◌-◌, ◌==◌, ◌∙◌, ap, refl, sym, subst, Bool, true, false, if◌then◌else◌, List, [], ◌∷◌, ◌++◌, find, flat_map, map, position, slice_get, Option, Some, None, option_map, arith}
 use Rattle.std.specs.List.{AllByRecursion, IsDistinct, list_any}
-use Rattle.std.specs.Option.{option_and_then, option_or}
-use Rattle.std.proofs.lemmas.Bool.{eq-eqb, eqb-true, false≢true, ne_eqb}
+use Rattle.std.specs.Option.{option_and_then}
+use Rattle.std.proofs.lemmas.Bool.{eq-eqb, false≢true, ne_eqb}
 use Rattle.std.proofs.lemmas.Map.Keys.{IsDistinct-tail}
 use Rattle.std.proofs.lemmas.Option.{none-some, same_Some, slice_get-map}
-use Rattle.dump_file.specs.Destination.{guid_said}
-use Rattle.dump_file.specs.Row.{end_of}
 use Rattle.dump_file.specs.Table.{rows_of}
-use Rattle.dump_file.specs.declared.destination.Destination.TheVariants as destinations
-use Rattle.dump_file.specs.declared.row.Row.{Row}
 use Rattle.dump_file.specs.declared.table.Table.{Table}
-use Rattle.lid_assign.specs.Lids.{guid_in}
 use Rattle.step_results.proofs.DistinctLemmas.{none_shares}
 use Rattle.step_results.proofs.ElementLemmas.{each_joined}
 use Rattle.route_audit.specs.Net.{table_of}
@@ -22,8 +17,9 @@ use Rattle.sweep.proofs.FoundLemmas.{any_by}
 use Rattle.sweep.proofs.PlaceLemmas.{found_at_place, found_nowhere}
 use Rattle.switch_model.specs.SwitchState.{SwitchState}
 use Rattle.topo_file.specs.declared.node.Node.{Node as PlannedNode}
-use Rattle.own_route_laws.specs.OwnTables.{destination_of, is_switchs, row_for, row_if, rows_from, table_for, tables_for}
-use Rattle.own_route_laws.specs.Shown.{held_entry}
+use Rattle.own_loads.specs.HeldRows.{held_entry, row_for, rows_from}
+use Rattle.own_loads.proofs.RowLemmas.{IsReported, held_reported}
+use Rattle.own_route_laws.specs.OwnTables.{table_for, tables_for}
 
 -- ---- the first that passes
 found_next : {X : Type 0} (p : X → Bool) (x : X) (xs : List X) → p x ≡ false → find p (x ∷ xs) ≡ find p xs
@@ -110,52 +106,8 @@ module _ (planned : List PlannedNode) (lids : List ℕ) where
           (ne_eqb first lid (apart is)) ∙ rest
 
   -- ---- whose a LID is
-  abbrev pub IsReported : Row → Type 0
-  IsReported row = (guid : ℕ) → guid_said row.destination ≡ Some guid → guid_in lids row.lid ≡ Some guid
-
-  pub reported_of : (lid : ℕ) (rows : List Row) (guid : ℕ) → AllByRecursion IsReported rows → end_of lid rows ≡ Some guid → guid_in lids lid ≡ Some guid
-  reported_of lid [] guid reported is = absurd (none-some guid is)
-  reported_of lid (row ∷ rows) guid reported is =
-      by (row.lid == lid) refl (guid_said row.destination) refl is (λ rest. reported_of lid rows guid reported.1 rest)
-    where
-      by : (b : Bool) → (row.lid == lid) ≡ b → (o : Option ℕ) → guid_said row.destination ≡ o → option_or (if b then o else None) (end_of lid rows) ≡ Some guid
-          → (end_of lid rows ≡ Some guid → guid_in lids lid ≡ Some guid) → guid_in lids lid ≡ Some guid
-      by true here (Some one) said is later =
-          ap (guid_in lids) (sym (eqb-true row.lid lid here)) ∙ reported.0 guid (said ∙ is)
-      by true here None said is later = later is
-      by false here o said is later = later is
-
-  pub said_is : (guid : ℕ) → guid_said (destination_of planned guid) ≡ Some guid
-  said_is guid = by (is_switchs planned guid)
-    where
-      by : (b : Bool) → guid_said (if b then destinations.Switch guid else destinations.ChannelAdapter guid) ≡ Some guid
-      by true = refl
-      by false = refl
-
-  rows_reported : (held : SwitchState) (guids : List ℕ) (first : ℕ) → ((j guid : ℕ) → slice_get guids j ≡ Some guid → guid_in lids (first + j) ≡ Some guid)
-      → AllByRecursion IsReported (rows_from planned held first guids)
-  rows_reported held [] first each = tt
-  rows_reported held (one ∷ guids) first each =
-      each_joined IsReported (row_if planned first one (held_entry held first)) (rows_from planned held (first + 1) guids) (by (held_entry held first == 255))
-      (rows_reported held guids (first + 1) (λ j guid there.
-      let moved : first + suc j ≡ first + 1 + j = omega arith in ap (guid_in lids) (sym moved) ∙ each (suc j) guid there))
-    where
-      by : (b : Bool) → AllByRecursion IsReported (if b then [] else row_for planned first one (held_entry held first) ∷ [])
-      by true = tt
-      by false = (
-        λ guid said.
-            let none_more : first + 0 ≡ first = omega arith in
-            ap (guid_in lids) (sym none_more) ∙ each 0 one refl ∙ sym (said_is one) ∙ said,
-        tt,
-      )
-
-  from_first : (j guid : ℕ) → slice_get lids j ≡ Some guid → guid_in lids (1 + j) ≡ Some guid
-  from_first j guid there =
-      let back : 1 + j - 1 ≡ j = omega arith in
-      ap (λ (b : Bool). if b then None else slice_get lids (1 + j - 1)) (ne_eqb (1 + j) 0 (λ none. omega (arith, none))) ∙ ap (slice_get lids) back ∙ there
-
-  pub all_reported : (nodes : List Node) → AllByRecursion IsReported (rows_of (flat_map (tables_for planned lids) nodes))
+  pub all_reported : (nodes : List Node) → AllByRecursion (IsReported lids) (rows_of (flat_map (tables_for planned lids) nodes))
   all_reported [] = tt
   all_reported (Adapter ports ∷ nodes) = all_reported nodes
   all_reported (Switch held ∷ nodes) =
-      each_joined IsReported (rows_from planned held 1 lids) (rows_of (flat_map (tables_for planned lids) nodes)) (rows_reported held lids 1 from_first) (all_reported nodes)
+      each_joined (IsReported lids) (rows_from planned held 1 lids) (rows_of (flat_map (tables_for planned lids) nodes)) (held_reported planned lids held) (all_reported nodes)

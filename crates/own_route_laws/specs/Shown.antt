@@ -1,18 +1,15 @@
 -- Which dumps show the linear forwarding tables that the switches of a fabric hold.
-use Rattle.std.specs.Prelude.{ℕ, ◌≡◌, ◌≢◌, get_or, slice_get, List, Some}
+use Rattle.std.specs.Prelude.{ℕ, ◌≡◌, ◌≢◌, slice_get, List, Some}
 use Rattle.dump_file.specs.Row.{end_of}
 use Rattle.dump_file.specs.Table.{rows_of}
 use Rattle.dump_file.specs.declared.row.Row.{Row}
 use Rattle.dump_file.specs.declared.table.Table.{Table}
 use Rattle.lid_assign.specs.Lids.{guid_in}
+use Rattle.own_loads.specs.HeldRows.{held_entry}
 use Rattle.route_audit.specs.Net.{NetState, row_of, table_at}
 use Rattle.smp_wire.specs.FabricState.{FabricState}
 use Rattle.smp_wire.specs.declared.node.Node.TheVariants.{Switch}
 use Rattle.switch_model.specs.SwitchState.{SwitchState}
-
--- the entry of a LID in the table of a switch: past its end there is none
-abbrev pub held_entry : SwitchState → ℕ → ℕ
-held_entry held lid = get_or held.linear lid 255
 
 -- the table of the switch there has a row for the LID, with this entry
 pub record HasRow (net : NetState) (place lid entry : ℕ) : Type 0 where

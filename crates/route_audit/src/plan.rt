@@ -218,6 +218,20 @@ impl Plan {
         !is_switch_at(self.nodes.as_slice(), place) && !self.is_aggregation_node(place)
     }
 
+    /// The same with these cables in place of its own.
+    pub fn with_cables(self, cables: Vec<Cable>) -> Plan
+        ensures { result ≡ record self { cables = cables.items } }
+    {
+        Plan {
+            nodes: self.nodes,
+            cables,
+            apart: self.apart,
+            ends: self.ends,
+            aggregation: self.aggregation,
+            lids: self.lids,
+        }
+    }
+
     /// What an audit takes of a topology.
     pub fn of(alloc: Global, topology: &LargeTopology) -> Result<Plan, AllocError>
         ensures { IfOk result (λ plan. plan ≡ plan_of topology.now) }

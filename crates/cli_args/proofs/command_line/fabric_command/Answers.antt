@@ -1,4 +1,4 @@
-use Rattle.std.proofs.Common.{◌≡◌, ◌∙◌, true, ap, codes, refl}
+use Rattle.std.proofs.Common.{◌≡◌, true, ap, codes, refl}
 use Rattle.clap.specs.Words.{App, app_of, new_app}
 use Rattle.cli_args.proofs.command_line.fabric_command.Goals as goal
 

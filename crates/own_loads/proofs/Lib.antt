@@ -1,0 +1,3 @@
+pub mod RowLemmas
+pub mod EndLemmas
+pub mod SoundLemmas

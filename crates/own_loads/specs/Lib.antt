@@ -1,0 +1,3 @@
+pub mod HeldRows
+pub mod OwnDump
+pub mod OwnLoads

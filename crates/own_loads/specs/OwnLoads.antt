@@ -1,0 +1,39 @@
+-- What is printed of the loads of a subnet's fabric: by the LFTs that its switches hold, over the cables that are up, and by the
+-- P_Keys of its end ports.
+use Rattle.std.specs.Prelude.{ℕ, Bool, if◌then◌else◌, List, [], ◌∷◌, filter, flat_map, Option, Some, None, is_some}
+use Rattle.std.specs.Option.{option_map_or}
+use Rattle.cable_load.specs.declared.talk.PortKeys.{PortKeys}
+use Rattle.cable_load.specs.Talk.{may_talk}
+use Rattle.cable_load.specs.Text.{load_of_plan}
+use Rattle.fabric_parts.specs.Cable.{far_end, port}
+use Rattle.fabric_parts.specs.declared.cable.Cable.{Cable}
+use Rattle.route_audit.specs.Plan.{plan_of}
+use Rattle.smp_wire.specs.FabricState.{FabricState}
+use Rattle.subnet_model.specs.declared.subnet_port.SubnetPort.{SubnetPort}
+use Rattle.topo_file.specs.Node.{place_of}
+use Rattle.topo_file.specs.Topology.{TopologyState}
+use Rattle.topo_file.specs.declared.node.Node.{Node}
+use Rattle.own_loads.specs.OwnDump.{own_dump}
+
+-- ---- the P_Keys of end ports, which are found by the names of their nodes
+abbrev pub port_keys : List Node → SubnetPort → List PortKeys
+port_keys nodes one = option_map_or (λ place. record { at = port place one.number; keys = one.keys } ∷ []) (place_of one.node_name nodes) []
+
+abbrev pub keys_of : List Node → List SubnetPort → List PortKeys
+keys_of nodes ports = flat_map (port_keys nodes) ports
+
+-- those that share a partition talk to one another, or, if all are asked for, all
+abbrev pub talk_of : List Node → List SubnetPort → (all : Bool) → Option (List PortKeys)
+talk_of nodes ports all = if all then None else Some (keys_of nodes ports)
+
+-- ---- the cables of the topology over which packets go in the fabric
+abbrev pub is_up : FabricState → Cable → Bool
+is_up fabric cable = is_some (far_end fabric.cables cable.first)
+
+abbrev pub over_cables_up : FabricState → TopologyState → TopologyState
+over_cables_up fabric plan = record plan { cables = filter (is_up fabric) plan.cables }
+
+-- ---- end ports have these GUIDs, from LID 1 on
+abbrev pub own_load_text : TopologyState → List SubnetPort → (lids : List ℕ) → FabricState → (all : Bool) → List ℕ
+own_load_text plan ports lids fabric all =
+    load_of_plan (plan_of (over_cables_up fabric plan)) (own_dump plan lids fabric) (may_talk (talk_of plan.nodes ports all))
