@@ -42,7 +42,7 @@ shared_is tables classes ports rows source end one other knows rows_are low low'
     ∙ ap (option_map (shares keys)) (class_has tables classes ports end other knows low' is')
 
 -- ---- one port more, before those whose classes are known
-same_port : (a b : PortRef) → is_same_port a b ≡ true → a ≡ b
+pub same_port : (a b : PortRef) → is_same_port a b ≡ true → a ≡ b
 same_port a b same =
     let parts = and_parts (a.node == b.node) (a.port == b.port) same in
     ap (λ (n : ℕ). port n a.port) (eqb-true a.node b.node parts.0) ∙ ap (port b.node) (eqb-true a.port b.port parts.1)

@@ -6,6 +6,8 @@ pub mod PairLemmas
 pub mod OrderLemmas
 pub mod LineLemmas
 pub mod WholeLemmas
+pub mod CableLemmas
+pub mod ArrivalLemmas
 pub mod LevelLemmas
 pub mod WrongLemmas
 pub mod ExampleLemmas

@@ -98,7 +98,7 @@ once_in_range k low (suc many) = elim (cases_Bool (low == k)) [
 ]
 
 -- ---- each channel is once among them
-none_of_range : {X : Type 0} (xs : List X) → count_by (λ x. false) xs ≡ 0
+pub none_of_range : {X : Type 0} (xs : List X) → count_by (λ x. false) xs ≡ 0
 none_of_range [] = refl
 none_of_range (x ∷ xs) = count_not (λ one. false) x xs refl ∙ none_of_range xs
 
@@ -120,7 +120,7 @@ ports_once place many at = elim (cases_Bool (place == at.node)) [
       omega (arith, by_number, mapped, none)
 ]
 
-channels_once : (net : NetState) (at : PortRef) → count_by (λ channel. is_same_port channel at) (channels net) ≤ 1
+pub channels_once : (net : NetState) (at : PortRef) → count_by (λ channel. is_same_port channel at) (channels net) ≤ 1
 channels_once net at =
     let all = count_flat (λ channel. is_same_port channel at) (channels_of net) (λ place. place == at.node) (switches net.plan.nodes)
     (λ place.
@@ -131,7 +131,7 @@ channels_once net at =
     let once = once_in_range at.node 0 (length net.plan.nodes) in
     omega (arith, all, kept, once)
 
-one_or_none : {X : Type 0} (p : X → Bool) (xs : List X) → count_by p xs ≤ 1 → count_by p xs ≡ cond (list_any p xs) 1 0
+pub one_or_none : {X : Type 0} (p : X → Bool) (xs : List X) → count_by p xs ≤ 1 → count_by p xs ≡ cond (list_any p xs) 1 0
 one_or_none p xs most = elim (cases_Bool (list_any p xs)) [
   | inl some ↦
       let any : (count_by p xs == 0) ≡ false = none_counted p xs ∙ ap not some in
@@ -144,17 +144,17 @@ one_or_none p xs most = elim (cases_Bool (list_any p xs)) [
 ]
 
 -- ---- the order drops none, and has none twice
-of_load : (p : Loaded → Bool) (load : ℕ) (all : List Loaded) → count_by p (filter (has_load load) all) ≡ count_by (λ one. has_load load one && p one) all
-of_load p load [] = refl
-of_load p load (one ∷ all) = elim (cases_Bool (has_load load one)) [
+pub of_kept : {X : Type 0} (p q : X → Bool) (xs : List X) → count_by p (filter q xs) ≡ count_by (λ x. q x && p x) xs
+of_kept p q [] = refl
+of_kept p q (x ∷ xs) = elim (cases_Bool (q x)) [
   | inl here ↦
-      let kept : filter (has_load load) (one ∷ all) ≡ one ∷ filter (has_load load) all = rw here refl in
-      ap (count_by p) kept ∙ count_first p one (filter (has_load load) all) ∙ ap (λ (n : ℕ). cond (p one) 1 0 + n) (of_load p load all)
-      ∙ sym (count_first (λ x. has_load load x && p x) one all ∙ ap (λ (b : Bool). cond (b && p one) 1 0 + count_by (λ x. has_load load x && p x) all) here)
+      let kept : filter q (x ∷ xs) ≡ x ∷ filter q xs = rw here refl in
+      ap (count_by p) kept ∙ count_first p x (filter q xs) ∙ ap (λ (n : ℕ). cond (p x) 1 0 + n) (of_kept p q xs)
+      ∙ sym (count_first (λ y. q y && p y) x xs ∙ ap (λ (b : Bool). cond (b && p x) 1 0 + count_by (λ y. q y && p y) xs) here)
   | inr other ↦
-      let kept : filter (has_load load) (one ∷ all) ≡ filter (has_load load) all = rw other refl in
-      let off : (has_load load one && p one) ≡ false = rw other refl in
-      ap (count_by p) kept ∙ of_load p load all ∙ sym (count_not (λ x. has_load load x && p x) one all off)
+      let kept : filter q (x ∷ xs) ≡ filter q xs = rw other refl in
+      let off : (q x && p x) ≡ false = rw other refl in
+      ap (count_by p) kept ∙ of_kept p q xs ∙ sym (count_not (λ y. q y && p y) x xs off)
 ]
 
 count_parts : (a b c : Loaded → Bool) (all : List Loaded) → ((one : Loaded) → cond (a one) 1 0 + cond (b one) 1 0 ≡ cond (c one) 1 0)
@@ -200,12 +200,12 @@ up_to_split load most true = elim (cases_lt most load) [
 
 count_from : (p : Loaded → Bool) (all : List Loaded) (most : ℕ) → count_by p (from_load all most) ≡ count_by (λ one. nat_le one.load most && p one) all
 count_from p all zero =
-    of_load p 0 all
+    of_kept p (has_load 0) all
     ∙ count_agree (λ one. has_load 0 one && p one) (λ one. nat_le one.load 0 && p one) all
     (λ one. let same : (one.load == 0) ≡ nat_le one.load 0 = grind (arith, nat_tests) in ap (λ (b : Bool). b && p one) same)
 count_from p all (suc most) =
     sum_by-append (λ one. cond (p one) 1 0) (filter (has_load (suc most)) all) (from_load all most)
-    ∙ ap (λ (n : ℕ). n + count_by p (from_load all most)) (of_load p (suc most) all)
+    ∙ ap (λ (n : ℕ). n + count_by p (from_load all most)) (of_kept p (has_load (suc most)) all)
     ∙ ap (λ (n : ℕ). count_by (λ one. has_load (suc most) one && p one) all + n) (count_from p all most)
     ∙ count_parts (λ one. has_load (suc most) one && p one) (λ one. nat_le one.load most && p one) (λ one. nat_le one.load (suc most) && p one) all
     (λ one. up_to_split one.load most (p one))

@@ -4,7 +4,7 @@ use Rattle.std.proofs.Common.{Option}
 use Rattle.std.specs.List.{count_by}
 use Rattle.std.specs.Option.{option_and_then, option_map_or}
 use Rattle.std.proofs.lemmas.Bool.{cases_Bool, cases_lt}
-use Rattle.std.proofs.lemmas.List.{flat_map_more, get_or_past, take_more}
+use Rattle.std.proofs.lemmas.List.{flat_map_more, get_or_past, length-append, take_more}
 use Rattle.std.proofs.lemmas.List.Sums.{sum_by-append, sum_by-cons}
 use Rattle.std.proofs.lemmas.Option.{slice_get_past}
 use Rattle.fabric_parts.specs.Cable.{port}
@@ -19,9 +19,10 @@ use Rattle.route_audit.specs.declared.following.Fate.{Fate}
 use Rattle.route_audit.specs.declared.following.Fate.TheVariants as fates
 use Rattle.route_audit.specs.Following.{fate}
 use Rattle.route_audit.specs.Pairs.{is_fate}
-use Rattle.cable_load.specs.Counts.{counted_by, counts_of}
+use Rattle.cable_load.specs.Counts.{counted_by, counts_of, plus}
+use Rattle.cable_load.specs.declared.counting.Counts.{Counts}
 use Rattle.cable_load.specs.Sources.{Entrance, Pair, pair_from, pairs_in, sends}
-use Rattle.cable_load.specs.Walk.{of_pairs, on_way, senders, sum_at, AreSums, GrowBy}
+use Rattle.cable_load.specs.Walk.{of_pairs, on_way, senders, sum_at, AreSums, GrowBy, HasSums}
 use Rattle.cable_load.specs.Ways.{goes_over, is_lost, is_on, is_unknown, loses, way}
 use Rattle.cable_load.proofs.SumLemmas.{grow_on, grow_same}
 
@@ -142,10 +143,6 @@ none_over net place number (pair ∷ pairs) past =
     off false n = omega arith
 
 -- ---- the sums of some pairs
-pub record HasSums (net : NetState) (pairs : List Pair) (sums : List ℕ) : Type 0 where
-  pub long : length sums ≡ length net.plan.nodes * 256
-  pub each : (place number : ℕ) → place * 256 + number < length sums → number < 256 → sum_at sums place number ≡ of_pairs net pairs place number
-
 pub sums_are : (net : NetState) (pairs : List Pair) (sums : List ℕ) → HasSums net pairs sums → AreSums net pairs sums
 sums_are net pairs sums has place number low = elim (cases_lt place (length net.plan.nodes)) [
   | inl less ↦
@@ -173,3 +170,47 @@ counts_from net talk lid end one count found is found_is =
     ap (λ (n : ℕ). record { pairs = n; lost = cond (loses found) count 0; unknown = cond (is_fate fates.Unknown found) count 0 }) all
     ∙ ap (λ (n : ℕ). record { pairs = length (pairs_in talk lid end one); lost = n; unknown = cond (is_fate fates.Unknown found) count 0 }) lost
     ∙ ap (λ (n : ℕ). record { pairs = length (pairs_in talk lid end one); lost = count_by (is_lost net) (pairs_in talk lid end one); unknown = n }) unknown
+
+-- ---- counts of pairs of one more of a list
+counts_join : (net : NetState) (some others : List Pair) → plus (counts_of net some) (counts_of net others) ≡ counts_of net (some ++ others)
+counts_join net some others =
+    ap (λ (n : ℕ). record { pairs = n; lost = count_by (is_lost net) some + count_by (is_lost net) others; unknown = count_by (is_unknown net) some + count_by (is_unknown net) others })
+    (sym (length-append some others))
+    ∙ ap (λ (n : ℕ). record { pairs = length (some ++ others); lost = n; unknown = count_by (is_unknown net) some + count_by (is_unknown net) others })
+    (sym (sum_by-append (λ pair. cond (is_lost net pair) 1 0) some others))
+    ∙ ap (λ (n : ℕ). record { pairs = length (some ++ others); lost = count_by (is_lost net) (some ++ others); unknown = n })
+    (sym (sum_by-append (λ pair. cond (is_unknown net pair) 1 0) some others))
+
+more_joined : {X : Type 0} (pairs : X → List Pair) (all : List X) (index : ℕ) (none one : X) → index < length all → one ≡ get_or all index none
+    → flat_map pairs (take index all) ++ pairs one ≡ flat_map pairs (take (index + 1) all)
+more_joined pairs all index none one within here =
+    flat_map_more pairs [] (take index all) one ∙ ap (λ last. flat_map pairs (take index all ++ last ∷ [])) here ∙ ap (flat_map pairs) (sym (take_more all index none within))
+
+pub counts_more : {X : Type 0} (net : NetState) (pairs : X → List Pair) (all : List X) (index : ℕ) (none one : X) (before more after : Counts) → index < length all → one ≡ get_or all index none
+    → before ≡ counts_of net (flat_map pairs (take index all)) → more ≡ counts_of net (pairs one) → after ≡ plus before more
+    → after ≡ counts_of net (flat_map pairs (take (index + 1) all))
+counts_more net pairs all index none one before more after within here was these is =
+    is ∙ ap (λ (counts : Counts). plus counts more) was ∙ ap (plus (counts_of net (flat_map pairs (take index all)))) these
+    ∙ counts_join net (flat_map pairs (take index all)) (pairs one) ∙ ap (counts_of net) (more_joined pairs all index none one within here)
+
+-- ---- sums of pairs of one more of a list
+pub sums_more : {X : Type 0} (net : NetState) (pairs : X → List Pair) (all : List X) (index : ℕ) (none one : X) (before after : List ℕ) → index < length all → one ≡ get_or all index none
+    → HasSums net (flat_map pairs (take index all)) before → GrowBy (of_pairs net (pairs one)) before after
+    → HasSums net (flat_map pairs (take (index + 1) all)) after
+sums_more net pairs all index none one before after within here has grown = record {
+  long = grown.long ∙ has.long;
+  each = λ place number low small.
+      let same = grown.long in
+      let inside : place * 256 + number < length before = omega (arith, low, same) in
+      grown.each place number inside small ∙ ap (λ (n : ℕ). n + of_pairs net (pairs one) place number) (has.each place number inside small)
+      ∙ sym (sum_by-append (λ pair. cond (goes_over net (port place number) pair) 1 0) (flat_map pairs (take index all)) (pairs one))
+      ∙ ap (λ (some : List Pair). of_pairs net some place number) (more_joined pairs all index none one within here);
+}
+
+-- ---- no pairs
+empty : {X : Type 0} (xs : List X) → length xs ≡ 0 → xs ≡ []
+empty [] none = refl
+empty (x ∷ xs) none = absurd (omega (arith, none))
+
+pub none_in : (talk : PortRef → PortRef → Bool) (lid : ℕ) (end : PortRef) (one : Entrance) → senders talk end one.ports ≡ 0 → [] ≡ pairs_in talk lid end one
+none_in talk lid end one none = sym (empty (pairs_in talk lid end one) (length_pairs talk lid end one.place one.ports ∙ none))

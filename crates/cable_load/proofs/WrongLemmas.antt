@@ -1,10 +1,19 @@
 -- What is wrong with the wrong rules.
-use Rattle.std.proofs.Common.{ℕ, ◌≡◌, ap, false, refl, sym, ◌≤◌, List, [], ◌∷◌, length, lit<, arith}
+use Rattle.std.proofs.Common.{ℕ, ◌≡◌, ap, false, refl, sym, ◌≤◌, List, [], ◌∷◌, length, lit<, nat_eq, None, arith}
 use Rattle.std.proofs.lemmas.Bool.{false≢true}
+use Rattle.step_results.proofs.DistinctLemmas.{distinct}
 use Rattle.fabric_parts.specs.Cable.{port}
+use Rattle.netdiscover_file.specs.Sound.{IsSound, shares_guid, shares_port as shares_line}
+use Rattle.topo_file.specs.Sound.{shares_port}
+use Rattle.route_audit.specs.Plan.{cable_at, joining_cables, plan_found}
+use Rattle.route_audit.specs.WrongRules.{a_plug}
 use Rattle.cable_load.specs.Laws.{LeadsToHost}
 use Rattle.cable_load.specs.Sources.{Pair}
-use Rattle.cable_load.specs.WrongRules.{FirstPortsDoNotAddUp, LevelsBeginAt0, LostPairsLoad, NotAllAreLeaves, PairsCountOnce, SilentPortsDoNotCount, UnusedChannelsHaveALine, WaysGoOn, no_hosts, pairs_to_k, to_k, two_switches}
+use Rattle.cable_load.specs.Talk.{may_talk}
+use Rattle.cable_load.specs.WrongRules.{FirstLinksCountToo, FirstPortsDoNotAddUp, LastLinksCountToo, LevelsBeginAt0, LostPairsLoad, NotAllAreLeaves}
+use Rattle.cable_load.specs.WrongRules.{PairsCountOnce, PortsCountFrom1, SilentPortsDoNotCount, UnusedChannelsHaveALine, WaysGoOn}
+use Rattle.cable_load.specs.WrongRules.{four_switches, no_hosts, pairs_to_k, to_k, two_switches}
+use Rattle.cable_load.proofs.CableLemmas.{lead_back}
 
 -- A sends LID 2 to B
 pub ways_go_on : WaysGoOn
@@ -23,6 +32,37 @@ silent_ports_do_not_count law =
 pub first_ports_do_not_add_up : FirstPortsDoNotAddUp
 first_ports_do_not_add_up law =
     let none : 1 ≡ 2 = law (two_switches 2 2) (pairs_to_k (two_switches 2 2)) (port 0 2 ∷ port 1 2 ∷ []) in absurd (omega (arith, none))
+
+-- what h/1 sends comes to D from C, the third switch
+pub last_links_count_too : LastLinksCountToo
+last_links_count_too law =
+    let cables = lead_back four_switches.plan four_switches.plan.cables refl (distinct shares_port four_switches.plan.cables refl) (λ a b joined. joined) in
+    let none : 0 ≡ 1 = law four_switches (may_talk None) 2 5 (port 3 1) cables refl in absurd (omega (arith, none))
+
+-- it comes to B from A, the first
+pub first_links_count_too : FirstLinksCountToo
+first_links_count_too law =
+    let net = two_switches 2 1 in
+    let cables = lead_back net.plan net.plan.cables refl (distinct shares_port net.plan.cables refl) (λ a b joined. joined) in
+    let none : 0 ≡ 1 = law net (may_talk None) 2 1 (port 3 1) cables refl in absurd (omega (arith, none))
+
+-- the cable from port 1 to port 2 of a switch
+ports_are_sound : IsSound a_plug
+ports_are_sound = record {
+  lines = record {
+    own_nodes = distinct shares_guid a_plug.nodes refl;
+    own_lines = distinct shares_line a_plug.ports refl;
+    own_guids = distinct nat_eq [] refl;
+    are_ports = refl;
+    have_own = refl;
+  };
+  cables = refl;
+  found = refl;
+}
+
+pub ports_count_from_1 : PortsCountFrom1
+unfolding plan_found joining_cables cable_at
+ports_count_from_1 law = false≢true ((law.discovery a_plug ports_are_sound).ports (port 0 0) (port 0 1) refl)
 
 pub pairs_count_once : PairsCountOnce
 pairs_count_once law = let most : 2 ≤ 1 = law (two_switches 2 1) (pairs_to_k (two_switches 2 1)) (port 0 2) in absurd (omega (arith, most))

@@ -1,23 +1,32 @@
 -- What is so of all fabrics, dumps, LIDs and pairs: the statements of the laws of `src/laws.rt`.
-use Rattle.std.specs.Prelude.{ℕ, ◌+◌, ◌<◌, ◌≤◌, ◌≡◌, ◌==◌, Bool, true, not, List, [], ◌∷◌, count_by, filter, length, if◌then◌else◌}
+use Rattle.std.specs.Prelude.{ℕ, ◌+◌, ◌<◌, ◌≤◌, ◌≡◌, ◌==◌, ◌&&◌, Bool, true, not, List, [], ◌∷◌, count_by, filter, length, if◌then◌else◌, Some}
 use Rattle.std.specs.List.{list_any, sum_by}
-use Rattle.fabric_parts.specs.Cable.{is_same_port}
+use Rattle.fabric_parts.specs.Cable.{far_end, is_same_port}
+use Rattle.fabric_parts.specs.declared.cable.Cable.{Cable}
 use Rattle.fabric_parts.specs.declared.cable.PortRef.{PortRef}
+use Rattle.fabric_parts.specs.declared.limits.Limits.{Limits}
+use Rattle.netdiscover_file.specs.Discovery.{DiscoveryState}
+use Rattle.netdiscover_file.specs.Sound.{IsSound}
 use Rattle.topo_file.specs.Node.{is_switch_at, ports_at}
+use Rattle.topo_file.specs.Sound.{IsSoundWithin, is_port}
+use Rattle.topo_file.specs.Topology.{TopologyState}
 use Rattle.route_audit.specs.declared.entry.Entry.TheVariants.{Out}
+use Rattle.route_audit.specs.declared.following.Fate.TheVariants as fates
 use Rattle.route_audit.specs.declared.following.Turn.TheVariants as turns
 use Rattle.route_audit.specs.declared.lids.Aim.{Aim}
-use Rattle.route_audit.specs.Channels.{channels}
-use Rattle.route_audit.specs.Following.{turn_by}
+use Rattle.route_audit.specs.Channels.{channels, leads_to}
+use Rattle.route_audit.specs.Following.{turn, turn_by}
 use Rattle.route_audit.specs.Laws.{ComesBy}
 use Rattle.route_audit.specs.Net.{NetState}
+use Rattle.route_audit.specs.Pairs.{is_fate}
+use Rattle.route_audit.specs.Plan.{PlanState, plan_found, plan_of}
 use Rattle.cable_load.specs.declared.levels.TheConstants.{LEVELS}
 use Rattle.cable_load.specs.declared.loaded.Loaded.{Loaded}
 use Rattle.cable_load.specs.Levels.{carries, level_of}
 use Rattle.cable_load.specs.Loads.{load, loads}
 use Rattle.cable_load.specs.Order.{ordered}
-use Rattle.cable_load.specs.Sources.{Pair, pairs_by}
-use Rattle.cable_load.specs.Ways.{goes_over, is_on, way}
+use Rattle.cable_load.specs.Sources.{Pair, pairs_by, pairs_to_end}
+use Rattle.cable_load.specs.Ways.{fate_of, goes_over, is_on, way}
 
 -- ---- the switches of a way
 -- packets come there over these switches, however many, exactly where the switch is on the way
@@ -70,6 +79,44 @@ AddsUp loaded =
 
 abbrev pub LoadsAddUp : Type 0
 LoadsAddUp = AddsUp load
+
+-- ---- the last links to a port
+-- the cable of each port leads back to it, and its node has that port
+pub record CablesLeadBack (plan : PlanState) : Type 0 where
+  pub ports : (at there : PortRef) → far_end plan.cables at ≡ Some there → is_port plan.nodes at ≡ true
+  pub back : (at there : PortRef) → far_end plan.cables at ≡ Some there → far_end plan.cables there ≡ Some at
+
+-- so it is in the plan of each topology, whichever of its cables are up, and in that of each discovery
+pub record TakesCables (of_topology : TopologyState → PlanState) (of_discovery : DiscoveryState → PlanState) : Type 0 where
+  pub topology : (limits : Limits) (topology : TopologyState) → IsSoundWithin limits topology → CablesLeadBack (of_topology topology)
+  pub cables_up : (limits : Limits) (topology : TopologyState) (is_up : Cable → Bool) → IsSoundWithin limits topology
+      → CablesLeadBack (of_topology (record topology { cables = filter is_up topology.cables }))
+  pub discovery : (found : DiscoveryState) → IsSound found → CablesLeadBack (of_discovery found)
+
+abbrev pub CablesOfPlansLeadBack : Type 0
+CablesOfPlansLeadBack = TakesCables plan_of plan_found
+
+-- the pairs to the LID of this port
+abbrev pub pairs_of : NetState → (talk : PortRef → PortRef → Bool) → (lid : ℕ) → (end : PortRef) → List Pair
+pairs_of net talk lid end = pairs_to_end net talk lid (Some end)
+
+-- the channels whose cable leads to this switch
+abbrev pub last_channels : NetState → (home : ℕ) → List PortRef
+last_channels net home = filter (λ at. leads_to net at home) (channels net)
+
+-- its packets begin at another switch than this, and reach their port
+abbrev pub arrives_over : NetState → (home : ℕ) → Pair → Bool
+arrives_over net home pair = not (pair.place == home) && is_fate fates.Reached (fate_of net pair)
+
+-- if a switch delivers the LID to its port, the loads of the channels that lead to this switch add up to the number of pairs that
+-- reach the port from other switches
+abbrev pub CarriesWhatArrives : (NetState → List Pair → PortRef → ℕ) → Type 0
+CarriesWhatArrives loaded =
+    (net : NetState) (talk : PortRef → PortRef → Bool) (lid home : ℕ) (end : PortRef) → CablesLeadBack net.plan → turn net lid home ≡ turns.Arrives end
+    → sum_by (loaded net (pairs_of net talk lid end)) (last_channels net home) ≡ count_by (arrives_over net home) (pairs_of net talk lid end)
+
+abbrev pub LastLinksCarryWhatArrives : Type 0
+LastLinksCarryWhatArrives = CarriesWhatArrives load
 
 -- ---- lines
 abbrev pub is_at : PortRef → Loaded → Bool

@@ -79,6 +79,13 @@ text_by net pairs = text_of net (loads net pairs) (counts_of net pairs)
 unfoldable pub load_text_of : NetState → (talk : PortRef → PortRef → Bool) → List ℕ
 load_text_of net talk = text_by net (pairs_by net talk (aims net))
 
+-- what the lines of channels are of
+unfoldable pub loads_of : NetState → (talk : PortRef → PortRef → Bool) → List Loaded
+loads_of net talk = loads net (pairs_by net talk (aims net))
+
+abbrev pub loads_of_plan : PlanState → DumpState → (talk : PortRef → PortRef → Bool) → List Loaded
+loads_of_plan plan dump talk = loads_of (record { plan = plan; dump = dump }) talk
+
 abbrev pub load_of_plan : PlanState → DumpState → (talk : PortRef → PortRef → Bool) → List ℕ
 load_of_plan plan dump talk = load_text_of (record { plan = plan; dump = dump }) talk
 

@@ -42,6 +42,11 @@ of_pairs net pairs place number = count_by (goes_over net (port place number)) p
 abbrev pub AreSums : NetState → List Pair → List ℕ → Type 0
 AreSums net pairs sums = (place number : ℕ) → number < 256 → sum_at sums place number ≡ of_pairs net pairs place number
 
+-- of the ports that have a place
+pub record HasSums (net : NetState) (pairs : List Pair) (sums : List ℕ) : Type 0 where
+  pub long : length sums ≡ length net.plan.nodes * 256
+  pub each : (place number : ℕ) → place * 256 + number < length sums → number < 256 → sum_at sums place number ≡ of_pairs net pairs place number
+
 -- ---- stamps
 abbrev pub is_stamped : List ℕ → (stamp place : ℕ) → Bool
 is_stamped marks stamp place = get_or marks place 0 == stamp

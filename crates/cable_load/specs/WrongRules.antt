@@ -1,23 +1,27 @@
 -- Wrong rules for what is reported, and the law that each breaks.
-use Rattle.std.specs.Prelude.{ℕ, ◌+◌, ◌*◌, ◌==◌, ◌&&◌, Bool, not, List, [], ◌∷◌, codes, count_by, filter, None, Some}
+use Rattle.std.specs.Prelude.{ℕ, ◌+◌, ◌-◌, ◌*◌, ◌==◌, ◌&&◌, Bool, not, List, [], ◌∷◌, ◌++◌, codes, count_by, filter, map, None, Some}
 use Rattle.dump_file.specs.declared.destination.Destination.TheVariants as destinations
 use Rattle.dump_file.specs.declared.table.Table.{Table}
 use Rattle.fabric_parts.specs.Cable.{port}
+use Rattle.fabric_parts.specs.declared.cable.Cable.{Cable}
 use Rattle.fabric_parts.specs.declared.cable.PortRef.{PortRef}
 use Rattle.fabric_parts.specs.declared.node_type.NodeType.{NodeType}
 use Rattle.fabric_parts.specs.declared.node_type.NodeType.TheVariants.{ChannelAdapter, Switch}
+use Rattle.netdiscover_file.specs.Discovery.{DiscoveryState}
 use Rattle.topo_file.specs.declared.node.Node.{Node}
 use Rattle.topo_file.specs.Topology.{TopologyState}
 use Rattle.route_audit.specs.declared.lids.Aim.{Aim}
+use Rattle.route_audit.specs.Channels.{leaves_by}
 use Rattle.route_audit.specs.Net.{NetState}
-use Rattle.route_audit.specs.Plan.{plan_of}
+use Rattle.route_audit.specs.Plan.{PlanState, plan_found, plan_of}
 use Rattle.cable_load.specs.declared.loaded.Loaded.{Loaded}
-use Rattle.cable_load.specs.Laws.{AddsUp, CountsTalkers, FollowsWays, MeasuresLevels, NamesEachOnce, ReportsUnused, StaysWithin, all_talk, lines_of}
+use Rattle.cable_load.specs.Laws.{AddsUp, CarriesWhatArrives, CountsTalkers, FollowsWays, MeasuresLevels, NamesEachOnce, ReportsUnused, StaysWithin}
+use Rattle.cable_load.specs.Laws.{TakesCables, all_talk, lines_of}
 use Rattle.cable_load.specs.Levels.{level_of}
 use Rattle.cable_load.specs.Loads.{load}
 use Rattle.cable_load.specs.Sources.{Pair, pairs_by}
 use Rattle.cable_load.specs.Talk.{may_talk}
-use Rattle.cable_load.specs.Ways.{goes_over, is_lost, way_within}
+use Rattle.cable_load.specs.Ways.{goes_over, is_lost, is_on, way_within}
 
 -- ---- two switches A and B with a cable from A/2 to B/2, and the hosts h at A/1 and k at B/1
 abbrev pub node : List ℕ → NodeType → ℕ → Node
@@ -72,6 +76,41 @@ first_alone net pairs at = count_by (λ pair. (pair.place == at.node) && goes_ov
 
 abbrev pub FirstPortsDoNotAddUp : Type 0
 FirstPortsDoNotAddUp = AddsUp first_alone → ⊥
+
+-- ---- a pair loads ports of the first two switches of its way alone
+abbrev pub first_two : NetState → List Pair → PortRef → ℕ
+first_two net pairs at = count_by (λ pair. is_on at.node (way_within net pair.lid 2 pair.place) && leaves_by net at pair.lid) pairs
+
+abbrev pub LastLinksCountToo : Type 0
+LastLinksCountToo = CarriesWhatArrives first_two → ⊥
+
+-- four switches in a row, A, B, C and D, with the host h at A/1 and k at D/1
+abbrev pub four_switches : NetState
+four_switches = record {
+  plan = plan_of (record a_plan {
+    nodes = a_plan.nodes ++ node (codes "C") Switch 48 ∷ node (codes "D") Switch 64 ∷ [];
+    cables = record { first = port 0 1; second = port 2 1 } ∷ record { first = port 0 2; second = port 1 1 } ∷ record { first = port 1 2; second = port 4 1 }
+        ∷ record { first = port 4 2; second = port 5 2 } ∷ record { first = port 5 1; second = port 3 1 } ∷ [];
+  });
+  dump = record { tables = a_table 16 2 ∷ a_table 32 2 ∷ a_table 48 2 ∷ a_table 64 1 ∷ [] };
+}
+
+-- ---- a pair does not load the first port by which its packets leave
+abbrev pub but_first : NetState → List Pair → PortRef → ℕ
+but_first net pairs at = count_by (λ pair. not (pair.place == at.node) && goes_over net at pair) pairs
+
+abbrev pub FirstLinksCountToo : Type 0
+FirstLinksCountToo = CarriesWhatArrives but_first → ⊥
+
+-- ---- the ports of a discovery count from 0
+abbrev pub from_0 : Cable → Cable
+from_0 cable = record { first = port cable.first.node (cable.first.port - 1); second = port cable.second.node (cable.second.port - 1) }
+
+abbrev pub plan_from_0 : DiscoveryState → PlanState
+plan_from_0 found = record (plan_found found) { cables = map from_0 (plan_found found).cables }
+
+abbrev pub PortsCountFrom1 : Type 0
+PortsCountFrom1 = TakesCables plan_of plan_from_0 → ⊥
 
 -- ---- each pair counts twice
 abbrev pub twice : NetState → List Pair → PortRef → ℕ

@@ -2,7 +2,8 @@
 
 ghost use Rattle.std.specs.Prelude.{◌≡◌};
 ghost use Rattle.cable_load.specs.declared.levels.TheConstants.{LEVELS};
-ghost use Rattle.cable_load.specs.Laws.{EachChannelHasOneLine, LevelsAreDistances, LoadsAddUp, LoadsAreOfPairs, LoadsStayWithin, TalkersCount, WaysAreWhole};
+ghost use Rattle.cable_load.specs.Laws.{CablesOfPlansLeadBack, EachChannelHasOneLine, LastLinksCarryWhatArrives, LevelsAreDistances};
+ghost use Rattle.cable_load.specs.Laws.{LoadsAddUp, LoadsAreOfPairs, LoadsStayWithin, TalkersCount, WaysAreWhole};
 
 /// A switch is on the way of a LID if and only if packets come to it along the entries, over however many switches.
 pub fn ways_are_whole()
@@ -32,6 +33,17 @@ pub fn loads_are_of_pairs()
 /// The loads of some ports add up to how many of these the packets of each pair leave by.
 pub fn loads_add_up()
     ensures { LoadsAddUp }
+{}
+
+/// In a topology, whichever of its cables are up, and in a discovery the cable of each port leads back to it, and its node has that
+/// port.
+pub fn cables_of_plans_lead_back()
+    ensures { CablesOfPlansLeadBack }
+{}
+
+/// If a switch delivers a LID to its port, the links to this switch carry as many pairs of the LID as reach the port from others.
+pub fn last_links_carry_what_arrives()
+    ensures { LastLinksCarryWhatArrives }
 {}
 
 /// No load is greater than the number of pairs.

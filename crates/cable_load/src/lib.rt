@@ -1,7 +1,7 @@
 //! How the traffic of a fabric is spread over its cables, by the tables that stand in its switches.
 //!
 //! [`load_text`] takes a topology and the LFTs that `dump_file` read, [`load_text_found`] what `netdiscover_file` read in place of
-//! the topology, and [`load_of_plan`] either, and the P_Keys by which ports may talk. For each direction of a cable between two switches
+//! the topology, and [`load_of_plan`] either, and the P_Keys by which ports may talk. [`loads_of_plan`] returns the numbers. For each direction of a cable between two switches
 //! they say how many pairs go over it: a host's port that sends, and a LID of another host's port. `specs/Sources.antt` says which
 //! pairs there are, `specs/Talk.antt` which ports may talk, `specs/Ways.antt` which way a packet goes,
 //! `specs/Loads.antt` what is counted, and `specs/Text.antt` what is printed.
@@ -25,10 +25,11 @@ mod wrong_rules;
 
 pub use crate::examples::texts_are_so;
 pub use crate::laws::{
-    each_channel_has_one_line, levels_are_distances, loads_add_up, loads_are_of_pairs,
-    loads_stay_within, talkers_count, the_numbers, ways_are_whole,
+    cables_of_plans_lead_back, each_channel_has_one_line, last_links_carry_what_arrives,
+    levels_are_distances, loads_add_up, loads_are_of_pairs, loads_stay_within, talkers_count,
+    the_numbers, ways_are_whole,
 };
 pub use crate::levels::LEVELS;
 pub use crate::loaded::Loaded;
 pub use crate::talk::{PortKeys, Talk};
-pub use crate::texts::{load_of_plan, load_text, load_text_found};
+pub use crate::texts::{load_of_plan, load_text, load_text_found, loads_of_plan};

@@ -9,9 +9,9 @@ ghost use Rattle.cable_load.specs.Text.{level_line, level_means, level_text, lev
 ghost use Rattle.cable_load.specs.Counts.{counts_of};
 ghost use Rattle.cable_load.specs.Sources.{pairs_by};
 ghost use Rattle.cable_load.specs.Talk.{may_talk};
-ghost use Rattle.cable_load.specs.Text.{end_text, hundredths, least_line, load_line, load_of_plan, load_text, load_text_found, load_text_of, mean_line, most_line, pairs_line, summary, text_by, text_of};
+ghost use Rattle.cable_load.specs.Text.{end_text, hundredths, least_line, load_line, load_of_plan, load_text, load_text_found, load_text_of, loads_of, loads_of_plan, mean_line, most_line, pairs_line, summary, text_by, text_of};
 
-use crate::counting::{Counts, counted};
+use crate::counting::Counts;
 use crate::levels::{LEVELS, levels, of_level};
 use crate::loaded::Loaded;
 use crate::loads::loads;
@@ -279,8 +279,7 @@ fn text_by(net: &Net<'_>, alloc: Global, talk: &Talk, aims: &[Aim]) -> Result<Ve
     ensures { IfOk result (λ text. text.items ≡ text_by net.now (pairs_by net.now (may_talk talk.now) aims.now)) }
 {
     let entrances = entrances(net, alloc)?;
-    let loads = loads(net, alloc, &entrances, talk, aims)?;
-    let counts = counted(net, &entrances, talk, aims)?;
+    let (loads, counts) = loads(net, alloc, &entrances, talk, aims)?;
     let text = text_of(net, alloc, loads, counts)?;
     Ok(text)
 }
@@ -310,7 +309,31 @@ pub fn load_of_plan(
     Ok(text)
 }
 
-/// The same over a topology, for all pairs.
+#[tactic(auto, unfolding(crate::specs::Text::loads_of))]
+fn loads_of(net: &Net<'_>, alloc: Global, talk: &Talk) -> Result<Vec<Loaded>, AllocError>
+    ensures { IfOk result (λ found. found.items ≡ loads_of net.now (may_talk talk.now)) }
+{
+    let aims = net.aims(alloc)?;
+    let entrances = entrances(net, alloc)?;
+    let (found, _) = loads(net, alloc, &entrances, talk, &aims)?;
+    Ok(found)
+}
+
+/// The loads that [`load_of_plan`] prints: the channels in the order of switches and then of ports, and how many pairs go over each.
+pub fn loads_of_plan(
+    alloc: Global,
+    plan: &Plan,
+    dump: &Dump,
+    talk: &Talk,
+) -> Result<Vec<Loaded>, AllocError>
+    ensures { IfOk result (λ found. found.items ≡ loads_of_plan plan.now dump.now (may_talk talk.now)) }
+{
+    let net = Net::new(alloc, plan, dump)?;
+    let found = loads_of(&net, alloc, talk)?;
+    Ok(found)
+}
+
+/// What [`load_of_plan`] prints over a topology, for all pairs.
 pub fn load_text(
     alloc: Global,
     topology: &LargeTopology,
@@ -322,7 +345,7 @@ pub fn load_text(
     load_of_plan(alloc, &plan, dump, &Talk::of_all())
 }
 
-/// The same over a discovery.
+/// What it prints over a discovery.
 pub fn load_text_found(alloc: Global, found: &Discovery, dump: &Dump) -> Result<Vec<u8>, AllocError>
     ensures { IfOk result (λ text. text.items ≡ load_text_found found.now dump.now) }
 {

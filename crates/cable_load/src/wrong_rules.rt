@@ -1,7 +1,7 @@
 //! Wrong rules for what is reported, and the law that each breaks, so that a reader sees that the laws say something. Each
 //! function does nothing: its contract says that with this rule the law is false.
 
-ghost use Rattle.cable_load.specs.WrongRules.{FirstPortsDoNotAddUp, LevelsBeginAt0, NotAllAreLeaves, LostPairsLoad, PairsCountOnce, SilentPortsDoNotCount, UnusedChannelsHaveALine, WaysGoOn};
+ghost use Rattle.cable_load.specs.WrongRules.{FirstLinksCountToo, FirstPortsDoNotAddUp, LastLinksCountToo, LevelsBeginAt0, LostPairsLoad, NotAllAreLeaves, PairsCountOnce, PortsCountFrom1, SilentPortsDoNotCount, UnusedChannelsHaveALine, WaysGoOn};
 
 /// If a way ended at its first switch, packets would come to a switch that is not on it.
 pub fn ways_go_on()
@@ -21,6 +21,21 @@ pub fn silent_ports_do_not_count()
 /// If a pair loaded the first port alone by which its packets leave, the loads of two ports would not add up.
 pub fn first_ports_do_not_add_up()
     ensures { FirstPortsDoNotAddUp }
+{}
+
+/// If a pair loaded ports of its first two switches alone, nothing would arrive over a third link.
+pub fn last_links_count_too()
+    ensures { LastLinksCountToo }
+{}
+
+/// If a pair did not load the first port, nothing would arrive over a link that is the only one.
+pub fn first_links_count_too()
+    ensures { FirstLinksCountToo }
+{}
+
+/// If the ports of a discovery counted from 0, a cable would end at a port 0.
+pub fn ports_count_from_1()
+    ensures { PortsCountFrom1 }
 {}
 
 /// If each pair counted twice, a load would be more than there are pairs.

@@ -17,7 +17,7 @@ use Rattle.cli_args.specs.declared.call.Call.TheVariants.{Explain}
 use Rattle.cli_args.specs.declared.call.Work.{Work}
 use Rattle.cli_args.specs.declared.call.Work.TheVariants.{Check, Compare, Cuts, Diff, Inspect, Manage, Run, Shares, Smps}
 use Rattle.cli_args.specs.declared.call.Inspection.{Inspection}
-use Rattle.cli_args.specs.declared.call.Inspection.TheVariants.{Graph, Keys, Tables}
+use Rattle.cli_args.specs.declared.call.Inspection.TheVariants.{Graph, Keys, LoadGraph, Tables}
 use Rattle.cli_args.specs.declared.call.DumpView.{DumpView}
 use Rattle.cli_args.specs.declared.call.DumpView.TheVariants as dump_view
 use Rattle.cli_args.specs.declared.call.Subcommand.{Subcommand}
@@ -122,13 +122,18 @@ inspect_given rows (Some what) asked e =
     by None at = All-nil (IsWordOf rows)
     by (Some word) at = All-cons (IsWordOf rows) word [] (codes "SCRIPT", at) (All-nil (IsWordOf rows))
 
-graph_given : (rows : List Row) (cuts : Bool) → WorkIsGiven rows (graph_with cuts (first_of (codes "SCRIPT") rows))
-graph_given rows cuts asked e = by cuts (first_of (codes "SCRIPT") rows) refl e
+graph_given : (rows : List Row) (cuts load all : Bool) → WorkIsGiven rows (graph_with cuts load all (first_of (codes "SCRIPT") rows))
+graph_given rows cuts load all asked e = by cuts load all (first_of (codes "SCRIPT") rows) refl e
   where
-    by : (flag : Bool) (script : Option Text) → first_of (codes "SCRIPT") rows ≡ script → graph_with flag script ≡ Some asked → All (IsWordOf rows) (work_names asked)
-    by true (Some word) at is = absurd cc
-    by true None at is = without_file rows (Cuts Picture) refl asked is
-    by false script at is = inspect_given rows (Some Graph) asked (rw at is)
+    by : (cuts load all : Bool) (script : Option Text) → first_of (codes "SCRIPT") rows ≡ script → graph_with cuts load all script ≡ Some asked
+        → All (IsWordOf rows) (work_names asked)
+    by true false false None at is = without_file rows (Cuts Picture) refl asked is
+    by false true all script at is = inspect_given rows (Some (LoadGraph all)) asked (rw at is)
+    by false false false script at is = inspect_given rows (Some Graph) asked (rw at is)
+    by true true all script at is = absurd cc
+    by true false true script at is = absurd cc
+    by true false false (Some word) at is = absurd cc
+    by false false true script at is = absurd cc
 
 compare_given : (rows : List Row) → WorkIsGiven rows (compare_by rows)
 compare_given rows asked e = by (first_of (codes "S1") rows) refl (first_of (codes "S2") rows) refl (first_of (codes "PORT") rows) e
@@ -230,7 +235,7 @@ command_given command.Diff rows = subnet_given rows _ (diff_given rows)
 command_given command.Tables rows = subnet_given rows _ (inspect_given rows (Some Tables))
 command_given command.Keys rows = subnet_given rows _ (inspect_given rows (Some Keys))
 command_given command.Trace rows = subnet_given rows _ (inspect_given rows (trace_by rows))
-command_given command.Graph rows = subnet_given rows _ (graph_given rows (is_given rows (codes "CUTS")))
+command_given command.Graph rows = subnet_given rows _ (graph_given rows (is_given rows (codes "CUTS")) (is_given rows (codes "LOAD")) (is_given rows (codes "ALL")))
 command_given command.Run rows = subnet_given rows _ (run_given rows)
 command_given command.Smp rows = subnet_given rows _ (smps_given rows)
 command_given command.Manage rows = subnet_given rows _ (manage_given rows)
@@ -271,6 +276,7 @@ files_stand_in_order = record {
   trace = refl;
   graph = refl;
   picture = refl;
+  hot = refl;
   run = refl;
   smp = refl;
   manage = refl;

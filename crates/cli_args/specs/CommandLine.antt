@@ -45,8 +45,16 @@ trace_command =
 abbrev pub cuts_flag : Rule
 cuts_flag = record (new_rule (codes "CUTS")) { long = Some (codes "cuts"); action = Some SetTrue }
 
+abbrev pub all_flag : Rule
+all_flag = record (new_rule (codes "ALL")) { long = Some (codes "all"); action = Some SetTrue }
+
+abbrev pub load_flag : Rule
+load_flag = record (new_rule (codes "LOAD")) { long = Some (codes "load"); action = Some SetTrue }
+
 abbrev pub graph_command : App
-graph_command = with_rule (with_rule (subnet_command (codes "graph")) (optional (codes "SCRIPT"))) cuts_flag
+graph_command =
+    let drawn = with_rule (subnet_command (codes "graph")) (optional (codes "SCRIPT")) in
+    with_rule (with_rule (with_rule drawn cuts_flag) load_flag) all_flag
 
 abbrev pub run_command : App
 run_command = with_rule (subnet_command (codes "run")) (wanted (codes "SCRIPT"))
@@ -84,9 +92,6 @@ abbrev pub dump_option : Rule
 dump_option = record (new_rule (codes "DUMP")) { long = Some (codes "dump"); action = Some Set; value_names = 1 }
 
 -- `--all`
-abbrev pub all_flag : Rule
-all_flag = record (new_rule (codes "ALL")) { long = Some (codes "all"); action = Some SetTrue }
-
 abbrev pub load_command : App
 load_command =
     let files = with_rule (with_rule (new_app (codes "load")) (wanted (codes "FABRIC"))) (optional (codes "PARTS")) in

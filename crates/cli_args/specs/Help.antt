@@ -121,6 +121,9 @@ help_of_second_end = codes "The switch port at its other end"
 abbrev pub help_of_cuts : List ℕ
 help_of_cuts = codes "Draws in red the cables that the fabric cannot do without"
 
+abbrev pub help_of_load : List ℕ
+help_of_load = codes "Draws cables in the width and colour of their loads"
+
 abbrev pub help_of_fabric : List ℕ
 help_of_fabric = codes "What ibnetdiscover printed of the fabric, or its topology"
 

@@ -47,6 +47,8 @@ pub record FilesStandInOrder : Type 0 where
       ≡ codes "net" ∷ codes "parts" ∷ codes "sends" ∷ []
   pub graph : opened_by (codes "graph" ∷ codes "net" ∷ codes "parts" ∷ codes "sends" ∷ []) ≡ codes "net" ∷ codes "parts" ∷ codes "sends" ∷ []
   pub picture : opened_by (codes "graph" ∷ codes "net" ∷ codes "parts" ∷ codes "--cuts" ∷ []) ≡ codes "net" ∷ codes "parts" ∷ []
+  pub hot : opened_by (codes "graph" ∷ codes "net" ∷ codes "parts" ∷ codes "sends" ∷ codes "--load" ∷ codes "--all" ∷ [])
+      ≡ codes "net" ∷ codes "parts" ∷ codes "sends" ∷ []
   pub run : opened_by (codes "run" ∷ codes "net" ∷ codes "parts" ∷ codes "sends" ∷ []) ≡ codes "net" ∷ codes "parts" ∷ codes "sends" ∷ []
   pub smp : opened_by (codes "smp" ∷ codes "net" ∷ codes "parts" ∷ codes "smps" ∷ []) ≡ codes "net" ∷ codes "parts" ∷ codes "smps" ∷ []
   pub manage : opened_by (codes "manage" ∷ codes "net" ∷ codes "parts" ∷ codes "replies" ∷ []) ≡ codes "net" ∷ codes "parts" ∷ codes "replies" ∷ []

@@ -19,12 +19,12 @@ use Rattle.cli_args.specs.declared.call.CutView.TheVariants.{All, One, Picture}
 use Rattle.cli_args.specs.declared.call.Call.TheVariants.{AuditKeys, Dumped, Explain, Import, Subnet}
 use Rattle.cli_args.specs.declared.call.Work.{Work}
 use Rattle.cli_args.specs.declared.call.Inspection.{Inspection}
-use Rattle.cli_args.specs.declared.call.Inspection.TheVariants.{Graph, Keys, Load, Tables, Trace}
+use Rattle.cli_args.specs.declared.call.Inspection.TheVariants.{Graph, Keys, Load, LoadGraph, Tables, Trace}
 use Rattle.cli_args.specs.declared.call.DumpView.{DumpView}
 use Rattle.cli_args.specs.declared.call.DumpView.TheVariants as dump_view
 use Rattle.cli_args.specs.declared.call.Subcommand.{Subcommand}
 use Rattle.cli_args.specs.declared.call.Subcommand.TheVariants as command
-use Rattle.cli_args.specs.declared.help.TheConstants.{NO_SCRIPT_WITH_CUTS, NO_SECOND_PORT, NO_SUCH_CODE, NO_SUCH_GUID, NO_SUCH_KEYS_GUID, NO_SUCH_NUMBER, PARTS_OR_DUMP}
+use Rattle.cli_args.specs.declared.help.TheConstants.{NO_SECOND_PORT, NO_SUCH_CODE, NO_SUCH_GUID, NO_SUCH_KEYS_GUID, NO_SUCH_NUMBER, ONE_PICTURE, PARTS_OR_DUMP}
 use Rattle.cli_args.specs.declared.call.Work.TheVariants.{Check, Compare, Cuts, Diff, Inspect, Manage, Run, Shares, Smps}
 use Rattle.text_words.specs.Number.{if_under, number_in, u16_in}
 
@@ -40,6 +40,7 @@ named_inspection Keys = Keys
 named_inspection (Trace port dlid p_key) = Trace port.now dlid p_key
 named_inspection Graph = Graph
 named_inspection (Load all) = Load all
+named_inspection (LoadGraph all) = LoadGraph all
 
 abbrev pub named_view : CutView (Bor Text) → CutView Text
 named_view All = All
@@ -122,14 +123,16 @@ inspect_by rows seen = option_map (λ what. Inspect what (first_of (codes "SCRIP
 abbrev pub is_given : List Row → Text → Bool
 is_given rows name = option_map_or (λ value. bytes_eq value (codes "true")) (first_of name rows) false
 
--- a picture; with `--cuts` it takes no script
-abbrev pub graph_with : (cuts : Bool) → Option Text → Option (Work Text Text Text)
-graph_with true (Some script) = None
-graph_with true None = Some (Cuts Picture)
-graph_with false script = Some (Inspect Graph script)
+-- a picture; with `--cuts` it takes neither a script nor `--load`, and it takes `--all` with `--load` alone
+abbrev pub graph_with : (cuts load all : Bool) → Option Text → Option (Work Text Text Text)
+graph_with true false false None = Some (Cuts Picture)
+graph_with false true all script = Some (Inspect (LoadGraph all) script)
+graph_with false false false script = Some (Inspect Graph script)
+graph_with _ _ _ _ = None
 
 abbrev pub graph_by : List Row → Option (Work Text Text Text)
-graph_by rows = graph_with (is_given rows (codes "CUTS")) (first_of (codes "SCRIPT") rows)
+graph_by rows =
+    graph_with (is_given rows (codes "CUTS")) (is_given rows (codes "LOAD")) (is_given rows (codes "ALL")) (first_of (codes "SCRIPT") rows)
 
 abbrev pub packet_by : Option Text → Option ℕ → Option ℕ → Option (Inspection Text)
 packet_by (Some port) (Some dlid) (Some p_key) = Some (Trace port dlid p_key)
@@ -242,14 +245,14 @@ subcommand_in word =
     else None
 
 -- the text for an argument that clap accepts and the command cannot take: in a trace it is not a number, in an import or an audit of
--- keys not a GUID, in cuts the second port is missing, in a picture `--cuts` has a script, loads have neither partitions nor a dump, or both,
+-- keys not a GUID, in cuts the second port is missing, a picture is none of those above, loads have neither partitions nor a dump, or both,
 -- and else it is not a code
 abbrev pub text_for : Subcommand → Text
 text_for command.Trace = NO_SUCH_NUMBER.now
 text_for command.Import = NO_SUCH_GUID.now
 text_for command.AuditKeys = NO_SUCH_KEYS_GUID.now
 text_for command.Cuts = NO_SECOND_PORT.now
-text_for command.Graph = NO_SCRIPT_WITH_CUTS.now
+text_for command.Graph = ONE_PICTURE.now
 text_for command.Load = PARTS_OR_DUMP.now
 text_for _ = NO_SUCH_CODE.now
 

@@ -120,6 +120,11 @@ pub enum Inspection<W> {
         /// Whether also pairs count that may not talk.
         all: bool,
     },
+    /// A picture, in which the width and colour of a cable show how many pairs go over it.
+    LoadGraph {
+        /// Whether also pairs count that may not talk.
+        all: bool,
+    },
 }
 
 /// What to print of the LFTs of a real fabric.

@@ -243,6 +243,10 @@ ports. The SM's node has a double outline.
 With --cuts the cables that the fabric cannot do without are red: those for which `fabric cuts`
 prints `stops`.
 
+With --load the width and colour of a cable between two switches show how many pairs go over it, in
+its busier direction, as `fabric load` prints them (--all counts all pairs). A legend has the five
+steps.
+
 Four or more CAs of one port that are attached to one switch and are in the same partitions are a
 list, which is one box: a line has the switch's port, the CA and its LID.
 
@@ -316,8 +320,8 @@ proved that `no` never follows `yes`.
     ""
 );
 
-pub(crate) const NO_SCRIPT_WITH_CUTS: &str =
-    "error: --cuts draws the fabric as it is brought up, and takes no SCRIPT
+pub(crate) const ONE_PICTURE: &str =
+    "error: --cuts draws the fabric as it is brought up, without SCRIPT and --load; --all needs --load
 
 For more information, try 'fabric graph --help'.
 ";

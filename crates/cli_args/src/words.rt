@@ -14,8 +14,8 @@ use crate::call::{
 };
 use crate::command_line::Parser;
 use crate::help::{
-    NO_SCRIPT_WITH_CUTS, NO_SECOND_PORT, NO_SUCH_CODE, NO_SUCH_GUID, NO_SUCH_KEYS_GUID,
-    NO_SUCH_NUMBER, NOT_TEXT, PARTS_OR_DUMP,
+    NO_SECOND_PORT, NO_SUCH_CODE, NO_SUCH_GUID, NO_SUCH_KEYS_GUID, NO_SUCH_NUMBER, NOT_TEXT,
+    ONE_PICTURE, PARTS_OR_DUMP,
 };
 use clap::ArgMatches;
 use code_texts::Code;
@@ -118,7 +118,7 @@ fn text_for(command: Subcommand) -> &'static str
         Subcommand::Import => NO_SUCH_GUID,
         Subcommand::AuditKeys => NO_SUCH_KEYS_GUID,
         Subcommand::Cuts => NO_SECOND_PORT,
-        Subcommand::Graph => NO_SCRIPT_WITH_CUTS,
+        Subcommand::Graph => ONE_PICTURE,
         Subcommand::Load => PARTS_OR_DUMP,
         _ => NO_SUCH_CODE,
     }
@@ -246,11 +246,14 @@ fn inspect_by<'a>(
     })
 }
 
-/// A picture; with `--cuts` it is of the fabric as it is brought up, and takes no script.
+/// A picture; with `--cuts` it is of the fabric as it is brought up.
 fn graph_by<'a>(found: &ArgMatches<'a>) -> Option<NamedWork<'a>>
     ensures { option_map named_work result ≡ graph_by (rows_of (found_of found.now)) }
 {
-    graph_with(is_given(found, "CUTS"), word_of(found, "SCRIPT"))
+    let cuts = is_given(found, "CUTS");
+    let load = is_given(found, "LOAD");
+    let all = is_given(found, "ALL");
+    graph_with(cuts, load, all, word_of(found, "SCRIPT"))
 }
 
 /// Whether a flag is given.
@@ -263,16 +266,20 @@ fn is_given<'a>(found: &ArgMatches<'a>, name: &str) -> bool
     }
 }
 
-fn graph_with(cuts: bool, script: Option<&str>) -> Option<NamedWork<'_>>
-    ensures { option_map named_work result ≡ graph_with cuts (option_map (λ word. word.now) script.entry) }
+fn graph_with(cuts: bool, load: bool, all: bool, script: Option<&str>) -> Option<NamedWork<'_>>
+    ensures { option_map named_work result ≡ graph_with cuts load all (option_map (λ word. word.now) script.entry) }
 {
-    match (cuts, script) {
-        (true, Some(_)) => None,
-        (true, None) => Some(Work::Cuts(CutView::Picture)),
-        (false, script) => Some(Work::Inspect {
+    match (cuts, load, all, script) {
+        (true, false, false, None) => Some(Work::Cuts(CutView::Picture)),
+        (false, true, all, script) => Some(Work::Inspect {
+            what: Inspection::LoadGraph { all },
+            script,
+        }),
+        (false, false, false, script) => Some(Work::Inspect {
             what: Inspection::Graph,
             script,
         }),
+        _ => None,
     }
 }
 

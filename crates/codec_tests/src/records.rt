@@ -543,20 +543,9 @@ fn services_read_and_write(rt: HostRuntime) {
     }
 }
 
-#[test]
-fn services_are_asked_for_by_what_constrains_them(rt: HostRuntime) {
-    let shown = service();
-    assert!(rt; shown.selected_by(u64::MAX, &shown));
-    assert!(rt;
-        shown.selected_by(
-            u64::MAX,
-            &ServiceRecord {
-                service_p_key: 0x0001,
-                ..shown
-            }
-        )
-    );
-    for (bits, other) in [
+/// For each field but the data its bit of the mask, and a service that is like this one except there.
+fn others(shown: ServiceRecord) -> [(u64, ServiceRecord); 6] {
+    [
         (
             1u64 << 0,
             ServiceRecord {
@@ -599,7 +588,23 @@ fn services_are_asked_for_by_what_constrains_them(rt: HostRuntime) {
                 ..shown
             },
         ),
-    ] {
+    ]
+}
+
+#[test]
+fn services_are_asked_for_by_what_constrains_them(rt: HostRuntime) {
+    let shown = service();
+    assert!(rt; shown.selected_by(u64::MAX, &shown));
+    assert!(rt;
+        shown.selected_by(
+            u64::MAX,
+            &ServiceRecord {
+                service_p_key: 0x0001,
+                ..shown
+            }
+        )
+    );
+    for (bits, other) in others(shown) {
         assert!(rt; !shown.selected_by(bits, &other));
         assert!(rt; shown.selected_by(!bits, &other));
     }

@@ -1,6 +1,6 @@
 -- The result of an invocation, from its arguments, the bytes of its files, and what becomes of the fabric that they describe.
 use Rattle.std.specs.Prelude.{ℕ, ◌≡◌, ◌≢◌, ◌⊎◌, Bool, true, List, [], Option, Some, None, is_some, option_map, unwrap_or, Vec}
-use Rattle.std.specs.Prelude.{codes, if◌then◌else◌, length, string_bytes, ◌++◌, ◌==◌, IfOk, IfSome, Result, Ok, Err}
+use Rattle.std.specs.Prelude.{codes, if◌then◌else◌, length, map, string_bytes, ◌++◌, ◌==◌, IfOk, IfSome, Result, Ok, Err}
 use Rattle.std.specs.Io.KnownBytes.{Appends, Keeps}
 use Rattle.subnet_core.specs.declared.fault.RunFault.{RunFault}
 use Rattle.subnet_core.specs.declared.fault.RunFault.TheVariants as run
@@ -17,7 +17,8 @@ use Rattle.subnet_model.specs.Configuration.{ConfigurationState}
 use Rattle.script_lines.specs.declared.script_cause.ScriptCause.{ScriptCause}
 use Rattle.script_lines.specs.ScriptCause.{code_of as script_code}
 use Rattle.fabric_graph.specs.Graph.{graph_text}
-use Rattle.own_loads.specs.OwnLoads.{own_load_text}
+use Rattle.fabric_graph.specs.Loads.{needed_look}
+use Rattle.own_loads.specs.OwnLoads.{own_load_text, own_looks}
 use Rattle.fabric_tables.specs.Keys.{keys_text}
 use Rattle.fabric_parts.specs.declared.cable.PortRef.{PortRef}
 use Rattle.fabric_tables.specs.Multicast.{tables_text}
@@ -53,7 +54,7 @@ use Rattle.code_texts.specs.Texts.{explained}
 use Rattle.cli_args.specs.declared.call.Call.TheVariants as call
 use Rattle.cli_args.specs.declared.call.Call.TheVariants.{Explain, Subnet}
 use Rattle.cli_args.specs.declared.call.Inspection.{Inspection}
-use Rattle.cli_args.specs.declared.call.Inspection.TheVariants.{Graph, Keys, Load, Tables, Trace}
+use Rattle.cli_args.specs.declared.call.Inspection.TheVariants.{Graph, Keys, Load, LoadGraph, Tables, Trace}
 use Rattle.cli_args.specs.declared.call.Work.{Work}
 use Rattle.cli_args.specs.declared.call.Work.TheVariants as work
 use Rattle.fabric_cli.specs.declared.faults.Stop.TheVariants.{Words, NoMemory, Unread, Unwritten, Run, Second, Unmanaged, Unheard, Unsent, Foreign}
@@ -270,6 +271,9 @@ looked_at inventory up Keys = complete (keys_text inventory.plan.nodes inventory
 looked_at inventory up (Trace port dlid p_key) = traced inventory up dlid p_key (adapter_place inventory.plan port)
 looked_at inventory up Graph = complete (graph_text inventory.plan inventory.configuration up.routes up.fabric [])
 looked_at inventory up (Load all) = complete (own_load_text inventory.plan inventory.configuration.ports up.routes.lids up.fabric all)
+looked_at inventory up (LoadGraph all) =
+    let looks = own_looks inventory.plan inventory.configuration.ports up.routes.lids up.fabric all in
+    complete (graph_text inventory.plan inventory.configuration up.routes up.fabric looks)
 
 -- ---- SMPs that its fabric answers, one after the other: all of them, or those before the first faulty line
 abbrev pub smps_reported : List ℕ → Option ℕ → Ending
@@ -430,7 +434,7 @@ cuts_in (Err fault) view reported = faulted (run_status fault) (run_line fault)
 pub record ShowsNeeded (inventory : InventoryState) (up : BroughtUpState) (reported : List ℕ) : Type 0 where
   pub needed : List Bool
   pub are : AreNeeded inventory.plan inventory.plan.cables needed
-  pub is : reported ≡ graph_text inventory.plan inventory.configuration up.routes up.fabric needed
+  pub is : reported ≡ graph_text inventory.plan inventory.configuration up.routes up.fabric (map needed_look needed)
 
 -- these routes brought the fabric up, and this is printed about its cables
 abbrev pub ReportsCuts : InventoryState → BroughtUpState → CutView (List ℕ) → List ℕ → Type 0

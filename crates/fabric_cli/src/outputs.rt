@@ -4,7 +4,7 @@ ghost use Rattle.std.specs.Prelude.{◌≡◌, Err, Ok, Some, None, option_copie
 ghost use Rattle.cable_cuts.specs.Fate.{HaveBroughtUp};
 ghost use Rattle.cli_args.specs.Words.{named_inspection, named_view};
 ghost use Rattle.cli_args.specs.declared.call.CutView.TheVariants.{All as AllCuts, One as OneCut, Picture as CutPicture};
-ghost use Rattle.cli_args.specs.declared.call.Inspection.TheVariants.{Graph as IsGraph, Keys as IsKeys, Load as IsLoad, Tables as IsTables};
+ghost use Rattle.cli_args.specs.declared.call.Inspection.TheVariants.{Graph as IsGraph, Keys as IsKeys, Load as IsLoad, LoadGraph as IsLoadGraph, Tables as IsTables};
 ghost use Rattle.cli_args.specs.declared.call.Work.TheVariants as work;
 ghost use Rattle.fabric_cli.specs.Faults.{IsOfRun};
 ghost use Rattle.fabric_cli.specs.Serving.{asked_port, changes_in, looked_at, second_stop, shares_in, texts_with, traced};
@@ -25,11 +25,11 @@ use cable_cuts::{cut_text, cuts_text, needed};
 use cable_load::{load_text, load_text_found};
 use cli_args::{CutView, DumpView, Inspection};
 use dump_file::{Dump, DumpFault};
-use fabric_graph::graph_text;
+use fabric_graph::{graph_text, needed_looks};
 use fabric_parts::Limits;
 use fabric_tables::{keys_text, tables_text};
 use netdiscover_file::{Discovery, DiscoveryFault, is_discovery};
-use own_loads::own_load_text;
+use own_loads::{own_load_text, own_looks};
 use packet_trace::trace_text;
 use partition_changes::changes_text;
 use port_shares::listed_shares;
@@ -181,6 +181,7 @@ fn looked_at<'a>(
         Inspection::Trace(port, dlid, p_key) => traced(alloc, subnet, port, *dlid, *p_key),
         Inspection::Graph => drawn(alloc, subnet),
         Inspection::Load { all } => loaded(alloc, subnet, *all),
+        Inspection::LoadGraph { all } => loads_drawn(alloc, subnet, *all),
     }
 }
 
@@ -234,6 +235,26 @@ fn loaded<'a>(alloc: Global, subnet: &Subnet, all: bool) -> Result<Vec<u8>, Stop
         subnet.routes().lids(),
         subnet.fabric(),
         all,
+    ))
+}
+
+/// The picture in which cables show how many pairs go over them: those that may talk, or all.
+fn loads_drawn<'a>(alloc: Global, subnet: &Subnet, all: bool) -> Result<Vec<u8>, Stop<'a>>
+    ensures exact { ComesTo (λ text. text.items) (ended (looked_at subnet.now.inventory (up_in subnet.now) (IsLoadGraph all))) result }
+    ensures fault { IfErr result IsOfRun }
+{
+    let inventory = subnet.inventory();
+    let (topology, configuration) = (inventory.topology(), inventory.configuration());
+    let (routes, fabric) = (subnet.routes(), subnet.fabric());
+    let ports = configuration.ports();
+    let looks = own_looks(alloc, topology, ports, routes.lids(), fabric, all)?;
+    text_or_stop(graph_text(
+        alloc,
+        topology,
+        configuration,
+        routes,
+        fabric,
+        looks.as_slice(),
     ))
 }
 
@@ -333,13 +354,14 @@ fn needed_drawn<'a>(alloc: Global, subnet: &Subnet) -> Result<Vec<u8>, Stop<'a>>
     let (topology, configuration) = (inventory.topology(), inventory.configuration());
     let (routes, fabric) = (subnet.routes(), subnet.fabric());
     let needed = needed(alloc, topology, routes)?;
+    let looks = needed_looks(alloc, needed.as_slice())?;
     text_or_stop(graph_text(
         alloc,
         topology,
         configuration,
         routes,
         fabric,
-        needed.as_slice(),
+        looks.as_slice(),
     ))
 }
 

@@ -2,3 +2,4 @@ pub mod RankLemmas
 pub mod DrawnLemmas
 pub mod CableLemmas
 pub mod AttachmentLemmas
+pub mod StepLemmas

@@ -5,6 +5,9 @@ use Rattle.std.specs.Prelude.{ℕ, Bool, true, false, nat_lt, if◌then◌else�
 use Rattle.std.specs.Prelude.{Some, None, is_none}
 use Rattle.std.specs.Option.{option_and_then}
 use Rattle.text_parts.specs.Parts.{quoted}
+use Rattle.fabric_graph.specs.declared.loads.Look.{Look}
+use Rattle.fabric_graph.specs.declared.loads.Look.TheVariants.{Loaded, Needed, Plain}
+use Rattle.fabric_graph.specs.Loads.{loaded_look}
 use Rattle.fabric_graph.specs.Ranks.{rank_of}
 use Rattle.fabric_parts.specs.Cable.{far_end}
 use Rattle.fabric_parts.specs.declared.cable.Cable.{Cable}
@@ -46,19 +49,23 @@ abbrev pub end_labels : Cable → List ℕ
 end_labels cable =
     end_label (codes "taillabel") cable.first.port ++ codes ", " ++ end_label (codes "headlabel") cable.second.port
 
--- a cable that is cut is drawn as a dashed line, and one that is needed in red
-abbrev pub stroke : (cut : Bool) → List ℕ
+-- a cable that is cut is drawn as a dashed line
+unfoldable pub stroke : (cut : Bool) → List ℕ
 stroke cut = if cut then codes ", style=dashed" else []
 
-abbrev pub shade : (needed : Bool) → List ℕ
-shade needed = if needed then codes ", color=red, penwidth=2" else []
+-- one that is needed in red, and one that shows its load in the width and colour of that
+unfoldable pub shade : List Node → (most : ℕ) → Cable → Look → List ℕ
+shade nodes most cable Plain = []
+shade nodes most cable Needed = codes ", color=red, penwidth=2"
+shade nodes most cable (Loaded load) = loaded_look nodes most cable load
 
-abbrev pub look : (cut needed : Bool) → List ℕ
-look cut needed = stroke cut ++ shade needed
+unfoldable pub edge_head : List Node → Cable → List ℕ
+edge_head nodes cable = codes "  " ++ ends nodes cable ++ codes " [" ++ end_labels cable
 
-abbrev pub edge_line : List Node → (look : List ℕ) → Cable → List ℕ
-edge_line nodes look cable = codes "  " ++ ends nodes cable ++ codes " [" ++ end_labels cable ++ look ++ codes "];\n"
+abbrev pub edge_line : List Node → (stroke shade : List ℕ) → Cable → List ℕ
+edge_line nodes stroke shade cable = edge_head nodes cable ++ stroke ++ shade ++ codes "];\n"
 
--- as `"A" -- "h1" [taillabel="2", headlabel="1"];`, or, where it is cut, `"A" -- "B" [taillabel="3", headlabel="3", style=dashed];`
-abbrev pub cable_line : RoutesState → List Node → FabricState → (needed : Bool) → Cable → List ℕ
-cable_line routes nodes fabric needed cable = edge_line nodes (look (is_cut fabric cable) needed) (downward routes nodes cable)
+-- as `"A" -- "h1" [taillabel="2", headlabel="1"];`, or, if it is cut, `"A" -- "B" [taillabel="3", headlabel="3", style=dashed];`
+abbrev pub cable_line : RoutesState → List Node → FabricState → (most : ℕ) → Look → Cable → List ℕ
+cable_line routes nodes fabric most look cable =
+    edge_line nodes (stroke (is_cut fabric cable)) (shade nodes most cable look) (downward routes nodes cable)

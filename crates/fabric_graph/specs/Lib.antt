@@ -2,6 +2,8 @@ pub mod Partitions
 pub mod Nodes
 pub mod Lists
 pub mod Ranks
+pub mod Loads
 pub mod Cables
 pub mod Graph
 pub mod Laws
+pub mod WrongRules

@@ -1,30 +1,48 @@
-//! The cables of a topology, as edges; those that are cut in the fabric are dashed, and those that are needed are red.
+//! The cables of a topology, as edges; those that are cut in the fabric are dashed.
 
 ghost use Rattle.std.specs.Prelude.{◌≡◌, ◌++◌, OnOk};
-ghost use Rattle.fabric_graph.specs.Cables.{cable_line, downward, edge_line, end_label, end_labels, ends, is_above, is_cut, rank_at};
-ghost use Rattle.fabric_graph.specs.Cables.{look};
+ghost use Rattle.fabric_graph.specs.Cables.{cable_line, downward, edge_head, end_label, end_labels, ends, is_above, is_cut, rank_at};
+ghost use Rattle.fabric_graph.specs.Cables.{shade, stroke};
 
+use crate::lists::Attachment;
+use crate::loads::{Look, push_loaded_look};
 use crate::ranks::rank_of;
 use fabric_parts::Cable;
 use fabric_wire::Fabric;
 use std::alloc::AllocError;
 use text_parts::{push_decimal, push_quoted};
-use topo_file::{Node, name_at};
+use topo_file::{Node, Topology, name_at};
 use updn_routes::Routes;
+
+/// What the edges are drawn of.
+#[derive(Clone, Copy)]
+pub(crate) struct Edges<'a> {
+    pub(crate) topology: &'a Topology,
+    pub(crate) routes: &'a Routes,
+    pub(crate) fabric: &'a Fabric,
+    /// Where each adapter that may stand in a list is attached.
+    pub(crate) attachments: &'a [Option<Attachment>],
+    /// How the cable at each place of the topology is drawn.
+    pub(crate) looks: &'a [Look],
+    /// The greatest load of all cables.
+    pub(crate) most: usize,
+}
 
 /// Adds the edge of a cable.
 pub(crate) fn push_cable_line(
     text: &mut Vec<u8>,
-    routes: &Routes,
-    nodes: &[Node],
-    fabric: &Fabric,
-    needed: bool,
+    edges: Edges<'_>,
+    look: Look,
     cable: &Cable,
 ) -> Result<(), AllocError>
-    ensures { OnOk result (text.new.items ≡ text.old.items ++ cable_line routes.now nodes.now fabric.now needed cable.now) }
+    ensures { OnOk result (text.new.items ≡ text.old.items
+        ++ cable_line edges.entry.routes.now edges.entry.topology.now.nodes edges.entry.fabric.now edges.entry.most look cable.now) }
 {
-    let look = look(is_cut(fabric, cable), needed);
-    push_edge_line(text, nodes, look, downward(routes, nodes, *cable))
+    let nodes = edges.topology.nodes();
+    push_edge_head(text, nodes, downward(edges.routes, nodes, *cable))?;
+    text.extend_from_slice(stroke(is_cut(edges.fabric, cable)))?;
+    push_shade(text, nodes, edges.most, *cable, look)?;
+    text.extend_from_slice(b"];\n")
 }
 
 /// Whether nothing goes over this cable of the topology in the fabric.
@@ -68,31 +86,39 @@ fn is_above(one: Option<usize>, other: Option<usize>) -> bool
     }
 }
 
-fn push_edge_line(
-    text: &mut Vec<u8>,
-    nodes: &[Node],
-    look: &[u8],
-    cable: Cable,
-) -> Result<(), AllocError>
-    ensures { OnOk result (text.new.items ≡ text.old.items ++ edge_line nodes.now look.now cable) }
+/// Adds the ends of an edge, and the numbers of their ports.
+#[tactic(auto, unfolding(crate::specs::Cables::edge_head))]
+fn push_edge_head(text: &mut Vec<u8>, nodes: &[Node], cable: Cable) -> Result<(), AllocError>
+    ensures { OnOk result (text.new.items ≡ text.old.items ++ edge_head nodes.now cable) }
 {
     text.extend_from_slice(b"  ")?;
     push_ends(text, nodes, cable)?;
     text.extend_from_slice(b" [")?;
-    push_end_labels(text, cable)?;
-    text.extend_from_slice(look)?;
-    text.extend_from_slice(b"];\n")
+    push_end_labels(text, cable)
 }
 
-/// How the edge of a cable is drawn.
-fn look(cut: bool, needed: bool) -> &'static [u8]
-    ensures { result.now ≡ look cut needed }
+/// How the edge of a cable is drawn that is cut, or is not.
+#[tactic(auto, unfolding(crate::specs::Cables::stroke))]
+fn stroke(cut: bool) -> &'static [u8]
+    ensures { result.now ≡ stroke cut }
 {
-    match (cut, needed) {
-        (true, true) => b", style=dashed, color=red, penwidth=2",
-        (true, false) => b", style=dashed",
-        (false, true) => b", color=red, penwidth=2",
-        (false, false) => b"",
+    if cut { b", style=dashed" } else { b"" }
+}
+
+#[tactic(auto, unfolding(crate::specs::Cables::shade))]
+fn push_shade(
+    text: &mut Vec<u8>,
+    nodes: &[Node],
+    most: usize,
+    cable: Cable,
+    look: Look,
+) -> Result<(), AllocError>
+    ensures { OnOk result (text.new.items ≡ text.old.items ++ shade nodes.now most cable look) }
+{
+    match look {
+        Look::Plain => Ok(()),
+        Look::Needed => text.extend_from_slice(b", color=red, penwidth=2"),
+        Look::Loaded(load) => push_loaded_look(text, nodes, most, cable, load),
     }
 }
 

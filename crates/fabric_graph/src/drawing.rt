@@ -1,14 +1,17 @@
 //! The whole text.
 
-ghost use Rattle.std.specs.Prelude.{◌≡◌, ◌++◌, false, OnOk, IfOk, flat_map, get_or, length};
+ghost use Rattle.std.specs.Prelude.{◌≡◌, ◌++◌, OnOk, IfOk, flat_map, get_or, length};
 ghost use Rattle.std.specs.List.{range_with_len};
+ghost use Rattle.fabric_graph.specs.declared.loads.Look.TheVariants.{Plain};
+ghost use Rattle.fabric_graph.specs.Loads.{most_of};
 ghost use Rattle.fabric_graph.specs.Graph.{edge_at, edge_of, graph_text, head, ranks_drawn};
 ghost use Rattle.fabric_graph.specs.Lists.{place_text, places, spacing};
 ghost use Rattle.fabric_graph.specs.Ranks.{rank_line};
 
-use crate::cables::push_cable_line;
+use crate::cables::{Edges, push_cable_line};
 use crate::list_lines::push_place_text;
 use crate::lists::{Attachment, attachments_of, has_lists, is_in_list};
+use crate::loads::{Look, most_of, push_legend_of};
 use crate::ranks::push_rank_line;
 use fabric_parts::Cable;
 use fabric_wire::Fabric;
@@ -17,25 +20,14 @@ use subnet_model::Configuration;
 use topo_file::{Node, Topology};
 use updn_routes::Routes;
 
-/// What the edges are drawn of.
-#[derive(Clone, Copy)]
-struct Edges<'a> {
-    topology: &'a Topology,
-    routes: &'a Routes,
-    fabric: &'a Fabric,
-    /// Where each adapter that may stand in a list is attached.
-    attachments: &'a [Option<Attachment>],
-    /// Of the cable at each place of the topology, whether it is drawn as needed.
-    needed: &'a [bool],
-}
-
 /// The fabric in DOT: a node of the picture for each node of the topology, or for a list of adapters that are attached to one switch
 /// and are in the same partitions; a row for each rank of switches; and an edge for each cable that no list shows. It
 /// can only run out of memory.
 ///
 /// Switches are boxes and channel adapters ellipses, with the LIDs of their ports, and adapters are coloured by the
-/// partitions other than the default one that they are in. Cables that are cut in the fabric are dashed, and those that are
-/// needed are red: `needed` says of the cable at each place of the topology whether it is.
+/// partitions other than the default one that they are in. Cables that are cut in the fabric are dashed. `looks` says of the cable
+/// at each place of the topology how it is drawn besides; one of which it says nothing is plain. If a cable shows its load, a legend
+/// says which loads each width and colour is for.
 #[tactic(auto, unfolding(crate::specs::Graph::text_by))]
 pub fn graph_text(
     alloc: Global,
@@ -43,9 +35,9 @@ pub fn graph_text(
     configuration: &Configuration,
     routes: &Routes,
     fabric: &Fabric,
-    needed: &[bool],
+    looks: &[Look],
 ) -> Result<Vec<u8>, AllocError>
-    ensures { IfOk result (λ text. text.items ≡ graph_text topology.now configuration.now routes.now fabric.now needed.now) }
+    ensures { IfOk result (λ text. text.items ≡ graph_text topology.now configuration.now routes.now fabric.now looks.now) }
 {
     let attachments = attachments_of(alloc, topology, configuration)?;
     let attachments = attachments.as_slice();
@@ -54,11 +46,13 @@ pub fn graph_text(
         routes,
         fabric,
         attachments,
-        needed,
+        looks,
+        most: most_of(looks),
     };
     let mut text = Vec::new(alloc);
     text.extend_from_slice(head())?;
     text.extend_from_slice(spacing(attachments))?;
+    push_legend_of(&mut text, looks, edges.most)?;
     push_nodes(alloc, &mut text, topology, configuration, attachments)?;
     push_ranks(&mut text, routes, topology.nodes())?;
     push_cables(&mut text, edges)?;
@@ -113,8 +107,9 @@ fn push_ranks(text: &mut Vec<u8>, routes: &Routes, nodes: &[Node]) -> Result<(),
 }
 
 fn push_cables(text: &mut Vec<u8>, edges: Edges<'_>) -> Result<(), AllocError>
+    requires { edges.most ≡ most_of edges.looks.now }
     ensures { OnOk result (text.new.items ≡ text.old.items
-        ++ flat_map (edge_at edges.entry.topology.now edges.entry.routes.now edges.entry.fabric.now edges.entry.attachments.now edges.entry.needed.now)
+        ++ flat_map (edge_at edges.entry.topology.now edges.entry.routes.now edges.entry.fabric.now edges.entry.attachments.now edges.entry.looks.now)
         (range_with_len 0 (length edges.entry.topology.now.cables))) }
 {
     for place in 0..edges.topology.cables().len() {
@@ -126,22 +121,23 @@ fn push_cables(text: &mut Vec<u8>, edges: Edges<'_>) -> Result<(), AllocError>
 /// Adds the edge of the cable at that place, if there is one.
 #[tactic(auto, unfolding(crate::specs::Graph::edge_at))]
 fn push_edge_at(text: &mut Vec<u8>, edges: Edges<'_>, place: usize) -> Result<(), AllocError>
+    requires { edges.most ≡ most_of edges.looks.now }
     ensures { OnOk result (text.new.items ≡ text.old.items
-        ++ edge_at edges.entry.topology.now edges.entry.routes.now edges.entry.fabric.now edges.entry.attachments.now edges.entry.needed.now place) }
+        ++ edge_at edges.entry.topology.now edges.entry.routes.now edges.entry.fabric.now edges.entry.attachments.now edges.entry.looks.now place) }
 {
     match edges.topology.cables().get(place) {
-        Some(cable) => push_edge_of(text, edges, is_needed(edges.needed, place), cable),
+        Some(cable) => push_edge_of(text, edges, look_at(edges.looks, place), cable),
         None => Ok(()),
     }
 }
 
-/// Whether the cable at that place is reported as needed.
-fn is_needed(needed: &[bool], place: usize) -> bool
-    ensures { result ≡ get_or needed.now place false }
+/// How the cable at that place is drawn.
+fn look_at(looks: &[Look], place: usize) -> Look
+    ensures { result ≡ get_or looks.now place Plain }
 {
-    match needed.get(place) {
-        Some(needed) => *needed,
-        None => false,
+    match looks.get(place) {
+        Some(look) => *look,
+        None => Look::Plain,
     }
 }
 
@@ -149,16 +145,15 @@ fn is_needed(needed: &[bool], place: usize) -> bool
 fn push_edge_of(
     text: &mut Vec<u8>,
     edges: Edges<'_>,
-    needed: bool,
+    look: Look,
     cable: &Cable,
 ) -> Result<(), AllocError>
     ensures { OnOk result (text.new.items ≡ text.old.items
-        ++ edge_of edges.entry.topology.now edges.entry.routes.now edges.entry.fabric.now edges.entry.attachments.now needed cable.now) }
+        ++ edge_of edges.entry.topology.now edges.entry.routes.now edges.entry.fabric.now edges.entry.attachments.now edges.entry.most look cable.now) }
 {
     if is_in_list(edges.attachments, cable) {
         Ok(())
     } else {
-        let nodes = edges.topology.nodes();
-        push_cable_line(text, edges.routes, nodes, edges.fabric, needed, cable)
+        push_cable_line(text, edges, look, cable)
     }
 }

@@ -1,6 +1,6 @@
 //! What holds of every drawing. Each function's contract is its law; it does nothing.
 
-ghost use Rattle.fabric_graph.specs.Laws.{EachCableIsDrawnOnce, EachNodeIsDrawnOnce, EachRankHasARow};
+ghost use Rattle.fabric_graph.specs.Laws.{EachCableIsDrawnOnce, EachLoadHasOneRow, EachNodeIsDrawnOnce, EachRankHasARow, StepsAreFifths};
 
 /// Each switch that has a rank stands in a row: its rank is less than the number of switches, since a shortest way to a root
 /// passes no switch twice.
@@ -16,4 +16,14 @@ pub fn each_node_is_drawn_once()
 /// Each cable is drawn once: as an edge, or as the line of the adapter in a list at which it ends.
 pub fn each_cable_is_drawn_once()
     ensures { EachCableIsDrawnOnce }
+{}
+
+/// The step of a load is the least number of fifths of the greatest load, from 1 on, that the load does not exceed.
+pub fn steps_are_fifths()
+    ensures { StepsAreFifths }
+{}
+
+/// Each load is in one row of the legend, which is that of its step.
+pub fn each_load_has_one_row()
+    ensures { EachLoadHasOneRow }
 {}

@@ -1,8 +1,8 @@
 //! The fabric of a subnet as a text in DOT, the language of Graphviz.
 //!
 //! [`graph_text`] draws the nodes and cables of a topology, with the LIDs, partitions and ranks that a subnet manager gave
-//! them (IBA volume 1, chapter 14), and reports by dashes which cables are cut in the fabric. `specs/Graph.antt` says what the
-//! text is.
+//! them (IBA volume 1, chapter 14), and reports by dashes which cables are cut in the fabric. A caller can have cables drawn in red,
+//! or by their loads ([`Look`]). `specs/Graph.antt` says what the text is.
 #![tactic(auto)]
 
 mod cables;
@@ -10,9 +10,15 @@ mod drawing;
 mod laws;
 mod list_lines;
 mod lists;
+mod loads;
 mod nodes;
 mod partitions;
 mod ranks;
+mod wrong_rules;
 
 pub use crate::drawing::graph_text;
-pub use crate::laws::{each_cable_is_drawn_once, each_node_is_drawn_once, each_rank_has_a_row};
+pub use crate::laws::{
+    each_cable_is_drawn_once, each_load_has_one_row, each_node_is_drawn_once, each_rank_has_a_row,
+    steps_are_fifths,
+};
+pub use crate::loads::{CableLoad, Look, needed_looks};

@@ -1,13 +1,17 @@
 -- What is printed of the loads of a subnet's fabric: by the LFTs that its switches hold, over the cables that are up, and by the
 -- P_Keys of its end ports.
-use Rattle.std.specs.Prelude.{ℕ, Bool, if◌then◌else◌, List, [], ◌∷◌, filter, flat_map, Option, Some, None, is_some}
+use Rattle.std.specs.Prelude.{ℕ, Bool, if◌then◌else◌, List, [], ◌∷◌, filter, find, flat_map, map, Option, Some, None, is_some, option_map}
 use Rattle.std.specs.Option.{option_map_or}
 use Rattle.cable_load.specs.declared.talk.PortKeys.{PortKeys}
 use Rattle.cable_load.specs.Talk.{may_talk}
-use Rattle.cable_load.specs.Text.{load_of_plan}
-use Rattle.fabric_parts.specs.Cable.{far_end, port}
+use Rattle.cable_load.specs.Text.{load_of_plan, loads_of_plan}
+use Rattle.cable_load.specs.declared.loaded.Loaded.{Loaded}
+use Rattle.fabric_graph.specs.declared.loads.Look.{Look}
+use Rattle.fabric_graph.specs.declared.loads.Look.TheVariants.{Loaded as LoadedLook, Plain}
+use Rattle.fabric_parts.specs.Cable.{far_end, is_same_port, port}
 use Rattle.fabric_parts.specs.declared.cable.Cable.{Cable}
-use Rattle.route_audit.specs.Plan.{plan_of}
+use Rattle.fabric_parts.specs.declared.cable.PortRef.{PortRef}
+use Rattle.route_audit.specs.Plan.{PlanState, plan_of}
 use Rattle.smp_wire.specs.FabricState.{FabricState}
 use Rattle.subnet_model.specs.declared.subnet_port.SubnetPort.{SubnetPort}
 use Rattle.topo_file.specs.Node.{place_of}
@@ -33,7 +37,27 @@ is_up fabric cable = is_some (far_end fabric.cables cable.first)
 abbrev pub over_cables_up : FabricState → TopologyState → TopologyState
 over_cables_up fabric plan = record plan { cables = filter (is_up fabric) plan.cables }
 
+abbrev pub plan_up : FabricState → TopologyState → PlanState
+plan_up fabric plan = plan_of (over_cables_up fabric plan)
+
 -- ---- end ports have these GUIDs, from LID 1 on
 abbrev pub own_load_text : TopologyState → List SubnetPort → (lids : List ℕ) → FabricState → (all : Bool) → List ℕ
-own_load_text plan ports lids fabric all =
-    load_of_plan (plan_of (over_cables_up fabric plan)) (own_dump plan lids fabric) (may_talk (talk_of plan.nodes ports all))
+own_load_text plan ports lids fabric all = load_of_plan (plan_up fabric plan) (own_dump plan lids fabric) (may_talk (talk_of plan.nodes ports all))
+
+abbrev pub own_loads : TopologyState → List SubnetPort → (lids : List ℕ) → FabricState → (all : Bool) → List Loaded
+own_loads plan ports lids fabric all = loads_of_plan (plan_up fabric plan) (own_dump plan lids fabric) (may_talk (talk_of plan.nodes ports all))
+
+-- ---- how a picture shows them: a cable has a load if packets go over it from one switch to another
+abbrev pub load_at : List Loaded → PortRef → Option ℕ
+load_at all at = option_map (λ one. one.load) (find (λ one. is_same_port one.at at) all)
+
+abbrev pub both : Option ℕ → Option ℕ → Look
+both (Some forth) (Some back) = LoadedLook (record { forth = forth; back = back })
+both _ _ = Plain
+
+abbrev pub cable_look : List Loaded → Cable → Look
+cable_look all cable = both (load_at all cable.first) (load_at all cable.second)
+
+-- by the places of cables in the topology
+abbrev pub own_looks : TopologyState → List SubnetPort → (lids : List ℕ) → FabricState → (all : Bool) → List Look
+own_looks plan ports lids fabric all = map (cable_look (own_loads plan ports lids fabric all)) plan.cables

@@ -1,6 +1,7 @@
 pub mod CycleLemmas
 pub mod NetLemmas
 pub mod PlanLemmas
+pub mod NameLemmas
 pub mod LookupLemmas
 pub mod FollowingLemmas
 pub mod LidLemmas

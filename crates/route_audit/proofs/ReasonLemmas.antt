@@ -1,10 +1,14 @@
--- A verdict that is not safe has a reason.
-use Rattle.std.proofs.Common.{ℕ, ◌≡◌, ◌∙◌, refl, sym, ◌&&◌, Bool, true, false, not, ◌||◌, List, [], ◌∷◌, codes}
+-- A verdict that is not safe has a reason, and each reason is named if and only if it holds.
+use Rattle.std.proofs.Common.{ℕ, ◌≡◌, ◌∙◌, refl, sym, ◌&&◌, Bool, true, false, not, ◌||◌, List, [], ◌∷◌, codes, Option}
 use Rattle.std.proofs.lemmas.Bool.{false≢true}
 use Rattle.route_audit.specs.declared.following.Fate.{Fate}
 use Rattle.route_audit.specs.declared.following.Fate.TheVariants as fates
 use Rattle.route_audit.specs.declared.pairs.Pair.{Pair}
-use Rattle.route_audit.specs.Laws.{UnsafeRoutesHaveAReason}
+use Rattle.fabric_parts.specs.declared.cable.PortRef.{PortRef}
+use Rattle.route_audit.specs.declared.lids.Aim.{Aim}
+use Rattle.route_audit.specs.declared.verdict.Verdict.{Verdict}
+use Rattle.route_audit.specs.Laws.{UnsafeRoutesHaveAReason, has_word}
+use Rattle.route_audit.specs.Net.{NetState}
 use Rattle.route_audit.specs.Pairs.{all_reached, between_hosts, is_fate, pairs_by}
 use Rattle.route_audit.specs.Verdict.{reasons, some_lost, some_unknown, verdict_by, verdict_is_safe, with_reason}
 
@@ -41,9 +45,10 @@ both_true : (a b : Bool) → (a && b) ≡ true → (a ≡ true) × (b ≡ true)
 both_true true b is = (refl, is)
 both_true false b is = absurd (false≢true is)
 
-pub unsafe_routes_have_a_reason : UnsafeRoutesHaveAReason
+reason_is_there : (net : NetState) (all : List Aim) (ring : Option (List PortRef)) → verdict_is_safe (verdict_by net all ring) ≡ false
+    → reasons (verdict_by net all ring) ≡ [] → ⊥
 unfolding reasons
-unsafe_routes_have_a_reason net all ring unsafe none =
+reason_is_there net all ring unsafe none =
     let verdict = verdict_by net all ring in
     let unknown = none_by (verdict.is_known && not verdict.lacks_entries) (codes "unknown") _ (not_empty _ _) none in
     let mismatch = none_by verdict.is_same (codes "mismatch") _ (not_empty _ _) unknown.1 in
@@ -55,3 +60,68 @@ unsafe_routes_have_a_reason net all ring unsafe none =
     all_are_reached (between_hosts (pairs_by net all)) (not_false verdict.loses lost.0) (not_false verdict.lacks_entries known.1) in
     let safe : verdict_is_safe verdict ≡ true = rw (named.0, reached, deadlock.0, mismatch.0, known.0) refl in
     false≢true (sym unsafe ∙ safe)
+
+-- ---- each word is there if and only if its reason holds
+abbrev words : (known same free kept lids : Bool) → List ℕ
+words known same free kept lids =
+    with_reason known (codes "unknown") (with_reason same (codes "mismatch") (with_reason free (codes "deadlock")
+    (with_reason kept (codes "unreached") (with_reason lids (codes "no-lid") []))))
+
+record WordsAre (known same free kept named : Bool) : Type 0 where
+  pub lids : has_word (codes "no-lid") (words known same free kept named) ≡ not named
+  pub pairs : has_word (codes "unreached") (words known same free kept named) ≡ not kept
+  pub loops : has_word (codes "deadlock") (words known same free kept named) ≡ not free
+  pub names : has_word (codes "mismatch") (words known same free kept named) ≡ not same
+  pub entries : has_word (codes "unknown") (words known same free kept named) ≡ not known
+
+words_are : (known same free kept lids : Bool) → WordsAre known same free kept lids
+words_are true true true true true = record { lids = refl; pairs = refl; loops = refl; names = refl; entries = refl }
+words_are true true true true false = record { lids = refl; pairs = refl; loops = refl; names = refl; entries = refl }
+words_are true true true false true = record { lids = refl; pairs = refl; loops = refl; names = refl; entries = refl }
+words_are true true true false false = record { lids = refl; pairs = refl; loops = refl; names = refl; entries = refl }
+words_are true true false true true = record { lids = refl; pairs = refl; loops = refl; names = refl; entries = refl }
+words_are true true false true false = record { lids = refl; pairs = refl; loops = refl; names = refl; entries = refl }
+words_are true true false false true = record { lids = refl; pairs = refl; loops = refl; names = refl; entries = refl }
+words_are true true false false false = record { lids = refl; pairs = refl; loops = refl; names = refl; entries = refl }
+words_are true false true true true = record { lids = refl; pairs = refl; loops = refl; names = refl; entries = refl }
+words_are true false true true false = record { lids = refl; pairs = refl; loops = refl; names = refl; entries = refl }
+words_are true false true false true = record { lids = refl; pairs = refl; loops = refl; names = refl; entries = refl }
+words_are true false true false false = record { lids = refl; pairs = refl; loops = refl; names = refl; entries = refl }
+words_are true false false true true = record { lids = refl; pairs = refl; loops = refl; names = refl; entries = refl }
+words_are true false false true false = record { lids = refl; pairs = refl; loops = refl; names = refl; entries = refl }
+words_are true false false false true = record { lids = refl; pairs = refl; loops = refl; names = refl; entries = refl }
+words_are true false false false false = record { lids = refl; pairs = refl; loops = refl; names = refl; entries = refl }
+words_are false true true true true = record { lids = refl; pairs = refl; loops = refl; names = refl; entries = refl }
+words_are false true true true false = record { lids = refl; pairs = refl; loops = refl; names = refl; entries = refl }
+words_are false true true false true = record { lids = refl; pairs = refl; loops = refl; names = refl; entries = refl }
+words_are false true true false false = record { lids = refl; pairs = refl; loops = refl; names = refl; entries = refl }
+words_are false true false true true = record { lids = refl; pairs = refl; loops = refl; names = refl; entries = refl }
+words_are false true false true false = record { lids = refl; pairs = refl; loops = refl; names = refl; entries = refl }
+words_are false true false false true = record { lids = refl; pairs = refl; loops = refl; names = refl; entries = refl }
+words_are false true false false false = record { lids = refl; pairs = refl; loops = refl; names = refl; entries = refl }
+words_are false false true true true = record { lids = refl; pairs = refl; loops = refl; names = refl; entries = refl }
+words_are false false true true false = record { lids = refl; pairs = refl; loops = refl; names = refl; entries = refl }
+words_are false false true false true = record { lids = refl; pairs = refl; loops = refl; names = refl; entries = refl }
+words_are false false true false false = record { lids = refl; pairs = refl; loops = refl; names = refl; entries = refl }
+words_are false false false true true = record { lids = refl; pairs = refl; loops = refl; names = refl; entries = refl }
+words_are false false false true false = record { lids = refl; pairs = refl; loops = refl; names = refl; entries = refl }
+words_are false false false false true = record { lids = refl; pairs = refl; loops = refl; names = refl; entries = refl }
+words_are false false false false false = record { lids = refl; pairs = refl; loops = refl; names = refl; entries = refl }
+
+not_twice : (b : Bool) → not (not b) ≡ b
+not_twice true = refl
+not_twice false = refl
+
+of : (verdict : Verdict) → WordsAre (verdict.is_known && not verdict.lacks_entries) verdict.is_same verdict.is_free (not verdict.loses) verdict.has_lids
+of verdict = words_are _ _ _ _ _
+
+pub unsafe_routes_have_a_reason : UnsafeRoutesHaveAReason
+unfolding reasons
+unsafe_routes_have_a_reason = record {
+  some = reason_is_there;
+  lids = λ verdict. (of verdict).lids;
+  pairs = λ verdict. (of verdict).pairs ∙ not_twice verdict.loses;
+  loops = λ verdict. (of verdict).loops;
+  names = λ verdict. (of verdict).names;
+  entries = λ verdict. (of verdict).entries;
+}

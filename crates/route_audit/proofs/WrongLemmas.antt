@@ -23,7 +23,7 @@ use Rattle.route_audit.specs.Net.{NetState, table_at}
 use Rattle.route_audit.specs.Verdict.{is_unknown}
 use Rattle.route_audit.specs.declared.ends.LidGuid.{LidGuid}
 use Rattle.route_audit.specs.WrongRules.{AggregationDecidesNothing, UnknownEntriesDecide, an_aggregations_hole, an_unknown_entry, to_each_adapter, with_unknown}
-use Rattle.route_audit.specs.WrongRules.{EachStepHasItsLid, LidsGoOnRound, LostPairsAreAReason, all_three, both_ways, one_way, three_ways}
+use Rattle.route_audit.specs.WrongRules.{EachStepHasItsLid, LidsGoOnRound, LostPairsAreAReason, ReasonsHold, all_three, both_ways, one_way, three_ways}
 use Rattle.route_audit.specs.WrongRules.{FirstPortsAreChannels, HolesAreCounted, HolesHaveALine, LidsAreAsked, LoopsBeginWhereReported, LoopsHaveALine, NobodysLoopsHaveALine, OtherLidsDecide}
 use Rattle.route_audit.specs.WrongRules.{OtherLidsDoNotCount, OtherPortsDecide, OtherTablesDecide, OldLidsDoNotCount, OthersHolesHaveALine, ReportedLidsCount, ReportsComeLast, RowsLeftOutHaveALine, TheLastWaitsForTheFirst, TransitDecidesNothing, TwoMakeACycle, WaysAreAsked}
 use Rattle.route_audit.specs.WrongRules.{WaysAreLonger, a_row_left_out, one_reports, two_say, a_hole, a_hole_at_home, a_loop, a_nobodys_loop, a_routers_hole, a_routers_loop, a_third_table, adapters_row, another_adapter, another_row, by_adapters_lids}
@@ -137,7 +137,12 @@ ways_are_asked law =
     hole_ends way.0 way.1
 
 pub lost_pairs_are_a_reason : LostPairsAreAReason
-lost_pairs_are_a_reason law = law a_hole_at_home (aim_of a_hole_at_home 1 ∷ []) None refl refl
+lost_pairs_are_a_reason law = law.some a_hole_at_home (aim_of a_hole_at_home 1 ∷ []) None refl refl
+
+-- nothing is wrong
+pub reasons_hold : ReasonsHold
+reasons_hold law =
+    false≢true (sym (law.loops (record { has_lids = true; is_reached = true; is_free = true; is_same = true; is_known = true; loses = false; lacks_entries = false })))
 
 hole_is_safe : says_safe a_hole ≡ true
 unfolding audit_of

@@ -1,6 +1,6 @@
 -- What is so of all fabrics and dumps: the statements of the laws of `src/laws.rt`.
-use Rattle.std.specs.Prelude.{ℕ, ◌≡◌, ◌<◌, ◌≤◌, ◌+◌, ◌==◌, ◌↔◌, ◌⊎◌, Bool, true, false, ◌&&◌, ◌||◌, List, [], ◌∷◌, ◌++◌, filter, get_or, length, slice_get, Option, Some, None, is_some, unwrap_or}
-use Rattle.std.specs.List.{list_all, list_any}
+use Rattle.std.specs.Prelude.{ℕ, ◌≡◌, ◌<◌, ◌≤◌, ◌+◌, ◌==◌, ◌↔◌, ◌⊎◌, Bool, true, false, not, ◌&&◌, ◌||◌, nat_eq, List, [], ◌∷◌, ◌++◌, codes, drop, filter, get_or, length, slice_get, Option, Some, None, is_some, unwrap_or}
+use Rattle.std.specs.List.{list_all, list_any, range_with_len, starts_with}
 use Rattle.std.specs.Option.{option_map_or}
 use Rattle.dump_file.specs.declared.destination.Destination.{Destination}
 use Rattle.dump_file.specs.declared.destination.Destination.TheVariants.{ChannelAdapter, Switch, Router, FurtherLid, Nobody, NotReported}
@@ -319,11 +319,19 @@ says_safe net = (audit_of net).is_safe
 abbrev pub SafeRoutesAreReported : Type 0
 SafeRoutesAreReported = ReportsSafe says_safe
 
--- ---- a verdict that is not safe has a reason
-abbrev pub NamesReasons : (Verdict → List ℕ) → Type 0
-NamesReasons words =
-    (net : NetState) (all : List Aim) (ring : Option (List PortRef)) → verdict_is_safe (verdict_by net all ring) ≡ false
-    → words (verdict_by net all ring) ≡ [] → ⊥
+-- ---- a verdict that is not safe has a reason, and each reason is named if and only if it holds
+-- the word stands somewhere in the text
+abbrev pub has_word : (word text : List ℕ) → Bool
+has_word word text = list_any (λ k. starts_with nat_eq (drop k text) word) (range_with_len 0 (length text))
+
+pub record NamesReasons (words : Verdict → List ℕ) : Type 0 where
+  pub some : (net : NetState) (all : List Aim) (ring : Option (List PortRef)) → verdict_is_safe (verdict_by net all ring) ≡ false
+      → words (verdict_by net all ring) ≡ [] → ⊥
+  pub lids : (verdict : Verdict) → has_word (codes "no-lid") (words verdict) ≡ not verdict.has_lids
+  pub pairs : (verdict : Verdict) → has_word (codes "unreached") (words verdict) ≡ verdict.loses
+  pub loops : (verdict : Verdict) → has_word (codes "deadlock") (words verdict) ≡ not verdict.is_free
+  pub names : (verdict : Verdict) → has_word (codes "mismatch") (words verdict) ≡ not verdict.is_same
+  pub entries : (verdict : Verdict) → has_word (codes "unknown") (words verdict) ≡ not (verdict.is_known && not verdict.lacks_entries)
 
 abbrev pub UnsafeRoutesHaveAReason : Type 0
 UnsafeRoutesHaveAReason = NamesReasons reasons

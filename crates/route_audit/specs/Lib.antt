@@ -2,6 +2,7 @@ pub mod Cycle
 pub mod Marks
 pub mod FarEnds
 pub mod Plan
+pub mod Names
 pub mod Ends
 pub mod Net
 pub mod Lookup

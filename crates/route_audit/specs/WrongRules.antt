@@ -487,3 +487,10 @@ reasons_without_pairs verdict =
 
 abbrev pub LostPairsAreAReason : Type 0
 LostPairsAreAReason = NamesReasons reasons_without_pairs → ⊥
+
+-- ---- one reason stands for all
+abbrev pub one_reason : Verdict → List ℕ
+one_reason verdict = codes "deadlock"
+
+abbrev pub ReasonsHold : Type 0
+ReasonsHold = NamesReasons one_reason → ⊥

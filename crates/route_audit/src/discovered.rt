@@ -1,12 +1,15 @@
 //! What an audit takes of a fabric, from a discovery.
 
-ghost use Rattle.std.specs.Prelude.{◌≡◌, ◌++◌, bytes_eq, count_by, filter, not, IfOk, OnOk, flat_map};
-ghost use Rattle.route_audit.specs.Plan.{cable_at, cable_if_first, cables_apart, joining_cables, comes_first, end_if_any, found_aggregation, found_cables, found_ends, found_node, found_nodes, is_own, joins_switch};
+ghost use Rattle.std.specs.Prelude.{◌≡◌, ◌++◌, List, filter, not, IfOk, OnOk, flat_map};
+ghost use Rattle.netdiscover_file.specs.declared.node.Node.{Node as FoundNode};
+ghost use Rattle.route_audit.specs.Names.{KnowsNames};
+ghost use Rattle.route_audit.specs.Plan.{cable_at, cable_if_first, cables_apart, joining_cables, comes_first, end_if_any, found_aggregation, found_cables, found_ends, found_node, found_nodes, joins_switch};
 ghost use Rattle.route_audit.specs.Plan.{found_lids, is_unicast, lid_if_unicast, lid_of_port, line_lid, switch_lid};
 ghost use Rattle.route_audit.specs.Plan.{line_end, plan_found, says_aggregation, shown_name, switch_end, switch_end_at, switch_ends, type_of, with_guid};
 ghost use Rattle.netdiscover_file.specs.Node.{is_switch_at};
 
 use crate::ends::{EndGuid, EndIndex, LidGuid};
+use crate::names::{Names, is_own, names_of};
 use crate::plan::{Plan, PlanNode};
 use fabric_parts::{Cable, LAST_UNICAST_LID, NodeType, PortRef};
 use netdiscover_file::{Discovery, Node, NodeKind, PortLine};
@@ -23,49 +26,34 @@ fn type_of(kind: NodeKind) -> NodeType
     }
 }
 
-/// Whether one node alone has this name, and there is one.
-fn is_own(nodes: &[Node], name: &[u8]) -> bool
-    ensures { result ≡ is_own nodes.now name.now }
+/// A name, with a GUID behind it.
+fn with_guid(mut name: Vec<u8>, guid: u64) -> Result<Vec<u8>, AllocError>
+    ensures { IfOk result (λ text. text.items ≡ with_guid name.items guid) }
 {
-    count_named(nodes, name) == 1 && !name.is_empty()
-}
-
-fn count_named(nodes: &[Node], name: &[u8]) -> usize
-    ensures { result ≡ count_by (λ node. bytes_eq name.now node.name) nodes.now }
-{
-    nodes
-        .iter()
-        .filter(|node| name == node.name.as_bytes())
-        .count()
-}
-
-fn with_guid(alloc: Global, name: &[u8], guid: u64) -> Result<Vec<u8>, AllocError>
-    ensures { IfOk result (λ text. text.items ≡ with_guid name.now guid) }
-{
-    let mut text = Vec::from_slice(alloc, name)?;
     if !name.is_empty() {
-        text.push(b' ')?;
+        name.push(b' ')?;
     }
-    push_guid(&mut text, guid)?;
+    push_guid(&mut name, guid)?;
+    Ok(name)
+}
+
+/// The name of a node as it is shown, by the names of all.
+fn shown_name(alloc: Global, names: &Names, node: &Node) -> Result<Vec<u8>, AllocError>
+    ensures { IfOk result (λ text. (nodes : List FoundNode) → KnowsNames names.now nodes → text.items ≡ shown_name nodes node.now) }
+{
+    let name = Vec::from_slice(alloc, node.name.as_bytes())?;
+    if is_own(names, &name) {
+        return Ok(name);
+    }
+    let text = with_guid(name, node.id.guid)?;
     Ok(text)
 }
 
-fn shown_name(alloc: Global, nodes: &[Node], node: &Node) -> Result<Vec<u8>, AllocError>
-    ensures { IfOk result (λ text. text.items ≡ shown_name nodes.now node.now) }
-{
-    let name = node.name.as_bytes();
-    if is_own(nodes, name) {
-        Vec::from_slice(alloc, name)
-    } else {
-        with_guid(alloc, name, node.id.guid)
-    }
-}
-
-fn found_node(alloc: Global, nodes: &[Node], node: &Node) -> Result<PlanNode, AllocError>
-    ensures { IfOk result (λ found. found ≡ found_node nodes.now node.now) }
+fn found_node(alloc: Global, names: &Names, node: &Node) -> Result<PlanNode, AllocError>
+    ensures { IfOk result (λ found. (nodes : List FoundNode) → KnowsNames names.now nodes → found ≡ found_node nodes node.now) }
 {
     Ok(PlanNode {
-        name: shown_name(alloc, nodes, node)?,
+        name: shown_name(alloc, names, node)?,
         node_type: type_of(node.id.kind),
         guid: node.id.guid,
         ports: node.ports,
@@ -75,9 +63,10 @@ fn found_node(alloc: Global, nodes: &[Node], node: &Node) -> Result<PlanNode, Al
 fn found_nodes(alloc: Global, nodes: &[Node]) -> Result<Vec<PlanNode>, AllocError>
     ensures { IfOk result (λ found. found.items ≡ found_nodes nodes.now) }
 {
+    let names = names_of(alloc, nodes)?;
     let mut found = Vec::new(alloc);
     for node in nodes {
-        found.push(found_node(alloc, nodes, node)?)?;
+        found.push(found_node(alloc, &names, node)?)?;
     }
     Ok(found)
 }

@@ -74,7 +74,7 @@ pub fn safe_routes_are_reported()
     ensures { SafeRoutesAreReported }
 {}
 
-/// A verdict that is not safe names a reason.
+/// A verdict that is not safe names a reason, and it names each reason if and only if that holds.
 pub fn unsafe_routes_have_a_reason()
     ensures { UnsafeRoutesHaveAReason }
 {}

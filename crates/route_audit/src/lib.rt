@@ -23,6 +23,7 @@ mod laws;
 mod lid_index;
 mod lids;
 mod lines;
+mod names;
 mod net;
 mod outcome;
 mod pairs;

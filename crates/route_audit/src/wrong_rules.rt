@@ -2,7 +2,7 @@
 //! function does nothing: its contract says that with this rule the law is false.
 
 ghost use Rattle.route_audit.specs.WrongRules.{ANodeMayBeJoinedToItself, AdaptersAreJoinedApart, AggregationDecidesNothing, EachStepHasItsLid, LidsGoOnRound};
-ghost use Rattle.route_audit.specs.WrongRules.{FirstPortsAreChannels, HolesAreCounted, HolesHaveALine, LidsAreAsked, LoopsBeginWhereReported, LoopsHaveALine, LostPairsAreAReason};
+ghost use Rattle.route_audit.specs.WrongRules.{FirstPortsAreChannels, HolesAreCounted, HolesHaveALine, LidsAreAsked, LoopsBeginWhereReported, LoopsHaveALine, LostPairsAreAReason, ReasonsHold};
 ghost use Rattle.route_audit.specs.WrongRules.{NobodysLoopsHaveALine, OtherLidsDecide, OtherLidsDoNotCount, OtherPortsDecide, OtherTablesDecide, OthersHolesHaveALine};
 ghost use Rattle.route_audit.specs.WrongRules.{NobodyHasLid0, OldLidsDoNotCount, ReportedLidsCount, ReportsComeLast, RowsLeftOutHaveALine, SwitchesHaveLids};
 ghost use Rattle.route_audit.specs.WrongRules.{TheLastWaitsForTheFirst, TransitDecidesNothing, TwoMakeACycle, UnknownEntriesDecide, WaysAreAsked, WaysAreLonger};
@@ -155,4 +155,9 @@ pub fn reported_lids_count()
 /// Where pairs that are not reached are no reason, a verdict that is not safe has none.
 pub fn lost_pairs_are_a_reason()
     ensures { LostPairsAreAReason }
+{}
+
+/// Where one reason stands for all, routes without a credit loop have one.
+pub fn reasons_hold()
+    ensures { ReasonsHold }
 {}

@@ -1,8 +1,14 @@
 use Rattle.std.proofs.Common.{◌≡◌, flat_map, length, take}
+use Rattle.cable_load.specs.Counts.{counts_of}
 use Rattle.cable_load.specs.Sources.{pairs_in}
 use Rattle.cable_load.specs.Talk.{may_talk}
 use Rattle.cable_load.specs.Walk.{of_pairs, AreBelow, GrowBy}
 use Rattle.cable_load.proofs.loads.add_from_all.Given as goal
 
 abbrev pub invariant-loop-index : goal.invariant-loop-index
-invariant-loop-index l = GrowBy (of_pairs l.net (flat_map (pairs_in (may_talk l.talk) l.to.target.lid l.to.target.end) (take l.index l.all))) l.fn.sums l.sums × (length l.marks.items ≡ length l.net.plan.nodes) × AreBelow l.index l.marks.items
+invariant-loop-index l = record {
+  grown : GrowBy (of_pairs l.net (flat_map (pairs_in (may_talk l.talk) l.to.target.lid l.to.target.end) (take l.index l.all))) l.fn.sums l.sums;
+  counted : l.counts ≡ counts_of l.net (flat_map (pairs_in (may_talk l.talk) l.to.target.lid l.to.target.end) (take l.index l.all));
+  long : length l.marks.items ≡ length l.net.plan.nodes;
+  below : AreBelow l.index l.marks.items;
+}

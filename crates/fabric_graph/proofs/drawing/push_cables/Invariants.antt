@@ -5,4 +5,4 @@ use Rattle.fabric_graph.proofs.drawing.push_cables.Given as goal
 
 abbrev pub invariant-loop-place : goal.invariant-loop-place
 invariant-loop-place l =
-    l.text.items ≡ l.fn.text.items ++ flat_map (edge_at l.fn.edges.topology.now l.fn.edges.routes.now l.fn.edges.fabric.now l.fn.edges.attachments.now l.fn.edges.needed.now) (range_with_len 0 l.place)
+    l.text.items ≡ l.fn.text.items ++ flat_map (edge_at l.fn.edges.topology.now l.fn.edges.routes.now l.fn.edges.fabric.now l.fn.edges.attachments.now l.fn.edges.looks.now) (range_with_len 0 l.place)

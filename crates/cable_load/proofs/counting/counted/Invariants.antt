@@ -1,8 +1,0 @@
-use Rattle.std.proofs.Common.{◌≡◌, flat_map, take}
-use Rattle.cable_load.specs.Counts.{counts_of}
-use Rattle.cable_load.specs.Sources.{pairs_to}
-use Rattle.cable_load.specs.Talk.{may_talk}
-use Rattle.cable_load.proofs.counting.counted.Given as goal
-
-abbrev pub invariant-loop-aim : goal.invariant-loop-aim
-invariant-loop-aim l = l.sum ≡ counts_of l.net (flat_map (pairs_to l.net (may_talk l.talk)) (take l.aim-index l.aims))

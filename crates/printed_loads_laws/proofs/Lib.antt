@@ -1,0 +1,15 @@
+pub mod PairLemmas
+pub mod AlikeLemmas
+pub mod HeldLemmas
+pub mod OwnRowLemmas
+pub mod WrongLemmas
+pub mod NumberLemmas
+pub mod TextLemmas
+pub mod LineLemmas
+pub mod StepLemmas
+pub mod ReadLemmas
+pub mod TableLemmas
+pub mod OwnPortLemmas
+pub mod ReadBackLemmas
+pub mod MulticastLemmas
+pub mod FormLemmas

@@ -1,0 +1,3 @@
+pub mod FollowingLemmas
+pub mod OwnLemmas
+pub mod WrongLemmas
