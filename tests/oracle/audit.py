@@ -101,6 +101,7 @@ class Net:
         for place, node in enumerate([] if found else self.nodes):
             for number in [0] if node.is_switch else range(1, node.ports + 1):
                 ports.setdefault(node.guid + number, (place, number))
+        self.own_guids = {at: guid for guid, at in ports.items()}
         self.guids = {}
         for _, rows in self.tables.values():
             for lid, row in rows.items():

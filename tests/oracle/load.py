@@ -42,6 +42,13 @@ def distances(net):
     return found
 
 
+def tops(net):
+    """The switches that are farthest from hosts; none if a host is attached to each."""
+    levels = {place: level for place, level in distances(net).items() if level < 16}
+    top = max(levels.values(), default=0)
+    return [place for place in net.switches if top and levels.get(place) == top]
+
+
 def level_lines(net, loads, channels):
     levels = distances(net)
     for level in range(16):

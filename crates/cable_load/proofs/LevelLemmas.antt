@@ -127,7 +127,7 @@ level_past f low zero place none past = refl
 level_past f low (suc many) zero none past = absurd (omega (arith, past))
 level_past f low (suc many) (suc place) none past = level_past f (low + 1) many place none (omega (arith, past))
 
-levels_say : (net : NetState) (place : ℕ) → level_at (levels_of net) place ≡ level_of net place
+pub levels_say : (net : NetState) (place : ℕ) → level_at (levels_of net) place ≡ level_of net place
 levels_say net place = elim (cases_lt place (length net.plan.nodes)) [
   | inl less ↦
       let from_0 : 0 + place ≡ place = omega arith in
@@ -253,13 +253,13 @@ not_before net place count far k less = elim (cases_Bool (is_near net k place)) 
       absurd (false≢true (sym far ∙ (ap (λ (n : ℕ). is_near net n place) (sym more) ∙ nearer net place k (count - k) near)))
 ]
 
-at_most_by : (net : NetState) (place count : ℕ) → is_near net count place ≡ true → level_of net place ≤ count
+pub at_most_by : (net : NetState) (place count : ℕ) → is_near net count place ≡ true → level_of net place ≤ count
 at_most_by net place count near =
     let most = few (λ k. is_near net k place) 0 16 count
     (λ k above. let more : count + (k - count) ≡ k = omega (arith, above) in ap (λ (n : ℕ). is_near net n place) (sym more) ∙ nearer net place count (k - count) near) in
     omega (arith, most)
 
-near_at : (net : NetState) (place : ℕ) → level_of net place < 16 → is_near net (level_of net place) place ≡ true
+pub near_at : (net : NetState) (place : ℕ) → level_of net place < 16 → is_near net (level_of net place) place ≡ true
 near_at net place low = elim (cases_Bool (is_near net (level_of net place) place)) [
   | inl near ↦ near
   | inr far ↦

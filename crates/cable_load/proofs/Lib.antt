@@ -9,5 +9,6 @@ pub mod WholeLemmas
 pub mod CableLemmas
 pub mod ArrivalLemmas
 pub mod LevelLemmas
+pub mod TopLemmas
 pub mod WrongLemmas
 pub mod ExampleLemmas

@@ -11,9 +11,11 @@ use Rattle.cable_load.specs.Laws.{LeadsToHost}
 use Rattle.cable_load.specs.Sources.{Pair}
 use Rattle.cable_load.specs.Talk.{may_talk}
 use Rattle.cable_load.specs.WrongRules.{FirstLinksCountToo, FirstPortsDoNotAddUp, LastLinksCountToo, LevelsBeginAt0, LostPairsLoad, NotAllAreLeaves}
+use Rattle.cable_load.specs.WrongRules.{AllTopsCount, LeavesAreNoTops, TopsAreNotOfLevel1, three_levels, two_tops}
 use Rattle.cable_load.specs.WrongRules.{PairsCountOnce, PortsCountFrom1, SilentPortsDoNotCount, UnusedChannelsHaveALine, WaysGoOn}
 use Rattle.cable_load.specs.WrongRules.{four_switches, no_hosts, pairs_to_k, to_k, two_switches}
 use Rattle.cable_load.proofs.CableLemmas.{lead_back}
+use Rattle.cable_load.proofs.TopLemmas.{tops_are_farthest}
 
 -- A sends LID 2 to B
 pub ways_go_on : WaysGoOn
@@ -81,3 +83,16 @@ not_all_are_leaves law = let way = law.there no_hosts 0 (lit< tt) in by way.0 wa
     by : (over : List ℕ) → length over ≡ 0 → LeadsToHost no_hosts 0 over → ⊥
     by [] none leads = false≢true leads
     by (before ∷ rest) none leads = absurd (omega (arith, none))
+
+-- C is farther from hosts than B
+pub tops_are_not_of_level_1 : TopsAreNotOfLevel1
+tops_are_not_of_level_1 law =
+    let most : 2 ≤ 1 = (law.only three_levels 1 refl).farthest 4 refl (lit< tt) in absurd (omega (arith, most))
+
+-- h is attached to A
+pub leaves_are_no_tops : LeavesAreNoTops
+leaves_are_no_tops law = false≢true (sym (law.only (two_switches 1 1) 0 refl).hostless)
+
+-- A/2 and A/3 lead to B and C
+pub all_tops_count : AllTopsCount
+all_tops_count law = false≢true (law.all two_tops 3 (tops_are_farthest.only two_tops 3 refl))

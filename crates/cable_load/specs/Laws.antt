@@ -1,5 +1,5 @@
 -- What is so of all fabrics, dumps, LIDs and pairs: the statements of the laws of `src/laws.rt`.
-use Rattle.std.specs.Prelude.{ℕ, ◌+◌, ◌<◌, ◌≤◌, ◌≡◌, ◌==◌, ◌&&◌, Bool, true, not, List, [], ◌∷◌, count_by, filter, length, if◌then◌else◌, Some}
+use Rattle.std.specs.Prelude.{ℕ, ◌+◌, ◌<◌, ◌≤◌, ◌≡◌, ◌==◌, ◌&&◌, Bool, true, false, not, List, [], ◌∷◌, count_by, filter, length, if◌then◌else◌, Some}
 use Rattle.std.specs.List.{list_any, sum_by}
 use Rattle.fabric_parts.specs.Cable.{far_end, is_same_port}
 use Rattle.fabric_parts.specs.declared.cable.Cable.{Cable}
@@ -26,6 +26,7 @@ use Rattle.cable_load.specs.Levels.{carries, level_of}
 use Rattle.cable_load.specs.Loads.{load, loads}
 use Rattle.cable_load.specs.Order.{ordered}
 use Rattle.cable_load.specs.Sources.{Pair, pairs_by, pairs_to_end}
+use Rattle.cable_load.specs.Tops.{tops_of}
 use Rattle.cable_load.specs.Ways.{fate_of, goes_over, is_on, way}
 
 -- ---- the switches of a way
@@ -148,3 +149,19 @@ pub record MeasuresLevels (level : NetState → ℕ → ℕ) : Type 0 where
 
 abbrev pub LevelsAreDistances : Type 0
 LevelsAreDistances = MeasuresLevels level_of
+
+-- ---- the top level
+-- no host is attached to this switch, it has a level, and no switch that has one is farther from hosts
+pub record IsFarthest (net : NetState) (place : ℕ) : Type 0 where
+  pub switch : is_switch_at net.plan.nodes place ≡ true
+  pub hostless : carries net place ≡ false
+  pub has_level : level_of net place < LEVELS
+  pub farthest : (other : ℕ) → is_switch_at net.plan.nodes other ≡ true → level_of net other < LEVELS → level_of net other ≤ level_of net place
+
+-- these are all such switches, and no others
+pub record FindsFarthest (tops : NetState → List ℕ) : Type 0 where
+  pub only : (net : NetState) (place : ℕ) → is_on place (tops net) ≡ true → IsFarthest net place
+  pub all : (net : NetState) (place : ℕ) → IsFarthest net place → is_on place (tops net) ≡ true
+
+abbrev pub TopsAreFarthest : Type 0
+TopsAreFarthest = FindsFarthest tops_of

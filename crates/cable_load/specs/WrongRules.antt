@@ -1,5 +1,5 @@
 -- Wrong rules for what is reported, and the law that each breaks.
-use Rattle.std.specs.Prelude.{ℕ, ◌+◌, ◌-◌, ◌*◌, ◌==◌, ◌&&◌, Bool, not, List, [], ◌∷◌, ◌++◌, codes, count_by, filter, map, None, Some}
+use Rattle.std.specs.Prelude.{ℕ, ◌+◌, ◌-◌, ◌*◌, ◌==◌, ◌&&◌, Bool, not, List, [], ◌∷◌, ◌++◌, codes, count_by, filter, map, take, None, Some}
 use Rattle.dump_file.specs.declared.destination.Destination.TheVariants as destinations
 use Rattle.dump_file.specs.declared.table.Table.{Table}
 use Rattle.fabric_parts.specs.Cable.{port}
@@ -9,18 +9,20 @@ use Rattle.fabric_parts.specs.declared.node_type.NodeType.{NodeType}
 use Rattle.fabric_parts.specs.declared.node_type.NodeType.TheVariants.{ChannelAdapter, Switch}
 use Rattle.netdiscover_file.specs.Discovery.{DiscoveryState}
 use Rattle.topo_file.specs.declared.node.Node.{Node}
+use Rattle.topo_file.specs.Connectivity.{switches}
 use Rattle.topo_file.specs.Topology.{TopologyState}
 use Rattle.route_audit.specs.declared.lids.Aim.{Aim}
 use Rattle.route_audit.specs.Channels.{leaves_by}
 use Rattle.route_audit.specs.Net.{NetState}
 use Rattle.route_audit.specs.Plan.{PlanState, plan_found, plan_of}
 use Rattle.cable_load.specs.declared.loaded.Loaded.{Loaded}
-use Rattle.cable_load.specs.Laws.{AddsUp, CarriesWhatArrives, CountsTalkers, FollowsWays, MeasuresLevels, NamesEachOnce, ReportsUnused, StaysWithin}
+use Rattle.cable_load.specs.Laws.{AddsUp, CarriesWhatArrives, CountsTalkers, FindsFarthest, FollowsWays, MeasuresLevels, NamesEachOnce, ReportsUnused, StaysWithin}
 use Rattle.cable_load.specs.Laws.{TakesCables, all_talk, lines_of}
 use Rattle.cable_load.specs.Levels.{level_of}
 use Rattle.cable_load.specs.Loads.{load}
 use Rattle.cable_load.specs.Sources.{Pair, pairs_by}
 use Rattle.cable_load.specs.Talk.{may_talk}
+use Rattle.cable_load.specs.Tops.{top_of, tops_of}
 use Rattle.cable_load.specs.Ways.{goes_over, is_lost, is_on, way_within}
 
 -- ---- two switches A and B with a cable from A/2 to B/2, and the hosts h at A/1 and k at B/1
@@ -143,3 +145,47 @@ NotAllAreLeaves = MeasuresLevels all_leaves → ⊥
 -- no host is attached to any switch of this fabric
 abbrev pub no_hosts : NetState
 no_hosts = record { plan = plan_of (record a_plan { cables = record { first = port 0 2; second = port 1 2 } ∷ [] }); dump = record { tables = [] } }
+
+-- ---- the top switches are those of level 1
+abbrev pub of_level_1 : NetState → List ℕ
+of_level_1 net = filter (λ place. level_of net place == 1) (switches net.plan.nodes)
+
+abbrev pub TopsAreNotOfLevel1 : Type 0
+TopsAreNotOfLevel1 = FindsFarthest of_level_1 → ⊥
+
+-- ---- or those of the greatest level, also where that is 0
+abbrev pub of_top_level : NetState → List ℕ
+of_top_level net = filter (λ place. level_of net place == top_of (level_of net) (switches net.plan.nodes)) (switches net.plan.nodes)
+
+abbrev pub LeavesAreNoTops : Type 0
+LeavesAreNoTops = FindsFarthest of_top_level → ⊥
+
+-- ---- or the first of them alone
+abbrev pub first_top : NetState → List ℕ
+first_top net = take 1 (tops_of net)
+
+abbrev pub AllTopsCount : Type 0
+AllTopsCount = FindsFarthest first_top → ⊥
+
+-- h is attached to A/1, and cables lead from A/2 to B/1 and from B/2 to C/1
+abbrev pub three_levels : NetState
+three_levels = record {
+  plan = plan_of (record a_plan {
+    nodes = a_plan.nodes ++ node (codes "C") Switch 48 ∷ [];
+    cables = record { first = port 0 1; second = port 2 1 } ∷ record { first = port 0 2; second = port 1 1 }
+        ∷ record { first = port 1 2; second = port 4 1 } ∷ [];
+  });
+  dump = record { tables = [] };
+}
+
+-- h is attached to A/1, and cables lead from A/2 to B/1 and from A/3 to C/1
+abbrev pub two_tops : NetState
+two_tops = record {
+  plan = plan_of (record a_plan {
+    nodes = record (node (codes "A") Switch 16) { ports = 3 } ∷ node (codes "B") Switch 32 ∷ node (codes "h") ChannelAdapter 256
+        ∷ node (codes "C") Switch 48 ∷ [];
+    cables = record { first = port 0 1; second = port 2 1 } ∷ record { first = port 0 2; second = port 1 1 }
+        ∷ record { first = port 0 3; second = port 3 1 } ∷ [];
+  });
+  dump = record { tables = [] };
+}

@@ -3,7 +3,7 @@
 ghost use Rattle.std.specs.Prelude.{◌≡◌};
 ghost use Rattle.cable_load.specs.declared.levels.TheConstants.{LEVELS};
 ghost use Rattle.cable_load.specs.Laws.{CablesOfPlansLeadBack, EachChannelHasOneLine, LastLinksCarryWhatArrives, LevelsAreDistances};
-ghost use Rattle.cable_load.specs.Laws.{LoadsAddUp, LoadsAreOfPairs, LoadsStayWithin, TalkersCount, WaysAreWhole};
+ghost use Rattle.cable_load.specs.Laws.{LoadsAddUp, LoadsAreOfPairs, LoadsStayWithin, TalkersCount, TopsAreFarthest, WaysAreWhole};
 
 /// A switch is on the way of a LID if and only if packets come to it along the entries, over however many switches.
 pub fn ways_are_whole()
@@ -13,6 +13,11 @@ pub fn ways_are_whole()
 /// The level of a switch is the least number of links from it to a switch to which a host is attached.
 pub fn levels_are_distances()
     ensures { LevelsAreDistances }
+{}
+
+/// The top switches are all those to which no host is attached, and that are as far from hosts as any switch that has a level.
+pub fn tops_are_farthest()
+    ensures { TopsAreFarthest }
 {}
 
 /// How many levels there are. The number is ours.

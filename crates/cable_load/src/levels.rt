@@ -145,7 +145,8 @@ pub(crate) fn levels(net: &Net<'_>, alloc: Global) -> Result<Vec<usize>, AllocEr
     Ok(levels)
 }
 
-fn level_at(levels: &[usize], place: usize) -> usize
+/// The level of the node there, or that of none.
+pub(crate) fn level_at(levels: &[usize], place: usize) -> usize
     ensures { result ≡ level_at levels.now place }
 {
     match levels.get(place) {

@@ -2,6 +2,7 @@
 //! function does nothing: its contract says that with this rule the law is false.
 
 ghost use Rattle.cable_load.specs.WrongRules.{FirstLinksCountToo, FirstPortsDoNotAddUp, LastLinksCountToo, LevelsBeginAt0, LostPairsLoad, NotAllAreLeaves, PairsCountOnce, PortsCountFrom1, SilentPortsDoNotCount, UnusedChannelsHaveALine, WaysGoOn};
+ghost use Rattle.cable_load.specs.WrongRules.{AllTopsCount, LeavesAreNoTops, TopsAreNotOfLevel1};
 
 /// If a way ended at its first switch, packets would come to a switch that is not on it.
 pub fn ways_go_on()
@@ -56,4 +57,19 @@ pub fn levels_begin_at_0()
 /// Where all switches have the level 0, a switch far from hosts has it too.
 pub fn not_all_are_leaves()
     ensures { NotAllAreLeaves }
+{}
+
+/// If the switches of level 1 were the top ones, a fabric of three levels would have a farther switch.
+pub fn tops_are_not_of_level_1()
+    ensures { TopsAreNotOfLevel1 }
+{}
+
+/// If the switches of the greatest level were the top ones also where that is 0, a host would be attached to one.
+pub fn leaves_are_no_tops()
+    ensures { LeavesAreNoTops }
+{}
+
+/// If the first top switch counted alone, another that is as far from hosts would be missing.
+pub fn all_tops_count()
+    ensures { AllTopsCount }
 {}

@@ -9,7 +9,7 @@ use Rattle.clap.proofs.OnLiterals.{clap_on_literals}
 use Rattle.code_texts.specs.Codes.{code_of}
 use Rattle.code_texts.specs.declared.code.Code.{Code}
 use Rattle.cli_args.specs.Laws.{FilesAreNamedAsGiven, FilesStandInOrder, IsWordOf, NamesKeepTheirBlanks}
-use Rattle.cli_args.specs.Words.{Names, audit_keys_by, audit_keys_with, asked_by, asked_by_command, asked_of, asked_or, call_in, compare_by, cuts_by, diff_by, dumped, dumped_by, explain_by, file_in, graph_with, guid_by, import_by, is_given, in_subnet, inspect_by, load_by, load_with, manage_by, opened_for, run_by, scripts_by, smps_by}
+use Rattle.cli_args.specs.Words.{Names, audit_keys_by, audit_keys_with, asked_by, asked_by_command, asked_of, asked_or, call_in, compare_by, cuts_by, diff_by, dumped, dumped_by, explain_by, file_in, graph_with, guid_by, import_by, is_given, in_subnet, inspect_by, load_by, load_with, manage_by, opened_for, roots_by, run_by, scripts_by, smps_by}
 use Rattle.cli_args.specs.Words.{subcommand_in, text_for, trace_by, work_names}
 use Rattle.cli_args.specs.declared.call.Call.{Call}
 use Rattle.cli_args.specs.declared.call.CutView.TheVariants.{All as AllCuts, One, Picture}
@@ -149,16 +149,17 @@ compare_given rows asked e = by (first_of (codes "S1") rows) refl (first_of (cod
     by (Some first) one None two port is = absurd cc
     by None one second two port is = absurd cc
 
-import_given : (rows : List Row) (manager : Option (Option ℕ)) → IsGiven rows (import_by (first_of (codes "NETDISCOVER") rows) manager)
-import_given rows manager call is = by (first_of (codes "NETDISCOVER") rows) refl manager is
+import_given : (rows : List Row) (manager : Option (Option ℕ)) (roots : Option Bool) → IsGiven rows (import_by (first_of (codes "NETDISCOVER") rows) manager roots)
+import_given rows manager roots call is = by (first_of (codes "NETDISCOVER") rows) refl manager roots is
   where
-    by : (netdiscover : Option Text) → first_of (codes "NETDISCOVER") rows ≡ netdiscover → (guid : Option (Option ℕ)) → import_by netdiscover guid ≡ Some call
-        → All (IsWordOf rows) (opened_for (Ok call))
-    by (Some netdiscover) n (Some guid) is =
+    by : (netdiscover : Option Text) → first_of (codes "NETDISCOVER") rows ≡ netdiscover → (guid : Option (Option ℕ)) (tops : Option Bool)
+        → import_by netdiscover guid tops ≡ Some call → All (IsWordOf rows) (opened_for (Ok call))
+    by (Some netdiscover) n (Some guid) (Some tops) is =
         subst (λ (asked : Call Names Text). All (IsWordOf rows) (opened_for (Ok asked))) (same_call _ call is)
         (All-cons (IsWordOf rows) netdiscover [] (codes "NETDISCOVER", n) (All-nil (IsWordOf rows)))
-    by (Some netdiscover) n None is = absurd cc
-    by None n guid is = absurd cc
+    by (Some netdiscover) n (Some guid) None is = absurd cc
+    by (Some netdiscover) n None tops is = absurd cc
+    by None n guid tops is = absurd cc
 
 dumped_given : (view : DumpView) (rows : List Row) → IsGiven rows (dumped view rows)
 dumped_given view rows call is = by (first_of (codes "FABRIC") rows) refl (first_of (codes "DUMP") rows) refl is
@@ -241,7 +242,7 @@ command_given command.Smp rows = subnet_given rows _ (smps_given rows)
 command_given command.Manage rows = subnet_given rows _ (manage_given rows)
 command_given command.Compare rows = subnet_given rows _ (compare_given rows)
 command_given command.Cuts rows = subnet_given rows _ (cuts_given rows (first_of (codes "PORT") rows) (first_of (codes "PORT2") rows))
-command_given command.Import rows = import_given rows (guid_by (first_of (codes "SM") rows))
+command_given command.Import rows = import_given rows (guid_by (first_of (codes "SM") rows)) (roots_by (first_of (codes "ROOTS") rows))
 command_given command.Audit rows = dumped_given dump_view.Audit rows
 command_given command.Load rows = load_given rows
 command_given command.AuditKeys rows = audit_keys_given rows
@@ -282,6 +283,7 @@ files_stand_in_order = record {
   manage = refl;
   compare = refl;
   cuts = refl;
+  import = refl;
   audit = refl;
   load = refl;
   loads = refl;

@@ -81,8 +81,12 @@ cuts_command = with_rule (with_rule (subnet_command (codes "cuts")) (optional (c
 abbrev pub manager_option : Rule
 manager_option = record (new_rule (codes "SM")) { long = Some (codes "sm"); action = Some Set; value_names = 1 }
 
+-- `--roots auto`
+abbrev pub roots_option : Rule
+roots_option = record (new_rule (codes "ROOTS")) { long = Some (codes "roots"); action = Some Set; value_names = 1 }
+
 abbrev pub import_command : App
-import_command = with_rule (with_rule (new_app (codes "import")) (wanted (codes "NETDISCOVER"))) manager_option
+import_command = with_rule (with_rule (with_rule (new_app (codes "import")) (wanted (codes "NETDISCOVER"))) manager_option) roots_option
 
 abbrev pub audit_command : App
 audit_command = with_rule (with_rule (new_app (codes "audit")) (wanted (codes "FABRIC"))) (wanted (codes "DUMP"))

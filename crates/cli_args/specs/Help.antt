@@ -142,6 +142,9 @@ help_of_pkeys = codes "What tools/collect-keys printed: answers of smpquery"
 abbrev pub help_of_manager : List ℕ
 help_of_manager = codes "The GUID of the SM port: a number of 64 bits, as `0x101`"
 
+abbrev pub help_of_roots : List ℕ
+help_of_roots = codes "With `auto` the switches that are farthest from CAs become roots"
+
 abbrev pub help_of_dump : List ℕ
 help_of_dump = codes "The LFTs, as dump_fts prints them"
 

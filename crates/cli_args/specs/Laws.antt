@@ -55,6 +55,7 @@ pub record FilesStandInOrder : Type 0 where
   pub compare : opened_by (codes "compare" ∷ codes "net" ∷ codes "parts" ∷ codes "one" ∷ codes "two" ∷ codes "h1/1" ∷ [])
       ≡ codes "net" ∷ codes "parts" ∷ codes "one" ∷ codes "two" ∷ []
   pub cuts : opened_by (codes "cuts" ∷ codes "net" ∷ codes "parts" ∷ codes "h1/1" ∷ codes "h2/1" ∷ []) ≡ codes "net" ∷ codes "parts" ∷ []
+  pub import : opened_by (codes "import" ∷ codes "--roots" ∷ codes "auto" ∷ codes "net" ∷ codes "--sm" ∷ codes "7" ∷ []) ≡ codes "net" ∷ []
   pub audit : opened_by (codes "audit" ∷ codes "net" ∷ codes "dump" ∷ []) ≡ codes "net" ∷ codes "dump" ∷ []
   pub load : opened_by (codes "load" ∷ codes "--dump" ∷ codes "dump" ∷ codes "net" ∷ []) ≡ codes "net" ∷ codes "dump" ∷ []
   pub loads : opened_by (codes "load" ∷ codes "net" ∷ codes "parts" ∷ codes "sends" ∷ codes "--all" ∷ [])

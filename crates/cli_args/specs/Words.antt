@@ -24,7 +24,7 @@ use Rattle.cli_args.specs.declared.call.DumpView.{DumpView}
 use Rattle.cli_args.specs.declared.call.DumpView.TheVariants as dump_view
 use Rattle.cli_args.specs.declared.call.Subcommand.{Subcommand}
 use Rattle.cli_args.specs.declared.call.Subcommand.TheVariants as command
-use Rattle.cli_args.specs.declared.help.TheConstants.{NO_SECOND_PORT, NO_SUCH_CODE, NO_SUCH_GUID, NO_SUCH_KEYS_GUID, NO_SUCH_NUMBER, ONE_PICTURE, PARTS_OR_DUMP}
+use Rattle.cli_args.specs.declared.help.TheConstants.{NO_SECOND_PORT, NO_SUCH_CODE, NO_SUCH_IMPORT, NO_SUCH_KEYS_GUID, NO_SUCH_NUMBER, ONE_PICTURE, PARTS_OR_DUMP}
 use Rattle.cli_args.specs.declared.call.Work.TheVariants.{Check, Compare, Cuts, Diff, Inspect, Manage, Run, Shares, Smps}
 use Rattle.text_words.specs.Number.{if_under, number_in, u16_in}
 
@@ -67,7 +67,7 @@ names asked = record {
 
 abbrev pub named_call : Call Asked (Bor Text) → Call Names Text
 named_call (Subnet asked) = Subnet (names asked)
-named_call (Import netdiscover manager) = Import netdiscover.now manager
+named_call (Import netdiscover manager roots) = Import netdiscover.now manager roots
 named_call (Dumped view fabric dump) = Dumped view fabric.now dump.now
 named_call (AuditKeys netdiscover pkeys partitions manager all) = AuditKeys netdiscover.now pkeys.now (option_map (λ name. name.now) partitions) manager all
 named_call (Explain code) = Explain code
@@ -156,9 +156,14 @@ abbrev pub guid_by : Option Text → Option (Option ℕ)
 guid_by None = Some None
 guid_by (Some word) = option_map (λ guid. Some guid) (if_under (2 ^ 64) (number_in word))
 
-abbrev pub import_by : Option Text → Option (Option ℕ) → Option (Call Names Text)
-import_by (Some netdiscover) (Some manager) = Some (Import netdiscover manager)
-import_by _ _ = None
+-- whether the top switches become roots: with `auto` they do
+abbrev pub roots_by : Option Text → Option Bool
+roots_by None = Some false
+roots_by (Some word) = if bytes_eq word (codes "auto") then Some true else None
+
+abbrev pub import_by : Option Text → Option (Option ℕ) → (roots : Option Bool) → Option (Call Names Text)
+import_by (Some netdiscover) (Some manager) (Some roots) = Some (Import netdiscover manager roots)
+import_by _ _ _ = None
 
 -- a fabric and a dump
 abbrev pub dumped_by : DumpView → Option Text → Option Text → Option (Call Names Text)
@@ -201,7 +206,7 @@ explain_by (Some word) = option_map (λ code. Explain (Some code)) (code_of word
 -- `check` takes no more arguments than its subnet's, `shares` takes a port, and `tables`, `keys`, `trace` and `graph` take a script,
 -- `cuts` two ports;
 -- `diff` needs other partitions, `trace` a packet, `run` a script, `smp` SMPs, `manage` replies, and `compare` two scripts and a port; `import` needs a file of
--- its own and takes a GUID, `audit` needs a fabric and a dump, and `load` these or a topology and partitions, and takes a script; `audit-keys` two files of its own and partitions, and takes a GUID, and
+-- its own and takes a GUID and roots, `audit` needs a fabric and a dump, and `load` these or a topology and partitions, and takes a script; `audit-keys` two files of its own and partitions, and takes a GUID, and
 -- `explain` takes a code
 abbrev pub call_in : Subcommand → List Row → Option (Call Names Text)
 call_in command.Check rows = in_subnet rows (Some Check)
@@ -216,7 +221,8 @@ call_in command.Smp rows = in_subnet rows (smps_by (first_of (codes "SMPS") rows
 call_in command.Manage rows = in_subnet rows (manage_by (first_of (codes "REPLIES") rows))
 call_in command.Compare rows = in_subnet rows (compare_by rows)
 call_in command.Cuts rows = in_subnet rows (cuts_by (first_of (codes "PORT") rows) (first_of (codes "PORT2") rows))
-call_in command.Import rows = import_by (first_of (codes "NETDISCOVER") rows) (guid_by (first_of (codes "SM") rows))
+call_in command.Import rows =
+    import_by (first_of (codes "NETDISCOVER") rows) (guid_by (first_of (codes "SM") rows)) (roots_by (first_of (codes "ROOTS") rows))
 call_in command.Audit rows = dumped dump_view.Audit rows
 call_in command.Load rows = load_by rows
 call_in command.AuditKeys rows = audit_keys_by rows
@@ -244,12 +250,12 @@ subcommand_in word =
     else if bytes_eq word (codes "explain") then Some command.Explain
     else None
 
--- the text for an argument that clap accepts and the command cannot take: in a trace it is not a number, in an import or an audit of
--- keys not a GUID, in cuts the second port is missing, a picture is none of those above, loads have neither partitions nor a dump, or both,
+-- the text for an argument that clap accepts and the command cannot take: in a trace it is not a number, in an audit of keys not a GUID,
+-- in an import not a GUID or not `auto`, in cuts the second port is missing, a picture is none of those above, loads have neither partitions nor a dump, or both,
 -- and else it is not a code
 abbrev pub text_for : Subcommand → Text
 text_for command.Trace = NO_SUCH_NUMBER.now
-text_for command.Import = NO_SUCH_GUID.now
+text_for command.Import = NO_SUCH_IMPORT.now
 text_for command.AuditKeys = NO_SUCH_KEYS_GUID.now
 text_for command.Cuts = NO_SECOND_PORT.now
 text_for command.Graph = ONE_PICTURE.now
@@ -321,7 +327,7 @@ all_names asked = asked.topology ∷ (option_to_list asked.partitions ++ work_na
 abbrev pub opened_for : Asking → List Text
 opened_for (Err text) = []
 opened_for (Ok (Subnet asked)) = all_names asked
-opened_for (Ok (Import netdiscover manager)) = netdiscover ∷ []
+opened_for (Ok (Import netdiscover manager roots)) = netdiscover ∷ []
 opened_for (Ok (Dumped view fabric dump)) = fabric ∷ dump ∷ []
 opened_for (Ok (AuditKeys netdiscover pkeys partitions manager all)) = netdiscover ∷ pkeys ∷ option_to_list partitions
 opened_for (Ok (Explain code)) = []

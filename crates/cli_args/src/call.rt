@@ -147,6 +147,8 @@ pub enum Call<A, W> {
         netdiscover: W,
         /// The GUID of the SM port, if it is given.
         manager: Option<u64>,
+        /// Whether the top switches become roots.
+        roots: bool,
     },
     /// Look at the LFTs of a real fabric.
     Dumped {

@@ -110,7 +110,8 @@ pub(crate) const NO_SUCH_NUMBER: &str = "error: DLID or PKEY is not a number of 
 For more information, try 'fabric trace --help'.
 ";
 
-pub(crate) const NO_SUCH_GUID: &str = "error: GUID is not a number of 64 bits
+pub(crate) const NO_SUCH_IMPORT: &str =
+    "error: the GUID of --sm is not a number of 64 bits, or ROOTS is not `auto`
 
 For more information, try 'fabric import --help'.
 ";
@@ -367,9 +368,13 @@ each line has the node, port and LID in the fabric, and comments name the router
 ibnetdiscover does not mark the SM. The SM port is the one with the GUID of --sm, which `sminfo`
 prints, or else the port at which ibnetdiscover ran, if a comment of it says so.
 
+With --roots auto the topology names roots: the switches that are the most links away from the nearest
+switch to which a CA is attached. In a fat tree they are the spines. If a CA is attached to each switch
+it names none. Routers count as CAs, and aggregation nodes do not.
+
 For example, for your own fabric and the partition file that it is to have:
   ibnetdiscover >discovered
-  fabric import discovered >topology
+  fabric import discovered --roots auto >topology
   fabric check topology partitions.conf
 
 A line that ibnetdiscover does not print is refused, and so are lines that contradict each other, and

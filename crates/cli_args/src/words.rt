@@ -4,7 +4,7 @@ ghost use Rattle.std.specs.Prelude.{◌≡◌, ◌^◌, Ok, Some, map, string_by
 ghost use Rattle.clap.specs.Words.{first_of, found_of, rows_of, subcommand_rows_of};
 ghost use Rattle.cli_args.specs.Refusals.{IsOfGiven, IsOfWords, ReportsAll};
 ghost use Rattle.cli_args.specs.Words.{asked_by, asked_in, asked_of, call_in, compare_by, cuts_by, diff_by, dumped, dumped_by, explain_by, file_in, given_items, guid_by};
-ghost use Rattle.cli_args.specs.Words.{audit_keys_by, import_by, in_subnet};
+ghost use Rattle.cli_args.specs.Words.{audit_keys_by, import_by, in_subnet, roots_by};
 ghost use Rattle.text_words.specs.Number.{if_under, number_in};
 ghost use Rattle.cli_args.specs.Words.{graph_by, graph_with, inspect_by, is_given, load_by, load_with, loads_in, named_call, named_found, named_inspection};
 ghost use Rattle.cli_args.specs.Words.{manage_by, named_work, run_by, smps_by, subcommand_in, text_for, trace_by, u16_by};
@@ -14,7 +14,7 @@ use crate::call::{
 };
 use crate::command_line::Parser;
 use crate::help::{
-    NO_SECOND_PORT, NO_SUCH_CODE, NO_SUCH_GUID, NO_SUCH_KEYS_GUID, NO_SUCH_NUMBER, NOT_TEXT,
+    NO_SECOND_PORT, NO_SUCH_CODE, NO_SUCH_IMPORT, NO_SUCH_KEYS_GUID, NO_SUCH_NUMBER, NOT_TEXT,
     ONE_PICTURE, PARTS_OR_DUMP,
 };
 use clap::ArgMatches;
@@ -115,7 +115,7 @@ fn text_for(command: Subcommand) -> &'static str
 {
     match command {
         Subcommand::Trace => NO_SUCH_NUMBER,
-        Subcommand::Import => NO_SUCH_GUID,
+        Subcommand::Import => NO_SUCH_IMPORT,
         Subcommand::AuditKeys => NO_SUCH_KEYS_GUID,
         Subcommand::Cuts => NO_SECOND_PORT,
         Subcommand::Graph => ONE_PICTURE,
@@ -147,7 +147,11 @@ fn call_of<'a>(command: Subcommand, found: &ArgMatches<'a>) -> Option<Call<Asked
             let ends = cuts_by(word_of(found, "PORT"), word_of(found, "PORT2"));
             in_subnet(found, ends)
         }
-        Subcommand::Import => import_by(word_of(found, "NETDISCOVER"), word_of(found, "SM")),
+        Subcommand::Import => {
+            let manager = guid_by(word_of(found, "SM"));
+            let roots = roots_by(word_of(found, "ROOTS"));
+            import_by(word_of(found, "NETDISCOVER"), manager, roots)
+        }
         Subcommand::Audit => dumped(DumpView::Audit, found),
         Subcommand::Load => load_by(found),
         Subcommand::AuditKeys => audit_keys(found),
@@ -310,18 +314,30 @@ fn u16_by(word: Option<&str>) -> Option<u16>
     u16_in(word?.as_bytes())
 }
 
-/// A topology of this file, if the argument for the SM port is a GUID, or is not given.
+/// A topology of this file, if the arguments for the SM port and for roots are taken.
 fn import_by<'a>(
     netdiscover: Option<&'a str>,
-    manager: Option<&str>,
+    manager: Option<Option<u64>>,
+    roots: Option<bool>,
 ) -> Option<Call<Asked<'a>, &'a str>>
-    ensures { option_map named_call result ≡ import_by (option_map (λ word. word.now) netdiscover.entry)
-        (guid_by (option_map (λ word. word.now) manager.entry)) }
+    ensures { option_map named_call result ≡ import_by (option_map (λ word. word.now) netdiscover.entry) manager roots }
 {
     Some(Call::Import {
         netdiscover: netdiscover?,
-        manager: guid_by(manager)?,
+        manager: manager?,
+        roots: roots?,
     })
+}
+
+/// Whether the top switches become roots, if the argument for that is `auto`, or is not given.
+fn roots_by(word: Option<&str>) -> Option<bool>
+    ensures { result ≡ roots_by (option_map (λ word. word.now) word.entry) }
+{
+    match word {
+        Some("auto") => Some(true),
+        Some(_) => None,
+        None => Some(false),
+    }
 }
 
 /// The GUID of an argument, or none if it is not given.

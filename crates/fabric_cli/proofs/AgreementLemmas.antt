@@ -62,8 +62,8 @@ module _ (file other : Contents) where
 pub judged_alike : FilesThatAgreeAreJudgedAlike
 judged_alike file other (Err shown) same = refl
 judged_alike file other (Ok (Subnet names)) same = ap judged_if_read (texts_alike file other names same)
-judged_alike file other (Ok (Import netdiscover manager)) same =
-    ap (λ (read : Result (List ℕ) Ending). ended (import_of_file manager read))
+judged_alike file other (Ok (Import netdiscover manager roots)) same =
+    ap (λ (read : Result (List ℕ) Ending). ended (import_of_file manager roots read))
     (bytes_alike file other netdiscover (All-head (λ name. file name ≡ other name) netdiscover [] same))
 judged_alike file other (Ok (Dumped view topology dump)) same =
     let more = All-tail (λ name. file name ≡ other name) topology (dump ∷ []) same in

@@ -224,18 +224,18 @@ pub for_some_bytes : (asked : Asking) (P Q : Judged → Type 0) → ((judged : J
     → ForSomeBytes asked Q
 for_some_bytes (Err shown) P Q f some = f (ended (refused shown)) some
 for_some_bytes (Ok (Subnet names)) P Q f some = (some.0, some.1, f (to_judge some.0) some.2)
-for_some_bytes (Ok (Import netdiscover manager)) P Q f some = (some.0, f (ended (imported manager some.0)) some.1)
+for_some_bytes (Ok (Import netdiscover manager roots)) P Q f some = (some.0, f (ended (imported manager roots some.0)) some.1)
 for_some_bytes (Ok (Dumped view fabric dump)) P Q f some = (some.0, some.1, f (ended (viewed view some.0 some.1)) some.2)
 for_some_bytes (Ok (AuditKeys netdiscover pkeys partitions manager all)) P Q f some =
     (some.0, some.1, some.2, some.3, f (ended (keys_audited manager all some.0 some.1 some.2)) some.4)
 for_some_bytes (Ok (Explain code)) P Q f some = f (ended (complete (explained code))) some
 
 -- what is answered of a file that was read is what is answered of the files
-pub of_file : (reported : Option Contents) (name bytes : List ℕ) (manager : Option ℕ) (result : Result Answer Stop) (a : Bool) (out out' : Option (List ℕ))
-    → IfSome reported (λ file. file name ≡ Some bytes) → Answers (ended (imported manager bytes)) result a out out'
-    → IfSome reported (λ file. Answers (judged_for file (Ok (Import name manager))) result a out out')
-of_file None name bytes manager result a out out' is answers = tt
-of_file (Some file) name bytes manager result a out out' is answers = rw is answers
+pub of_file : (reported : Option Contents) (name bytes : List ℕ) (manager : Option ℕ) (roots : Bool) (result : Result Answer Stop) (a : Bool) (out out' : Option (List ℕ))
+    → IfSome reported (λ file. file name ≡ Some bytes) → Answers (ended (imported manager roots bytes)) result a out out'
+    → IfSome reported (λ file. Answers (judged_for file (Ok (Import name manager roots))) result a out out')
+of_file None name bytes manager roots result a out out' is answers = tt
+of_file (Some file) name bytes manager roots result a out out' is answers = rw is answers
 
 -- and of two files
 pub of_two : (reported : Option Contents) (view : DumpView) (first second one other : List ℕ) (result : Result Answer Stop) (a : Bool) (out out' : Option (List ℕ))

@@ -1,5 +1,5 @@
 -- The result of an invocation, from its arguments, the bytes of its files, and what becomes of the fabric that they describe.
-use Rattle.std.specs.Prelude.{ℕ, ◌≡◌, ◌≢◌, ◌⊎◌, Bool, true, List, [], Option, Some, None, is_some, option_map, unwrap_or, Vec}
+use Rattle.std.specs.Prelude.{ℕ, ◌≡◌, ◌≢◌, ◌⊎◌, Bool, true, false, List, [], Option, Some, None, is_some, option_map, unwrap_or, Vec}
 use Rattle.std.specs.Prelude.{codes, if◌then◌else◌, length, map, string_bytes, ◌++◌, ◌==◌, IfOk, IfSome, Result, Ok, Err}
 use Rattle.std.specs.Io.KnownBytes.{Appends, Keeps}
 use Rattle.subnet_core.specs.declared.fault.RunFault.{RunFault}
@@ -85,6 +85,7 @@ use Rattle.topo_file.specs.Fault.{code_of as topology_code}
 use Rattle.topo_file.specs.declared.fault.TopologyCause.{TopologyCause}
 use Rattle.netdiscover_file.specs.Discovery.{DiscoveryState, discovery_of, is_discovery}
 use Rattle.netdiscover_file.specs.declared.fault.DiscoveryCause.{DiscoveryCause}
+use Rattle.rooted_import.specs.Rooted.{rooted_import_of}
 use Rattle.topology_import.specs.Import.{import_of}
 use Rattle.topology_import.specs.declared.fault.ImportCause.{ImportCause}
 use Rattle.fabric_cli.specs.Faults.{managed_line, foreign_line, line_of, status_of, memory_line, partitions_line, port_line, run_line, script_line, second_line, run_status, topology_line}
@@ -325,12 +326,17 @@ abbrev pub imported_as : Result (List ℕ) (AtLine ImportCause) → Ending
 imported_as (Ok text) = complete text
 imported_as (Err at) = faulted 1 (foreign_line (Import at.cause) at.line)
 
-abbrev pub imported_from : Option ℕ → Result DiscoveryState (AtLine DiscoveryCause) → Ending
-imported_from manager (Ok discovery) = imported_as (import_of discovery manager)
-imported_from manager (Err at) = faulted 1 (foreign_line (Discovery at.cause) at.line)
+-- with the top switches as roots, if they are asked for
+abbrev pub imported_by : (roots : Bool) → DiscoveryState → Option ℕ → Result (List ℕ) (AtLine ImportCause)
+imported_by true discovery manager = rooted_import_of discovery manager
+imported_by false discovery manager = import_of discovery manager
 
-abbrev pub imported : Option ℕ → List ℕ → Ending
-imported manager text = imported_from manager (discovery_of text)
+abbrev pub imported_from : Option ℕ → (roots : Bool) → Result DiscoveryState (AtLine DiscoveryCause) → Ending
+imported_from manager roots (Ok discovery) = imported_as (imported_by roots discovery manager)
+imported_from manager roots (Err at) = faulted 1 (foreign_line (Discovery at.cause) at.line)
+
+abbrev pub imported : Option ℕ → (roots : Bool) → List ℕ → Ending
+imported manager roots text = imported_from manager roots (discovery_of text)
 
 -- ---- the LFTs of the fabric of a topology or a discovery, which is not brought up
 abbrev pub audit_ending : AuditState → Ending
@@ -505,9 +511,9 @@ abbrev pub judged_if_read : Result Bytes Ending → Judged
 judged_if_read (Ok texts) = to_judge texts
 judged_if_read (Err ending) = ended ending
 
-abbrev pub import_of_file : Option ℕ → Result (List ℕ) Ending → Ending
-import_of_file manager (Ok text) = imported manager text
-import_of_file manager (Err ending) = ending
+abbrev pub import_of_file : Option ℕ → (roots : Bool) → Result (List ℕ) Ending → Ending
+import_of_file manager roots (Ok text) = imported manager roots text
+import_of_file manager roots (Err ending) = ending
 
 abbrev pub view_of_files : DumpView → Result (List ℕ) Ending → Result (List ℕ) Ending → Ending
 view_of_files view (Ok fabric) (Ok tables) = viewed view fabric tables
@@ -524,7 +530,7 @@ keys_of_files manager all (Err ending) pkeys partitions = ending
 abbrev pub judged_for : Contents → Asking → Judged
 judged_for file (Err shown) = ended (refused shown)
 judged_for file (Ok (Subnet names)) = judged_if_read (texts_of file names)
-judged_for file (Ok (call.Import netdiscover manager)) = ended (import_of_file manager (bytes_of file netdiscover))
+judged_for file (Ok (call.Import netdiscover manager roots)) = ended (import_of_file manager roots (bytes_of file netdiscover))
 judged_for file (Ok (call.Dumped view fabric dump)) = ended (view_of_files view (bytes_of file fabric) (bytes_of file dump))
 judged_for file (Ok (call.AuditKeys netdiscover pkeys partitions manager all)) =
     ended (keys_of_files manager all (bytes_of file netdiscover) (bytes_of file pkeys) (bytes_if_named file partitions))
@@ -550,7 +556,7 @@ AreFor names texts = (is_some texts.partitions ≡ is_some names.partitions) × 
 abbrev pub ForSomeBytes : Asking → (Judged → Type 0) → Type 0
 ForSomeBytes (Err shown) Is = Is (ended (refused shown))
 ForSomeBytes (Ok (Subnet names)) Is = (texts : Bytes) × AreFor names texts × Is (to_judge texts)
-ForSomeBytes (Ok (call.Import netdiscover manager)) Is = (text : List ℕ) × Is (ended (imported manager text))
+ForSomeBytes (Ok (call.Import netdiscover manager roots)) Is = (text : List ℕ) × Is (ended (imported manager roots text))
 ForSomeBytes (Ok (call.Dumped view fabric dump)) Is = (plan tables : List ℕ) × Is (ended (viewed view plan tables))
 ForSomeBytes (Ok (call.AuditKeys netdiscover pkeys partitions manager all)) Is =
     (found answers : List ℕ) × (parts : Option (List ℕ)) × (is_some parts ≡ is_some partitions) × Is (ended (keys_audited manager all found answers parts))

@@ -1,6 +1,6 @@
 //! What is printed for files that were read.
 
-ghost use Rattle.std.specs.Prelude.{◌≡◌, Err, Ok, Some, None, option_copied, option_map, IfErr, IfOk, IsErr};
+ghost use Rattle.std.specs.Prelude.{◌≡◌, Err, List, Ok, Result, Some, None, ℕ, option_copied, option_map, IfErr, IfOk, IsErr};
 ghost use Rattle.cable_cuts.specs.Fate.{HaveBroughtUp};
 ghost use Rattle.cli_args.specs.Words.{named_inspection, named_view};
 ghost use Rattle.cli_args.specs.declared.call.CutView.TheVariants.{All as AllCuts, One as OneCut, Picture as CutPicture};
@@ -9,12 +9,14 @@ ghost use Rattle.cli_args.specs.declared.call.Work.TheVariants as work;
 ghost use Rattle.fabric_cli.specs.Faults.{IsOfRun};
 ghost use Rattle.fabric_cli.specs.Serving.{asked_port, changes_in, looked_at, second_stop, shares_in, texts_with, traced};
 ghost use Rattle.fabric_cli.specs.Serving.{ComesTo, CutComes, EndsIn, comparison_text, discovery_stop, dump_ending, dump_stop, found_ending, plan_ending, viewed, viewed_by, viewed_from, viewed_of, viewed_over};
-ghost use Rattle.fabric_cli.specs.Serving.{ended, import_stop, imported, imported_as, topology_stop, yes_or_no};
+ghost use Rattle.fabric_cli.specs.Serving.{ended, import_stop, imported, imported_as, imported_by, topology_stop, yes_or_no};
 ghost use Rattle.dump_file.specs.Dump.{dump_of};
 ghost use Rattle.fabric_parts.specs.declared.limits.Limits.TheVariants.{Large};
 ghost use Rattle.netdiscover_file.specs.Discovery.{discovery_of};
 ghost use Rattle.topo_file.specs.Topology.{topology_within};
-ghost use Rattle.topology_import.specs.Import.{import_of};
+ghost use Rattle.step_results.specs.AtLine.{AtLine};
+ghost use Rattle.step_results.specs.TextGives.{TextGives};
+ghost use Rattle.topology_import.specs.declared.fault.ImportCause.{ImportCause};
 ghost use Rattle.fabric_cli.specs.declared.faults.Stop.TheVariants.{NoMemory};
 ghost use Rattle.subnet_core.specs.BringUp.{up_in};
 ghost use Rattle.script_lines.specs.NamedPort.{adapter_place};
@@ -33,6 +35,7 @@ use own_loads::{own_load_text, own_looks};
 use packet_trace::trace_text;
 use partition_changes::changes_text;
 use port_shares::listed_shares;
+use rooted_import::rooted_topology_text;
 use route_audit::{Audit, audit, audit_discovery};
 use script_lines::named_cable;
 use std::alloc::{AllocError, Global};
@@ -384,30 +387,45 @@ pub fn compared<'a>(
     }
 }
 
-/// A topology from what `ibnetdiscover` printed, with the SM on the port of that GUID, if one is given.
+/// A topology from what `ibnetdiscover` printed, with the SM on the port of that GUID, if one is given, and with the top switches as
+/// roots, if they are asked for.
 pub fn imported<'a>(
     alloc: Global,
     netdiscover: &[u8],
     manager: Option<u64>,
+    roots: bool,
 ) -> Result<Vec<u8>, Stop<'a>>
-    ensures exact { ComesTo (λ text. text.items) (ended (imported manager netdiscover.now)) result }
+    ensures exact { ComesTo (λ text. text.items) (ended (imported manager roots netdiscover.now)) result }
     ensures fault { IfErr result IsOfRun }
 {
     match netdiscover_file::read(alloc, netdiscover) {
-        Ok(discovery) => import_of(alloc, &discovery, manager),
+        Ok(discovery) => imported_by(alloc, &discovery, manager, roots),
         Err(fault) => Err(discovery_stop(fault)),
     }
 }
 
-fn import_of<'a>(
+fn imported_by<'a>(
     alloc: Global,
     discovery: &Discovery,
     manager: Option<u64>,
+    roots: bool,
 ) -> Result<Vec<u8>, Stop<'a>>
-    ensures exact { ComesTo (λ text. text.items) (ended (imported_as (import_of discovery.now manager))) result }
+    ensures exact { ComesTo (λ text. text.items) (ended (imported_as (imported_by roots discovery.now manager))) result }
     ensures fault { IfErr result IsOfRun }
 {
-    match topology_text(alloc, discovery, manager) {
+    if roots {
+        import_or_stop(rooted_topology_text(alloc, discovery, manager))
+    } else {
+        import_or_stop(topology_text(alloc, discovery, manager))
+    }
+}
+
+fn import_or_stop<'a>(made: Result<Vec<u8>, ImportFault>) -> Result<Vec<u8>, Stop<'a>>
+    ensures exact { (given : Result (List ℕ) (AtLine ImportCause)) → TextGives (λ text. text.items) made given
+        → ComesTo (λ text. text.items) (ended (imported_as given)) result }
+    ensures fault { IfErr result IsOfRun }
+{
+    match made {
         Ok(text) => Ok(text),
         Err(error) => Err(import_stop(error)),
     }

@@ -153,8 +153,9 @@ fn answered<'a, P: Parser, F: Files, O: Output>(
             Call::Import {
                 netdiscover,
                 manager,
+                roots,
             },
-        ) => answered_of_discovery(alloc, netdiscover, manager, files, out),
+        ) => answered_of_discovery(alloc, netdiscover, manager, roots, files, out),
         Ok(Call::Dumped { view, fabric, dump }) => {
             answered_of_dump(alloc, view, fabric, dump, files, out)
         }
@@ -184,19 +185,20 @@ fn answered_of_discovery<'a, F: Files, O: Output>(
     alloc: Global,
     netdiscover: &'a str,
     manager: Option<u64>,
+    roots: bool,
     files: &mut F,
     out: &mut O,
 ) -> Result<Answer, Stop<'a>>
     ensures opened { OpensAll (F.opened files.old) (F.opened files.new) (netdiscover.entry.now ∷ []) }
-    ensures exact { IfSome (F.reported files.old) (λ file. Answers (judged_for file (Ok (ToImport netdiscover.entry.now manager))) result
+    ensures exact { IfSome (F.reported files.old) (λ file. Answers (judged_for file (Ok (ToImport netdiscover.entry.now manager roots))) result
         (O.is_sure out.old) (O.contents out.old) (O.contents out.new)) }
-    ensures any_files { IsReported result → ForSomeBytes (Ok (ToImport netdiscover.entry.now manager))
+    ensures any_files { IsReported result → ForSomeBytes (Ok (ToImport netdiscover.entry.now manager roots))
         (λ judged. Answers judged result (O.is_sure out.old) (O.contents out.old) (O.contents out.new)) }
     ensures unread { IfErr result (NamesUnread (F.reported files.old) (F.reads files.old)
         (F.opened files.old) (F.opened files.new) (netdiscover.entry.now ∷ [])) }
 {
     match read_file(alloc, files, netdiscover, TextSize::Big) {
-        Ok(text) => written(out, imported(alloc, text.as_slice(), manager)),
+        Ok(text) => written(out, imported(alloc, text.as_slice(), manager, roots)),
         Err(stop) => Err(stop),
     }
 }

@@ -1,0 +1,2 @@
+pub mod LawLemmas
+pub mod WrongLemmas

@@ -1,0 +1,5 @@
+pub mod Roots
+pub mod Agreement
+pub mod Rooted
+pub mod Laws
+pub mod WrongRules
