@@ -7,7 +7,8 @@ use Rattle.std.specs.Option.{option_and_then}
 use Rattle.text_parts.specs.Parts.{quoted}
 use Rattle.fabric_graph.specs.declared.loads.Look.{Look}
 use Rattle.fabric_graph.specs.declared.loads.Look.TheVariants.{Loaded, Needed, Plain}
-use Rattle.fabric_graph.specs.Loads.{loaded_look}
+use Rattle.fabric_graph.specs.declared.cables.TheConstants.{LABELLED}
+use Rattle.fabric_graph.specs.Loads.{end_name, loaded_look}
 use Rattle.fabric_graph.specs.Ranks.{rank_of}
 use Rattle.fabric_parts.specs.Cable.{far_end}
 use Rattle.fabric_parts.specs.declared.cable.Cable.{Cable}
@@ -59,13 +60,24 @@ shade nodes most cable Plain = []
 shade nodes most cable Needed = codes ", color=red, penwidth=2"
 shade nodes most cable (Loaded load) = loaded_look nodes most cable load
 
-unfoldable pub edge_head : List Node → Cable → List ℕ
-edge_head nodes cable = codes "  " ++ ends nodes cable ++ codes " [" ++ end_labels cable
+-- in a picture of more cables than these the numbers of ports are not at the ends, since they cover one another there, but are shown
+-- where one points at the edge, as `tooltip="A/3 to B/3"`
+abbrev pub is_crowded : (cables : ℕ) → Bool
+is_crowded cables = nat_lt LABELLED cables
 
-abbrev pub edge_line : List Node → (stroke shade : List ℕ) → Cable → List ℕ
-edge_line nodes stroke shade cable = edge_head nodes cable ++ stroke ++ shade ++ codes "];\n"
+unfoldable pub ends_tooltip : List Node → Cable → List ℕ
+ends_tooltip nodes cable = codes "tooltip=\"" ++ end_name nodes cable.first ++ codes " to " ++ end_name nodes cable.second ++ codes "\""
+
+unfoldable pub ports_shown : (crowded : Bool) → List Node → Cable → List ℕ
+ports_shown crowded nodes cable = if crowded then ends_tooltip nodes cable else end_labels cable
+
+unfoldable pub edge_head : (crowded : Bool) → List Node → Cable → List ℕ
+edge_head crowded nodes cable = codes "  " ++ ends nodes cable ++ codes " [" ++ ports_shown crowded nodes cable
+
+abbrev pub edge_line : (crowded : Bool) → List Node → (stroke shade : List ℕ) → Cable → List ℕ
+edge_line crowded nodes stroke shade cable = edge_head crowded nodes cable ++ stroke ++ shade ++ codes "];\n"
 
 -- as `"A" -- "h1" [taillabel="2", headlabel="1"];`, or, if it is cut, `"A" -- "B" [taillabel="3", headlabel="3", style=dashed];`
-abbrev pub cable_line : RoutesState → List Node → FabricState → (most : ℕ) → Look → Cable → List ℕ
-cable_line routes nodes fabric most look cable =
-    edge_line nodes (stroke (is_cut fabric cable)) (shade nodes most cable look) (downward routes nodes cable)
+abbrev pub cable_line : (crowded : Bool) → RoutesState → List Node → FabricState → (most : ℕ) → Look → Cable → List ℕ
+cable_line crowded routes nodes fabric most look cable =
+    edge_line crowded nodes (stroke (is_cut fabric cable)) (shade nodes most cable look) (downward routes nodes cable)

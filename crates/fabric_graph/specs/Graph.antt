@@ -2,7 +2,7 @@
 use Rattle.std.specs.Prelude.{ℕ, if◌then◌else◌, List, [], ◌++◌, codes, flat_map, get_or, length, slice_get, Option}
 use Rattle.std.specs.Option.{option_map_or}
 use Rattle.std.specs.List.{range_with_len}
-use Rattle.fabric_graph.specs.Cables.{cable_line}
+use Rattle.fabric_graph.specs.Cables.{cable_line, is_crowded}
 use Rattle.fabric_graph.specs.declared.loads.Look.{Look}
 use Rattle.fabric_graph.specs.declared.loads.Look.TheVariants.{Plain}
 use Rattle.fabric_graph.specs.Loads.{legend_of, most_of}
@@ -24,7 +24,7 @@ ranks_drawn routes = range_with_len 0 (length routes.graph.switches)
 
 -- a cable that no list shows
 abbrev pub edge_of : TopologyState → RoutesState → FabricState → List (Option AttachmentState) → (most : ℕ) → Look → Cable → List ℕ
-edge_of plan routes fabric attachments most look cable = if is_in_list attachments cable then [] else cable_line routes plan.nodes fabric most look cable
+edge_of plan routes fabric attachments most look cable = if is_in_list attachments cable then [] else cable_line (is_crowded (length plan.cables)) routes plan.nodes fabric most look cable
 
 -- the cable at that place of the topology; how it looks is given by places, and those of which it is not are plain
 unfoldable pub edge_at : TopologyState → RoutesState → FabricState → List (Option AttachmentState) → (looks : List Look) → ℕ → List ℕ

@@ -54,7 +54,7 @@ step_colour step =
     else codes "red4"
 
 -- ---- how an edge shows its load: as `, color="orange", penwidth=3, tooltip="A/2 to B/2 31, B/2 to A/2 7"`
-abbrev pub end_name : List Node → PortRef → List ℕ
+unfoldable pub end_name : List Node → PortRef → List ℕ
 end_name nodes end = port_name (name_at nodes end.node) end.port
 
 unfoldable pub direction : List Node → (from to : PortRef) → (load : ℕ) → List ℕ

@@ -1,11 +1,11 @@
 //! The cables of a topology, as edges; those that are cut in the fabric are dashed.
 
-ghost use Rattle.std.specs.Prelude.{◌≡◌, ◌++◌, OnOk};
+ghost use Rattle.std.specs.Prelude.{◌≡◌, ◌++◌, length, OnOk};
 ghost use Rattle.fabric_graph.specs.Cables.{cable_line, downward, edge_head, end_label, end_labels, ends, is_above, is_cut, rank_at};
-ghost use Rattle.fabric_graph.specs.Cables.{shade, stroke};
+ghost use Rattle.fabric_graph.specs.Cables.{ends_tooltip, is_crowded, ports_shown, shade, stroke};
 
 use crate::lists::Attachment;
-use crate::loads::{Look, push_loaded_look};
+use crate::loads::{Look, push_end_name, push_loaded_look};
 use crate::ranks::rank_of;
 use fabric_parts::Cable;
 use fabric_wire::Fabric;
@@ -13,6 +13,9 @@ use std::alloc::AllocError;
 use text_parts::{push_decimal, push_quoted};
 use topo_file::{Node, Topology, name_at};
 use updn_routes::Routes;
+
+/// How many cables a picture has at most in which the numbers of ports are at the ends of edges. The number is ours.
+pub const LABELLED: usize = 200;
 
 /// What the edges are drawn of.
 #[derive(Clone, Copy)]
@@ -36,10 +39,11 @@ pub(crate) fn push_cable_line(
     cable: &Cable,
 ) -> Result<(), AllocError>
     ensures { OnOk result (text.new.items ≡ text.old.items
-        ++ cable_line edges.entry.routes.now edges.entry.topology.now.nodes edges.entry.fabric.now edges.entry.most look cable.now) }
+        ++ cable_line (is_crowded (length edges.entry.topology.now.cables)) edges.entry.routes.now edges.entry.topology.now.nodes edges.entry.fabric.now edges.entry.most look cable.now) }
 {
     let nodes = edges.topology.nodes();
-    push_edge_head(text, nodes, downward(edges.routes, nodes, *cable))?;
+    let crowded = is_crowded(edges.topology.cables().len());
+    push_edge_head(text, crowded, nodes, downward(edges.routes, nodes, *cable))?;
     text.extend_from_slice(stroke(is_cut(edges.fabric, cable)))?;
     push_shade(text, nodes, edges.most, *cable, look)?;
     text.extend_from_slice(b"];\n")
@@ -86,15 +90,54 @@ fn is_above(one: Option<usize>, other: Option<usize>) -> bool
     }
 }
 
+/// Whether a picture has too many cables for the numbers of their ports.
+fn is_crowded(cables: usize) -> bool
+    ensures { result ≡ is_crowded cables }
+{
+    cables > LABELLED
+}
+
 /// Adds the ends of an edge, and the numbers of their ports.
 #[tactic(auto, unfolding(crate::specs::Cables::edge_head))]
-fn push_edge_head(text: &mut Vec<u8>, nodes: &[Node], cable: Cable) -> Result<(), AllocError>
-    ensures { OnOk result (text.new.items ≡ text.old.items ++ edge_head nodes.now cable) }
+fn push_edge_head(
+    text: &mut Vec<u8>,
+    crowded: bool,
+    nodes: &[Node],
+    cable: Cable,
+) -> Result<(), AllocError>
+    ensures { OnOk result (text.new.items ≡ text.old.items ++ edge_head crowded nodes.now cable) }
 {
     text.extend_from_slice(b"  ")?;
     push_ends(text, nodes, cable)?;
     text.extend_from_slice(b" [")?;
-    push_end_labels(text, cable)
+    push_ports_shown(text, crowded, nodes, cable)
+}
+
+#[tactic(auto, unfolding(crate::specs::Cables::ports_shown))]
+fn push_ports_shown(
+    text: &mut Vec<u8>,
+    crowded: bool,
+    nodes: &[Node],
+    cable: Cable,
+) -> Result<(), AllocError>
+    ensures { OnOk result (text.new.items ≡ text.old.items ++ ports_shown crowded nodes.now cable) }
+{
+    if crowded {
+        push_ends_tooltip(text, nodes, cable)
+    } else {
+        push_end_labels(text, cable)
+    }
+}
+
+#[tactic(auto, unfolding(crate::specs::Cables::ends_tooltip))]
+fn push_ends_tooltip(text: &mut Vec<u8>, nodes: &[Node], cable: Cable) -> Result<(), AllocError>
+    ensures { OnOk result (text.new.items ≡ text.old.items ++ ends_tooltip nodes.now cable) }
+{
+    text.extend_from_slice(b"tooltip=\"")?;
+    push_end_name(text, nodes, cable.first)?;
+    text.extend_from_slice(b" to ")?;
+    push_end_name(text, nodes, cable.second)?;
+    text.extend_from_slice(b"\"")
 }
 
 /// How the edge of a cable is drawn that is cut, or is not.

@@ -1,6 +1,13 @@
 //! What holds of every drawing. Each function's contract is its law; it does nothing.
 
+ghost use Rattle.std.specs.Prelude.{◌≡◌};
+ghost use Rattle.fabric_graph.specs.declared.cables.TheConstants.{LABELLED};
 ghost use Rattle.fabric_graph.specs.Laws.{EachCableIsDrawnOnce, EachLoadHasOneRow, EachNodeIsDrawnOnce, EachRankHasARow, StepsAreFifths};
+
+/// In a picture of how many cables at most the numbers of ports are at the ends of edges. The number is ours.
+pub fn the_numbers()
+    ensures { LABELLED ≡ 200 }
+{}
 
 /// Each switch that has a rank stands in a row: its rank is less than the number of switches, since a shortest way to a root
 /// passes no switch twice.

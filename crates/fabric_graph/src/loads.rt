@@ -141,7 +141,13 @@ fn step_colour(step: usize) -> &'static [u8]
     }
 }
 
-fn push_end_name(text: &mut Vec<u8>, nodes: &[Node], end: PortRef) -> Result<(), AllocError>
+/// Adds the name of a port.
+#[tactic(auto, unfolding(crate::specs::Loads::end_name))]
+pub(crate) fn push_end_name(
+    text: &mut Vec<u8>,
+    nodes: &[Node],
+    end: PortRef,
+) -> Result<(), AllocError>
     ensures { OnOk result (text.new.items ≡ text.old.items ++ end_name nodes.now end) }
 {
     push_port_name(text, name_at(nodes, end.node), end.port)
