@@ -1,0 +1,2 @@
+pub mod MaskSoundLemmas
+pub mod MaskExampleLemmas
