@@ -88,8 +88,12 @@ roots_option = record (new_rule (codes "ROOTS")) { long = Some (codes "roots"); 
 abbrev pub import_command : App
 import_command = with_rule (with_rule (with_rule (new_app (codes "import")) (wanted (codes "NETDISCOVER"))) manager_option) roots_option
 
+-- `--mft MFTS`
+abbrev pub mfts_option : Rule
+mfts_option = record (new_rule (codes "MFTS")) { long = Some (codes "mft"); action = Some Set; value_names = 1 }
+
 abbrev pub audit_command : App
-audit_command = with_rule (with_rule (new_app (codes "audit")) (wanted (codes "FABRIC"))) (wanted (codes "DUMP"))
+audit_command = with_rule (with_rule (with_rule (new_app (codes "audit")) (wanted (codes "FABRIC"))) (wanted (codes "DUMP"))) mfts_option
 
 -- `--dump DUMP`
 abbrev pub dump_option : Rule

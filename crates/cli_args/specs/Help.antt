@@ -148,6 +148,9 @@ help_of_roots = codes "With `auto` the switches that are farthest from CAs becom
 abbrev pub help_of_dump : List ℕ
 help_of_dump = codes "The LFTs, as dump_fts prints them"
 
+abbrev pub help_of_mfts : List ℕ
+help_of_mfts = codes "The MFTs, as dump_fts -M prints them: multicast is judged too"
+
 -- ---- for arguments that the program itself refuses
 abbrev pub not_text_line : List ℕ
 not_text_line = codes "error: an argument is not UTF-8\n"

@@ -16,7 +16,7 @@ use Rattle.cli_args.specs.declared.call.Asked.{Asked}
 use Rattle.cli_args.specs.declared.call.Call.{Call}
 use Rattle.cli_args.specs.declared.call.CutView.{CutView}
 use Rattle.cli_args.specs.declared.call.CutView.TheVariants.{All, One, Picture}
-use Rattle.cli_args.specs.declared.call.Call.TheVariants.{AuditKeys, Dumped, Explain, Import, Subnet}
+use Rattle.cli_args.specs.declared.call.Call.TheVariants.{AuditKeys, AuditMfts, Dumped, Explain, Import, Subnet}
 use Rattle.cli_args.specs.declared.call.Work.{Work}
 use Rattle.cli_args.specs.declared.call.Inspection.{Inspection}
 use Rattle.cli_args.specs.declared.call.Inspection.TheVariants.{Graph, Keys, Load, LoadGraph, Tables, Trace}
@@ -69,6 +69,7 @@ abbrev pub named_call : Call Asked (Bor Text) → Call Names Text
 named_call (Subnet asked) = Subnet (names asked)
 named_call (Import netdiscover manager roots) = Import netdiscover.now manager roots
 named_call (Dumped view fabric dump) = Dumped view fabric.now dump.now
+named_call (AuditMfts fabric dump mfts) = AuditMfts fabric.now dump.now mfts.now
 named_call (AuditKeys netdiscover pkeys partitions manager all) = AuditKeys netdiscover.now pkeys.now (option_map (λ name. name.now) partitions) manager all
 named_call (Explain code) = Explain code
 
@@ -170,8 +171,14 @@ abbrev pub dumped_by : DumpView → Option Text → Option Text → Option (Call
 dumped_by view (Some fabric) (Some dump) = Some (Dumped view fabric dump)
 dumped_by view _ _ = None
 
-abbrev pub dumped : DumpView → List Row → Option (Call Names Text)
-dumped view rows = dumped_by view (first_of (codes "FABRIC") rows) (first_of (codes "DUMP") rows)
+-- an audit of these, and of MFTs if they are given
+abbrev pub audit_with : (mfts fabric dump : Option Text) → Option (Call Names Text)
+audit_with None fabric dump = dumped_by dump_view.Audit fabric dump
+audit_with (Some mfts) (Some fabric) (Some dump) = Some (AuditMfts fabric dump mfts)
+audit_with (Some mfts) _ _ = None
+
+abbrev pub audit_by : List Row → Option (Call Names Text)
+audit_by rows = audit_with (first_of (codes "MFTS") rows) (first_of (codes "FABRIC") rows) (first_of (codes "DUMP") rows)
 
 -- loads, after the commands of a script if one is given
 abbrev pub loads_in : (script : Option Text) → (all : Bool) → Work Text Text Text
@@ -206,7 +213,7 @@ explain_by (Some word) = option_map (λ code. Explain (Some code)) (code_of word
 -- `check` takes no more arguments than its subnet's, `shares` takes a port, and `tables`, `keys`, `trace` and `graph` take a script,
 -- `cuts` two ports;
 -- `diff` needs other partitions, `trace` a packet, `run` a script, `smp` SMPs, `manage` replies, and `compare` two scripts and a port; `import` needs a file of
--- its own and takes a GUID and roots, `audit` needs a fabric and a dump, and `load` these or a topology and partitions, and takes a script; `audit-keys` two files of its own and partitions, and takes a GUID, and
+-- its own and takes a GUID and roots, `audit` needs a fabric and a dump, and takes MFTs, and `load` these or a topology and partitions, and takes a script; `audit-keys` two files of its own and partitions, and takes a GUID, and
 -- `explain` takes a code
 abbrev pub call_in : Subcommand → List Row → Option (Call Names Text)
 call_in command.Check rows = in_subnet rows (Some Check)
@@ -223,7 +230,7 @@ call_in command.Compare rows = in_subnet rows (compare_by rows)
 call_in command.Cuts rows = in_subnet rows (cuts_by (first_of (codes "PORT") rows) (first_of (codes "PORT2") rows))
 call_in command.Import rows =
     import_by (first_of (codes "NETDISCOVER") rows) (guid_by (first_of (codes "SM") rows)) (roots_by (first_of (codes "ROOTS") rows))
-call_in command.Audit rows = dumped dump_view.Audit rows
+call_in command.Audit rows = audit_by rows
 call_in command.Load rows = load_by rows
 call_in command.AuditKeys rows = audit_keys_by rows
 call_in command.Explain rows = explain_by (first_of (codes "CODE") rows)
@@ -329,5 +336,6 @@ opened_for (Err text) = []
 opened_for (Ok (Subnet asked)) = all_names asked
 opened_for (Ok (Import netdiscover manager roots)) = netdiscover ∷ []
 opened_for (Ok (Dumped view fabric dump)) = fabric ∷ dump ∷ []
+opened_for (Ok (AuditMfts fabric dump mfts)) = fabric ∷ dump ∷ mfts ∷ []
 opened_for (Ok (AuditKeys netdiscover pkeys partitions manager all)) = netdiscover ∷ pkeys ∷ option_to_list partitions
 opened_for (Ok (Explain code)) = []

@@ -159,6 +159,15 @@ pub enum Call<A, W> {
         /// The file that has its LFTs.
         dump: W,
     },
+    /// Judge the LFTs and the MFTs of a real fabric.
+    AuditMfts {
+        /// What `ibnetdiscover` printed of it, or its topology.
+        fabric: W,
+        /// The file that has its LFTs.
+        dump: W,
+        /// The file that has its MFTs.
+        mfts: W,
+    },
     /// Compare the P_Key tables of a real fabric with a partition file.
     AuditKeys {
         /// What `ibnetdiscover` printed of it.

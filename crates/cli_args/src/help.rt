@@ -396,8 +396,11 @@ if
   - the dump and FABRIC have the same switches and CA ports,
   - where a switch sends such a LID to another switch, the entry there is known.
 Otherwise the status is 1, and nothing is written on standard error. Credit loops are judged as if all
-packets used one virtual lane; multicast is not judged. Routers count as CAs. Behind a LID stands its
-port, if one is known.
+packets used one virtual lane. Without --mft multicast is not judged. Routers count as CAs. Behind a LID
+stands its port, if one is known.
+
+With --mft the MFTs have to be safe too: no packet to an MLID loops or comes to a switch twice by the port
+masks, each switch has an MFT, and each MFT is of a switch of FABRIC.
 
 First comes what one file has and the other lacks:
   # passed over: PORT PORT     a cable between these joins no switch
@@ -437,10 +440,24 @@ decide; those of `transit:` are of another switch and a CA's LID. Aggregation no
 begins with `verdict: not safe (REASON, ..), as if`; the reasons are no-lid, unreached, deadlock,
 mismatch and unknown, for the five conditions above.
 
+With --mft these lines stand before the verdict:
+  multicast no-table SWITCH   there is no MFT of this switch
+  multicast no-switch GUID    there is an MFT of a switch that FABRIC lacks
+  multicast no-port SWITCH MLID port P    the mask has a port that the switch does not have
+  multicast nowhere SWITCH MLID port P    the mask has a port without a cable
+  multicast loop MLID PORT PORT ..        packets leave by these ports, one after the other, and by the
+                                          first one again
+  multicast copies MLID SWITCH from SWITCH2    what an end port at SWITCH2 sends comes to SWITCH twice
+  multicast: N MLIDs, N with a loop, N with copies
+  # multicast: members that no packet reaches are unknown, ..
+Then the reasons may also be multicast-loop and multicast-copies. Of an MLID at most one loop and one
+switch with copies are printed.
+
 For example, for your own fabric:
   ibnetdiscover >discovered
   dump_fts >tables
-  fabric audit discovered tables
+  dump_fts -M >masks
+  fabric audit discovered tables --mft masks
 
 ",
     "help",
@@ -554,6 +571,7 @@ pub(crate) const CODES: &str = with_statuses!(
   AR1 to AR4             why a port refuses to send a packet
   ND1 to ND7             an error in what ibnetdiscover printed, in `import`
   FT1 to FT7             an error in dumped LFTs, in `audit` and `load`
+  FM1 to FM5             an error in dumped MFTs, in `audit` with --mft
   KT1 to KT5             an error in answers of smpquery, in `audit-keys`
   SW1 to SW4, UR1, TP1 to TP3
                          why the fabric of a topology cannot be brought up

@@ -3,7 +3,7 @@
 ghost use Rattle.std.specs.Prelude.{◌≡◌, ◌^◌, Ok, Some, map, string_bytes, option_map, IfOk, IfErr};
 ghost use Rattle.clap.specs.Words.{first_of, found_of, rows_of, subcommand_rows_of};
 ghost use Rattle.cli_args.specs.Refusals.{IsOfGiven, IsOfWords, ReportsAll};
-ghost use Rattle.cli_args.specs.Words.{asked_by, asked_in, asked_of, call_in, compare_by, cuts_by, diff_by, dumped, dumped_by, explain_by, file_in, given_items, guid_by};
+ghost use Rattle.cli_args.specs.Words.{asked_by, asked_in, asked_of, audit_by, audit_with, call_in, compare_by, cuts_by, diff_by, dumped_by, explain_by, file_in, given_items, guid_by};
 ghost use Rattle.cli_args.specs.Words.{audit_keys_by, import_by, in_subnet, roots_by};
 ghost use Rattle.text_words.specs.Number.{if_under, number_in};
 ghost use Rattle.cli_args.specs.Words.{graph_by, graph_with, inspect_by, is_given, load_by, load_with, loads_in, named_call, named_found, named_inspection};
@@ -152,7 +152,7 @@ fn call_of<'a>(command: Subcommand, found: &ArgMatches<'a>) -> Option<Call<Asked
             let roots = roots_by(word_of(found, "ROOTS"));
             import_by(word_of(found, "NETDISCOVER"), manager, roots)
         }
-        Subcommand::Audit => dumped(DumpView::Audit, found),
+        Subcommand::Audit => audit_by(found),
         Subcommand::Load => load_by(found),
         Subcommand::AuditKeys => audit_keys(found),
         Subcommand::Explain => explain_by(word_of(found, "CODE")),
@@ -371,10 +371,31 @@ fn dumped_by<'a>(
     })
 }
 
-fn dumped<'a>(view: DumpView, found: &ArgMatches<'a>) -> Option<Call<Asked<'a>, &'a str>>
-    ensures { option_map named_call result ≡ dumped view (rows_of (found_of found.now)) }
+/// The audit of the LFTs of a fabric, and of its MFTs if they are given.
+fn audit_by<'a>(found: &ArgMatches<'a>) -> Option<Call<Asked<'a>, &'a str>>
+    ensures { option_map named_call result ≡ audit_by (rows_of (found_of found.now)) }
 {
-    dumped_by(view, word_of(found, "FABRIC"), word_of(found, "DUMP"))
+    let fabric = word_of(found, "FABRIC");
+    let dump = word_of(found, "DUMP");
+    audit_with(word_of(found, "MFTS"), fabric, dump)
+}
+
+fn audit_with<'a>(
+    mfts: Option<&'a str>,
+    fabric: Option<&'a str>,
+    dump: Option<&'a str>,
+) -> Option<Call<Asked<'a>, &'a str>>
+    ensures { option_map named_call result ≡ audit_with (option_map (λ word. word.now) mfts.entry)
+        (option_map (λ word. word.now) fabric.entry) (option_map (λ word. word.now) dump.entry) }
+{
+    match mfts {
+        Some(mfts) => Some(Call::AuditMfts {
+            fabric: fabric?,
+            dump: dump?,
+            mfts,
+        }),
+        None => dumped_by(DumpView::Audit, fabric, dump),
+    }
 }
 
 /// The loads of cables by a dump, or those of the subnet of a topology and partitions.

@@ -8,6 +8,7 @@ use Rattle.code_texts.specs.declared.code.Code.TheVariants.{Pf1, Pf2, Pf3, Pf4, 
 use Rattle.code_texts.specs.declared.code.Code.TheVariants.{Sf1, Sf2, Sf3, Sf4, Sf5, Sf6, Sf7, Ar1, Ar2, Ar3, Ar4}
 use Rattle.code_texts.specs.declared.code.Code.TheVariants.{Nd1, Nd2, Nd3, Nd4, Nd5, Nd6, Nd7}
 use Rattle.code_texts.specs.declared.code.Code.TheVariants.{Ft1, Ft2, Ft3, Ft4, Ft5, Ft6, Ft7}
+use Rattle.code_texts.specs.declared.code.Code.TheVariants.{Fm1, Fm2, Fm3, Fm4, Fm5}
 use Rattle.code_texts.specs.declared.code.Code.TheVariants.{Kt1, Kt2, Kt3, Kt4, Kt5}
 use Rattle.code_texts.specs.declared.code.Code.TheVariants.{Mf1, Mf2, Sw1, Sw2, Sw3, Sw4, Ur1, Tp1, Tp2, Tp3}
 use Rattle.code_texts.specs.declared.code.Code.TheVariants.{Memory, Read, Write}
@@ -60,6 +61,11 @@ spelling Ft4 = codes "FT4"
 spelling Ft5 = codes "FT5"
 spelling Ft6 = codes "FT6"
 spelling Ft7 = codes "FT7"
+spelling Fm1 = codes "FM1"
+spelling Fm2 = codes "FM2"
+spelling Fm3 = codes "FM3"
+spelling Fm4 = codes "FM4"
+spelling Fm5 = codes "FM5"
 spelling Kt1 = codes "KT1"
 spelling Kt2 = codes "KT2"
 spelling Kt3 = codes "KT3"
@@ -94,6 +100,7 @@ codes_in_order =
     ++ codes "SF1 SF2 SF3 SF4 SF5 SF6 SF7 AR1 AR2 AR3 AR4 "
     ++ codes "ND1 ND2 ND3 ND4 ND5 ND6 ND7 "
     ++ codes "FT1 FT2 FT3 FT4 FT5 FT6 FT7 "
+    ++ codes "FM1 FM2 FM3 FM4 FM5 "
     ++ codes "KT1 KT2 KT3 KT4 KT5 MF1 MF2 "
     ++ codes "SW1 SW2 SW3 SW4 UR1 TP1 TP2 TP3 "
     ++ codes "memory read write "

@@ -9,6 +9,7 @@ use crate::dump_texts::{FT1, FT2, FT3, FT4, FT5, FT6, FT7};
 use crate::fabric_texts::{SW1, SW2, SW3, SW4, TP1, TP2, TP3, UR1};
 use crate::keys_texts::{KT1, KT2, KT3, KT4, KT5};
 use crate::machine_texts::{MEMORY, READ, WRITE};
+use crate::mft_texts::{FM1, FM2, FM3, FM4, FM5};
 use crate::partition_texts::{PF1, PF2, PF3, PF4, PF5, PF6, PF7, PF8, PF9};
 use crate::script_texts::{AR1, AR2, AR3, AR4, SF1, SF2, SF3, SF4, SF5, SF6, SF7};
 use crate::smp_texts::{MF1, MF2};
@@ -110,6 +111,16 @@ pub enum Code {
     Ft6,
     /// A LID that an earlier row has for another end port.
     Ft7,
+    /// A line that dump_fts -M does not print, or not there.
+    Fm1,
+    /// An MFT of a switch that has one already.
+    Fm2,
+    /// An MLID that does not rise.
+    Fm3,
+    /// An MFT with another number of rows.
+    Fm4,
+    /// A file that ends within an MFT, or has none.
+    Fm5,
     /// A line that smpquery does not print, or not there.
     Kt1,
     /// A query that stands twice.
@@ -149,7 +160,7 @@ pub enum Code {
 }
 
 /// All codes, in the order in which they are listed.
-pub const ALL: [Code; 64] = [
+pub const ALL: [Code; 69] = [
     Code::Tf1,
     Code::Tf2,
     Code::Tf3,
@@ -196,6 +207,11 @@ pub const ALL: [Code; 64] = [
     Code::Ft5,
     Code::Ft6,
     Code::Ft7,
+    Code::Fm1,
+    Code::Fm2,
+    Code::Fm3,
+    Code::Fm4,
+    Code::Fm5,
     Code::Kt1,
     Code::Kt2,
     Code::Kt3,
@@ -268,6 +284,11 @@ impl Code {
             Code::Ft5 => "FT5",
             Code::Ft6 => "FT6",
             Code::Ft7 => "FT7",
+            Code::Fm1 => "FM1",
+            Code::Fm2 => "FM2",
+            Code::Fm3 => "FM3",
+            Code::Fm4 => "FM4",
+            Code::Fm5 => "FM5",
             Code::Kt1 => "KT1",
             Code::Kt2 => "KT2",
             Code::Kt3 => "KT3",
@@ -350,6 +371,11 @@ impl Code {
             Code::Ft5 => FT5,
             Code::Ft6 => FT6,
             Code::Ft7 => FT7,
+            Code::Fm1 => FM1,
+            Code::Fm2 => FM2,
+            Code::Fm3 => FM3,
+            Code::Fm4 => FM4,
+            Code::Fm5 => FM5,
             Code::Kt1 => KT1,
             Code::Kt2 => KT2,
             Code::Kt3 => KT3,

@@ -12,6 +12,7 @@ mod keys_texts;
 mod laws;
 mod lines;
 mod machine_texts;
+mod mft_texts;
 mod partition_texts;
 mod script_texts;
 mod smp_texts;

@@ -31,8 +31,10 @@ use Rattle.pkeys_file.specs.declared.fault.KeysCause.TheVariants as keys
 use Rattle.netdiscover_file.specs.declared.fault.DiscoveryCause.{DiscoveryCause}
 use Rattle.netdiscover_file.specs.declared.fault.DiscoveryCause.TheVariants as discovery
 use Rattle.topology_import.specs.declared.fault.ImportCause.TheVariants as import
+use Rattle.mft_file.specs.declared.fault.MftCause.{MftCause}
+use Rattle.mft_file.specs.declared.fault.MftCause.TheVariants as mfts
 use Rattle.fabric_cli.specs.declared.faults.ForeignCause.{ForeignCause}
-use Rattle.fabric_cli.specs.declared.faults.ForeignCause.TheVariants.{Discovery, Dump, Import, Keys, Replies, Smps}
+use Rattle.fabric_cli.specs.declared.faults.ForeignCause.TheVariants.{Discovery, Dump, Import, Keys, Masks, Replies, Smps}
 use Rattle.fabric_cli.specs.Faults.{foreign_line, managed_line, partitions_line, port_line, run_line, script_line, second_line, second_script_line, topology_line}
 use Rattle.fabric_cli.specs.declared.faults.Stop.{Stop}
 use Rattle.fabric_cli.specs.declared.faults.Stop.TheVariants.{Words, NoMemory, Unread, Unwritten, Run, Second, Unmanaged, Unheard, Unsent, Foreign}
@@ -148,6 +150,13 @@ dump_reported dump.WrongCount number = reported_as code.Ft5 _ refl refl refl
 dump_reported dump.Unfinished number = reported_as code.Ft6 _ refl refl refl
 dump_reported dump.TwoEndPorts number = reported_as code.Ft7 _ refl refl refl
 
+mfts_reported : (cause : MftCause) (number : ℕ) → ReportsCode (foreign_line (Masks cause) number)
+mfts_reported mfts.Malformed number = reported_as code.Fm1 _ refl refl refl
+mfts_reported mfts.DuplicateTable number = reported_as code.Fm2 _ refl refl refl
+mfts_reported mfts.WrongMlid number = reported_as code.Fm3 _ refl refl refl
+mfts_reported mfts.WrongCount number = reported_as code.Fm4 _ refl refl refl
+mfts_reported mfts.Unfinished number = reported_as code.Fm5 _ refl refl refl
+
 keys_reported : (cause : KeysCause) (number : ℕ) → ReportsCode (foreign_line (Keys cause) number)
 keys_reported keys.Malformed number = reported_as code.Kt1 _ refl refl refl
 keys_reported keys.DuplicateQuery number = reported_as code.Kt2 _ refl refl refl
@@ -162,6 +171,7 @@ foreign_reported (Import import.UnknownManager) number = reported_as code.Nd6 _ 
 foreign_reported (Import import.Unlike) number = reported_as code.Nd7 _ refl refl refl
 foreign_reported (Import (import.Refused cause)) number = refused_reported cause number
 foreign_reported (Dump cause) number = dump_reported cause number
+foreign_reported (Masks cause) number = mfts_reported cause number
 foreign_reported (Keys cause) number = keys_reported cause number
 foreign_reported Smps number = reported_as code.Mf1 _ refl refl refl
 foreign_reported Replies number = reported_as code.Mf2 _ refl refl refl

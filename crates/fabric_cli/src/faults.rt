@@ -2,7 +2,7 @@
 
 ghost use Rattle.std.specs.Prelude.{◌≡◌, ◌++◌, IfOk, OnOk, option_map};
 ghost use Rattle.std.specs.Option.{option_map_or};
-ghost use Rattle.fabric_cli.specs.Faults.{dump_line, foreign_line, guid_word, guids_line, netdiscover_line, pkeys_line, replies_line, smps_line};
+ghost use Rattle.fabric_cli.specs.Faults.{dump_line, mfts_line, foreign_line, guid_word, guids_line, netdiscover_line, pkeys_line, replies_line, smps_line};
 ghost use Rattle.fabric_cli.specs.Faults.{fabric_line, line_of, memory_line, no_path_line, port_line, run_line, run_status, unread_line, unwritten_line};
 ghost use Rattle.fabric_cli.specs.Faults.{managed_line, managed_stop, placed_line, replies_stop, run_stop, second_line, smps_stop, status_of, stop_of, sweep_status};
 ghost use Rattle.fabric_cli.specs.declared.faults.Stop.TheVariants.{NoMemory};
@@ -11,6 +11,7 @@ ghost use Rattle.partition_file.specs.Fault.{code_of as partitions_code};
 
 use cli_args::Refused;
 use dump_file::DumpCause;
+use mft_file::MftCause;
 use netdiscover_file::DiscoveryCause;
 use partition_file::PartitionCause;
 use pkeys_file::KeysCause;
@@ -82,6 +83,8 @@ pub enum ForeignCause {
     Import(ImportCause),
     /// In dumped LFTs.
     Dump(DumpCause),
+    /// In dumped MFTs.
+    Masks(MftCause),
     /// In P_Key tables that `smpquery` printed.
     Keys(KeysCause),
     /// In SMPs: the line is none.
@@ -330,6 +333,7 @@ fn foreign_line(alloc: Global, line: usize, cause: ForeignCause) -> Result<Vec<u
         }
         ForeignCause::Import(cause) => netdiscover_line(alloc, cause.code(), line),
         ForeignCause::Dump(cause) => dump_line(alloc, cause.code(), line),
+        ForeignCause::Masks(cause) => mfts_line(alloc, cause.code(), line),
         ForeignCause::Keys(cause) => pkeys_line(alloc, cause.code(), line),
         ForeignCause::Smps => smps_line(alloc, line),
         ForeignCause::Replies => replies_line(alloc, line),
@@ -340,6 +344,12 @@ fn netdiscover_line(alloc: Global, code: &str, line: usize) -> Result<Vec<u8>, A
     ensures { IfOk result (λ text. text.items ≡ netdiscover_line code.now line) }
 {
     Ok(format!(in alloc; "fault {code} netdiscover line {line}\n")?.into_bytes())
+}
+
+fn mfts_line(alloc: Global, code: &str, line: usize) -> Result<Vec<u8>, AllocError>
+    ensures { IfOk result (λ text. text.items ≡ mfts_line code.now line) }
+{
+    Ok(format!(in alloc; "fault {code} mfts line {line}\n")?.into_bytes())
 }
 
 fn dump_line(alloc: Global, code: &str, line: usize) -> Result<Vec<u8>, AllocError>

@@ -9,6 +9,7 @@ mod faults;
 mod files;
 mod key_audits;
 mod laws;
+mod multicast_audits;
 mod outputs;
 mod reading;
 mod serving;

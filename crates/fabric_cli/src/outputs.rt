@@ -582,7 +582,7 @@ pub fn topology_stop<'a>(fault: TopoFault) -> Stop<'a>
     }
 }
 
-fn dump_stop<'a>(fault: DumpFault) -> Stop<'a>
+pub fn dump_stop<'a>(fault: DumpFault) -> Stop<'a>
     ensures reported { result ≡ dump_stop fault }
     ensures fault { IsOfRun result }
 {

@@ -60,6 +60,44 @@ pub fn read_two<'a, F: Files>(
     Ok((one, other))
 }
 
+/// The bytes of three named files, each opened once; all may be big.
+pub fn read_three<'a, F: Files>(
+    alloc: Global,
+    files: &mut F,
+    first: &'a str,
+    second: &'a str,
+    third: &'a str,
+) -> Result<ThreeTexts, Stop<'a>>
+    ensures order { OpensInOrder (F.opened files.old) (F.opened files.new) (first.entry.now ∷ second.entry.now ∷ third.entry.now ∷ []) }
+    ensures all { OnOk result (OpensAll (F.opened files.old) (F.opened files.new) (first.entry.now ∷ second.entry.now ∷ third.entry.now ∷ [])) }
+    ensures bytes { IfOk result (λ read. IfSome (F.reported files.old)
+        (λ file. (file first.entry.now ≡ Some read.first.items) × (file second.entry.now ≡ Some read.second.items)
+        × (file third.entry.now ≡ Some read.third.items))) }
+    ensures fault { IfErr result IsOfFiles }
+    ensures unread { IfErr result (NamesUnread (F.reported files.old) (F.reads files.old)
+        (F.opened files.old) (F.opened files.new) (first.entry.now ∷ second.entry.now ∷ third.entry.now ∷ [])) }
+{
+    let first = read_file(alloc, files, first, TextSize::Big)?;
+    let second = read_file(alloc, files, second, TextSize::Big)?;
+    let third = read_file(alloc, files, third, TextSize::Big)?;
+    Ok(ThreeTexts {
+        first,
+        second,
+        third,
+    })
+}
+
+/// The bytes of three files.
+#[derive(Drop)]
+pub struct ThreeTexts {
+    /// Of the first.
+    pub first: Vec<u8>,
+    /// Of the second.
+    pub second: Vec<u8>,
+    /// Of the third.
+    pub third: Vec<u8>,
+}
+
 /// The bytes of a named file of at most this size, which is opened once.
 pub fn read_file<'a, F: Files>(
     alloc: Global,

@@ -4,7 +4,7 @@ ghost use Rattle.std.specs.Prelude.{◌≡◌, ◌≢◌, ◌⊎◌, ◌∷◌, 
 ghost use Rattle.std.specs.Io.KnownBytes.{Appends};
 ghost use Rattle.std.specs.Process.{exit_status};
 ghost use Rattle.cli_args.specs.Words.{all_names, asked_by_given, asking, asking_by_clap, given_texts, names, opened_for};
-ghost use Rattle.cli_args.specs.declared.call.Call.TheVariants.{AuditKeys as ToAuditKeys, Dumped as ToView, Import as ToImport, Subnet as InSubnet};
+ghost use Rattle.cli_args.specs.declared.call.Call.TheVariants.{AuditKeys as ToAuditKeys, AuditMfts as ToAuditMfts, Dumped as ToView, Import as ToImport, Subnet as InSubnet};
 ghost use Rattle.fabric_cli.specs.Faults.{line_of, memory_line, status_of, NamesUnread};
 ghost use Rattle.fabric_cli.specs.Files.{OpensAll, OpensInOrder};
 ghost use Rattle.fabric_cli.specs.Serving.{judged_for, judged_if_read, texts_of, Answers, AppendsSomeFor, EndsAs, EndsFor, ForSomeBytes};
@@ -16,8 +16,9 @@ use crate::answering::{Answer, answered_of_texts, written, written_view};
 use crate::faults::{MEMORY_LINE, REFUSED, Stop};
 use crate::files::Files;
 use crate::key_audits::{KeysFiles, keys_audited, read_keys_files, written_keys};
+use crate::multicast_audits::multicast_viewed;
 use crate::outputs::{imported, text_or_stop, viewed};
-use crate::reading::{read_file, read_two};
+use crate::reading::{read_file, read_three, read_two};
 use crate::texts::read_texts;
 use cli_args::{Asked, Call, Clap, DumpView, Parser, given_words, read_words};
 use code_texts::explained;
@@ -159,6 +160,9 @@ fn answered<'a, P: Parser, F: Files, O: Output>(
         Ok(Call::Dumped { view, fabric, dump }) => {
             answered_of_dump(alloc, view, fabric, dump, files, out)
         }
+        Ok(Call::AuditMfts { fabric, dump, mfts }) => {
+            answered_of_mfts(alloc, fabric, dump, mfts, files, out)
+        }
         Ok(
             Call::AuditKeys {
                 netdiscover,
@@ -224,6 +228,38 @@ fn answered_of_dump<'a, F: Files, O: Output>(
     match read_two(alloc, files, fabric, dump) {
         Ok((plan, tables)) => {
             let made = viewed(alloc, view, plan.as_slice(), tables.as_slice());
+            written_view(out, made)
+        }
+        Err(stop) => Err(stop),
+    }
+}
+
+/// Writes the audit of LFTs and MFTs: the three files are read before any is checked.
+fn answered_of_mfts<'a, F: Files, O: Output>(
+    alloc: Global,
+    fabric: &'a str,
+    dump: &'a str,
+    mfts: &'a str,
+    files: &mut F,
+    out: &mut O,
+) -> Result<Answer, Stop<'a>>
+    ensures order { OpensInOrder (F.opened files.old) (F.opened files.new) (fabric.entry.now ∷ dump.entry.now ∷ mfts.entry.now ∷ []) }
+    ensures all { IsReported result → OpensAll (F.opened files.old) (F.opened files.new) (fabric.entry.now ∷ dump.entry.now ∷ mfts.entry.now ∷ []) }
+    ensures exact { IfSome (F.reported files.old) (λ file. Answers (judged_for file (Ok (ToAuditMfts fabric.entry.now dump.entry.now mfts.entry.now))) result
+        (O.is_sure out.old) (O.contents out.old) (O.contents out.new)) }
+    ensures any_files { IsReported result → ForSomeBytes (Ok (ToAuditMfts fabric.entry.now dump.entry.now mfts.entry.now))
+        (λ judged. Answers judged result (O.is_sure out.old) (O.contents out.old) (O.contents out.new)) }
+    ensures unread { IfErr result (NamesUnread (F.reported files.old) (F.reads files.old)
+        (F.opened files.old) (F.opened files.new) (fabric.entry.now ∷ dump.entry.now ∷ mfts.entry.now ∷ [])) }
+{
+    match read_three(alloc, files, fabric, dump, mfts) {
+        Ok(texts) => {
+            let made = multicast_viewed(
+                alloc,
+                texts.first.as_slice(),
+                texts.second.as_slice(),
+                texts.third.as_slice(),
+            );
             written_view(out, made)
         }
         Err(stop) => Err(stop),

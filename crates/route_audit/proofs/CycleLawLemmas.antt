@@ -165,27 +165,37 @@ mapped_at f [] i within = absurd (omega (arith, within))
 mapped_at f (x ∷ xs) zero within = refl
 mapped_at f (x ∷ xs) (suc i) within = mapped_at f xs i (omega (arith, within))
 
-pub waiting : (net : NetState) (lids : List ℕ) (i j : ℕ) → waits_for (dependencies net lids) i j ≡ true → depends net lids (channel_at net i) (channel_at net j) ≡ true
-waiting net lids i j waits =
-    let all = channels net in
-    let long : i < length (dependencies net lids) = within_graph (λ next. next == j) (dependencies net lids) i waits in
-    let within : i < length all = let same = length-map all (nexts net lids) in omega (arith, long, same) in
-    let found = in_nexts (depends net lids (channel_at net i)) 0 all j (ap (list_any (λ next. next == j)) (sym (mapped_at (nexts net lids) all i within)) ∙ waits) in
+-- whichever ports these are, and whatever makes one wait for another
+abbrev pub at_place_of : List PortRef → ℕ → PortRef
+at_place_of all i = get_or all i (port 0 0)
+
+abbrev pub nexts_among : (PortRef → PortRef → Bool) → List PortRef → PortRef → List ℕ
+nexts_among waits all a = map (λ p. p.0) (filter (λ p. waits a p.1) (enumerate_from 0 all))
+
+abbrev pub graph_among : (PortRef → PortRef → Bool) → List PortRef → List (List ℕ)
+graph_among waits all = map (nexts_among waits all) all
+
+waiting_among : (waits : PortRef → PortRef → Bool) (all : List PortRef) (i j : ℕ) → waits_for (graph_among waits all) i j ≡ true
+    → waits (at_place_of all i) (at_place_of all j) ≡ true
+waiting_among waits all i j is =
+    let long : i < length (graph_among waits all) = within_graph (λ next. next == j) (graph_among waits all) i is in
+    let within : i < length all = let same = length-map all (nexts_among waits all) in omega (arith, long, same) in
+    let found = in_nexts (waits (at_place_of all i)) 0 all j (ap (list_any (λ next. next == j)) (sym (mapped_at (nexts_among waits all) all i within)) ∙ is) in
     let same : found.0 ≡ j = omega (arith, found.1) in
-    subst (λ (n : ℕ). depends net lids (channel_at net i) (channel_at net n) ≡ true) same found.3
+    subst (λ (n : ℕ). waits (at_place_of all i) (at_place_of all n) ≡ true) same found.3
 
-pub waits_there : (net : NetState) (lids : List ℕ) (i j : ℕ) → i < length (channels net) → j < length (channels net)
-    → depends net lids (channel_at net i) (channel_at net j) ≡ true → waits_for (dependencies net lids) i j ≡ true
-waits_there net lids i j one other waits =
-    ap (list_any (λ next. next == j)) (mapped_at (nexts net lids) (channels net) i one)
-    ∙ are_nexts (depends net lids (channel_at net i)) 0 (channels net) j j (omega arith) other waits
+waits_among : (waits : PortRef → PortRef → Bool) (all : List PortRef) (i j : ℕ) → i < length all → j < length all
+    → waits (at_place_of all i) (at_place_of all j) ≡ true → waits_for (graph_among waits all) i j ≡ true
+waits_among waits all i j one other is =
+    ap (list_any (λ next. next == j)) (mapped_at (nexts_among waits all) all i one)
+    ∙ are_nexts (waits (at_place_of all i)) 0 all j j (omega arith) other is
 
-round_waits : (net : NetState) (lids : List ℕ) (first a : ℕ) (rest : List ℕ) → num_round (waits_for (dependencies net lids)) first (a ∷ rest) ≡ true
-    → wait_round (depends net lids) (channel_at net first) (map (channel_at net) (a ∷ rest)) ≡ true
-round_waits net lids first a [] waits = waiting net lids a first waits
-round_waits net lids first a (b ∷ rest) waits =
-    let parts = and_parts (waits_for (dependencies net lids) a b) _ waits in
-    and_from (depends net lids (channel_at net a) (channel_at net b)) _ (waiting net lids a b parts.0) (round_waits net lids first b rest parts.1)
+round_among : (waits : PortRef → PortRef → Bool) (all : List PortRef) (first a : ℕ) (rest : List ℕ) → num_round (waits_for (graph_among waits all)) first (a ∷ rest) ≡ true
+    → wait_round waits (at_place_of all first) (map (at_place_of all) (a ∷ rest)) ≡ true
+round_among waits all first a [] round = waiting_among waits all a first round
+round_among waits all first a (b ∷ rest) round =
+    let parts = and_parts (waits_for (graph_among waits all) a b) _ round in
+    and_from (waits (at_place_of all a) (at_place_of all b)) _ (waiting_among waits all a b parts.0) (round_among waits all first b rest parts.1)
 
 first_is : (graph : List (List ℕ)) (places ring : List ℕ) → first_cycle graph places ≡ Some ring → (a : ℕ) × (count : ℕ) × (leads graph count a a ≡ true) × (ring ≡ a ∷ way graph count a a)
 first_is graph [] ring found = cc
@@ -223,27 +233,34 @@ at_place (x ∷ xs) zero within =
     rw (node, number) refl
 at_place (x ∷ xs) (suc i) within = or_right (is_same_port (get_or xs i (port 0 0)) x) _ (at_place xs i (omega (arith, within)))
 
-places_are_channels : (net : NetState) (places : List ℕ) → list_all (λ i. nat_lt i (length (channels net))) places ≡ true
-    → are_channels net (map (channel_at net) places) ≡ true
-places_are_channels net [] within = refl
-places_are_channels net (i ∷ places) within =
-    let parts = and_parts (nat_lt i (length (channels net))) _ within in
-    and_from (list_any (is_same_port (channel_at net i)) (channels net)) _ (at_place (channels net) i (grind (arith, nat_tests, parts.0)))
-    (places_are_channels net places parts.1)
+-- all of a ring are among these
+abbrev pub are_among : List PortRef → List PortRef → Bool
+are_among all ring = list_all (λ at. list_any (is_same_port at) all) ring
+
+places_are_among : (all : List PortRef) (places : List ℕ) → list_all (λ i. nat_lt i (length all)) places ≡ true → are_among all (map (at_place_of all) places) ≡ true
+places_are_among all [] within = refl
+places_are_among all (i ∷ places) within =
+    let parts = and_parts (nat_lt i (length all)) _ within in
+    and_from (list_any (is_same_port (at_place_of all i)) all) _ (at_place all i (grind (arith, nat_tests, parts.0))) (places_are_among all places parts.1)
+
+pub rings_wait : (waits : PortRef → PortRef → Bool) (all ring : List PortRef) → option_map (map (at_place_of all)) (cycle (graph_among waits all)) ≡ Some ring
+    → (are_among all ring ≡ true) × (is_cycle waits ring ≡ true)
+rings_wait waits all ring reported =
+    let graph = graph_among waits all in
+    let places = mapped_some (map (at_place_of all)) (cycle graph) ring reported in
+    let found = first_is graph (range_with_len 0 (length graph)) places.0 places.1 in
+    let round = way_waits graph found.1 found.0 found.0 found.2 in
+    let rest = way graph found.1 found.0 found.0 in
+    let within = round_within graph found.0 found.0 rest round in
+    let long : length graph ≡ length all = length-map all (nexts_among waits all) in
+    let same : map (at_place_of all) (found.0 ∷ rest) ≡ ring = ap (map (at_place_of all)) (sym found.3) ∙ places.2 in (
+      subst (λ (r : List PortRef). are_among all r ≡ true) same
+          (places_are_among all (found.0 ∷ rest) (subst (λ (n : ℕ). list_all (λ i. nat_lt i n) (found.0 ∷ rest) ≡ true) long within)),
+      subst (λ (r : List PortRef). is_cycle waits r ≡ true) same (round_among waits all found.0 found.0 rest round),
+    )
 
 pub reported_loops_wait : ReportedLoopsWait
-reported_loops_wait net lids ring reported =
-    let places = mapped_some (map (channel_at net)) (cycle (dependencies net lids)) ring reported in
-    let found = first_is (dependencies net lids) (range_with_len 0 (length (dependencies net lids))) places.0 places.1 in
-    let waits = way_waits (dependencies net lids) found.1 found.0 found.0 found.2 in
-    let rest = way (dependencies net lids) found.1 found.0 found.0 in
-    let within = round_within (dependencies net lids) found.0 found.0 rest waits in
-    let long : length (dependencies net lids) ≡ length (channels net) = length-map (channels net) (nexts net lids) in
-    let same : map (channel_at net) (found.0 ∷ rest) ≡ ring = ap (map (channel_at net)) (sym found.3) ∙ places.2 in (
-      subst (λ (r : List PortRef). are_channels net r ≡ true) same
-          (places_are_channels net (found.0 ∷ rest) (subst (λ (n : ℕ). list_all (λ i. nat_lt i n) (found.0 ∷ rest) ≡ true) long within)),
-      subst (λ (r : List PortRef). is_cycle (depends net lids) r ≡ true) same (round_waits net lids found.0 found.0 rest waits),
-    )
+reported_loops_wait net lids ring reported = rings_wait (depends net lids) (channels net) ring reported
 
 -- ---- a cycle of channels is one of their places
 abbrev place_in : PortRef → List PortRef → ℕ
@@ -264,35 +281,39 @@ placed at (x ∷ xs) there = elim (cases_Bool (is_same_port at x)) [
   | inr other ↦ let rest = placed at xs (rw other at there) in rw other (omega (arith, rest.0), rest.1)
 ]
 
-round_leads : (net : NetState) (lids : List ℕ) (first a : PortRef) (rest : List PortRef) → list_any (is_same_port first) (channels net) ≡ true → are_channels net (a ∷ rest) ≡ true
-    → wait_round (depends net lids) first (a ∷ rest) ≡ true
-    → leads (dependencies net lids) (suc (length rest)) (place_in a (channels net)) (place_in first (channels net)) ≡ true
-round_leads net lids first a [] is_one are waits =
-    let parts = and_parts (list_any (is_same_port a) (channels net)) _ are in
-    let here = placed a (channels net) parts.0 in
-    let home = placed first (channels net) is_one in
-    let step = waits_there net lids (place_in a (channels net)) (place_in first (channels net)) here.0 home.0 (rw (here.1, home.1) waits) in
-    any_of (λ next. (next == place_in first (channels net)) || false) (after (dependencies net lids) (place_in a (channels net))) (place_in first (channels net)) step
-    (let same : (place_in first (channels net) == place_in first (channels net)) ≡ true = eq-eqb _ _ refl in rw same refl)
-round_leads net lids first a (b ∷ rest) is_one are waits =
-    let parts = and_parts (list_any (is_same_port a) (channels net)) _ are in
-    let next = and_parts (list_any (is_same_port b) (channels net)) _ parts.1 in
-    let both = and_parts (depends net lids a b) _ waits in
-    let here = placed a (channels net) parts.0 in
-    let there = placed b (channels net) next.0 in
-    let step = waits_there net lids (place_in a (channels net)) (place_in b (channels net)) here.0 there.0 (rw (here.1, there.1) both.0) in
-    any_of (λ n. (n == place_in first (channels net)) || leads (dependencies net lids) (suc (length rest)) n (place_in first (channels net)))
-    (after (dependencies net lids) (place_in a (channels net))) (place_in b (channels net)) step
-    (or_right (place_in b (channels net) == place_in first (channels net)) _ (round_leads net lids first b rest is_one parts.1 both.1))
+round_leads : (waits : PortRef → PortRef → Bool) (all : List PortRef) (first a : PortRef) (rest : List PortRef) → list_any (is_same_port first) all ≡ true
+    → are_among all (a ∷ rest) ≡ true → wait_round waits first (a ∷ rest) ≡ true
+    → leads (graph_among waits all) (suc (length rest)) (place_in a all) (place_in first all) ≡ true
+round_leads waits all first a [] is_one are round =
+    let parts = and_parts (list_any (is_same_port a) all) _ are in
+    let here = placed a all parts.0 in
+    let home = placed first all is_one in
+    let step = waits_among waits all (place_in a all) (place_in first all) here.0 home.0 (rw (here.1, home.1) round) in
+    any_of (λ next. (next == place_in first all) || false) (after (graph_among waits all) (place_in a all)) (place_in first all) step
+    (let same : (place_in first all == place_in first all) ≡ true = eq-eqb _ _ refl in rw same refl)
+round_leads waits all first a (b ∷ rest) is_one are round =
+    let parts = and_parts (list_any (is_same_port a) all) _ are in
+    let next = and_parts (list_any (is_same_port b) all) _ parts.1 in
+    let both = and_parts (waits a b) _ round in
+    let here = placed a all parts.0 in
+    let there = placed b all next.0 in
+    let step = waits_among waits all (place_in a all) (place_in b all) here.0 there.0 (rw (here.1, there.1) both.0) in
+    any_of (λ n. (n == place_in first all) || leads (graph_among waits all) (suc (length rest)) n (place_in first all))
+    (after (graph_among waits all) (place_in a all)) (place_in b all) step
+    (or_right (place_in b all == place_in first all) _ (round_leads waits all first b rest is_one parts.1 both.1))
 
 none_mapped : (f : List ℕ → List PortRef) (o : Option (List ℕ)) → option_map f o ≡ None → o ≡ None
 none_mapped f None none = refl
 none_mapped f (Some n) none = absurd (cc)
 
+pub no_ring_missed : (waits : PortRef → PortRef → Bool) (all : List PortRef) → option_map (map (at_place_of all)) (cycle (graph_among waits all)) ≡ None
+    → (ring : List PortRef) → are_among all ring ≡ true → is_cycle waits ring ≡ false
+no_ring_missed waits all none [] are = refl
+no_ring_missed waits all none (a ∷ rest) are =
+    let parts = and_parts (list_any (is_same_port a) all) _ are in
+    false_from_ne_true _ (λ round.
+    none_is_none (graph_among waits all) (none_mapped (map (at_place_of all)) (cycle (graph_among waits all)) none) (suc (length rest)) (place_in a all)
+    (round_leads waits all a a rest parts.0 are round))
+
 pub no_cycle_is_missed : NoCycleIsMissed
-no_cycle_is_missed net lids none [] are = refl
-no_cycle_is_missed net lids none (a ∷ rest) are =
-    let parts = and_parts (list_any (is_same_port a) (channels net)) _ are in
-    false_from_ne_true _ (λ waits.
-    none_is_none (dependencies net lids) (none_mapped (map (channel_at net)) (cycle (dependencies net lids)) none) (suc (length rest)) (place_in a (channels net))
-    (round_leads net lids a a rest parts.0 are waits))
+no_cycle_is_missed net lids none ring are = no_ring_missed (depends net lids) (channels net) none ring are

@@ -13,10 +13,10 @@ use Rattle.route_audit.specs.Pairs.{all_reached, between_hosts, is_fate, pairs_b
 use Rattle.route_audit.specs.Verdict.{reasons, some_lost, some_unknown, verdict_by, verdict_is_safe, with_reason}
 
 -- ---- no reason stands there only if each of these holds
-not_empty : (byte : ℕ) (bytes : List ℕ) → byte ∷ bytes ≡ [] → ⊥
+pub not_empty : (byte : ℕ) (bytes : List ℕ) → byte ∷ bytes ≡ [] → ⊥
 not_empty byte bytes is = cc
 
-none_by : (holds : Bool) (word others : List ℕ) → (word ≡ [] → ⊥) → with_reason holds word others ≡ [] → (holds ≡ true) × (others ≡ [])
+pub none_by : (holds : Bool) (word others : List ℕ) → (word ≡ [] → ⊥) → with_reason holds word others ≡ [] → (holds ≡ true) × (others ≡ [])
 none_by true word others some is = (refl, is)
 none_by false word [] some is = absurd (some is)
 none_by false word (byte ∷ others) some is = absurd (not_empty byte _ is)
@@ -37,29 +37,36 @@ all_are_reached (pair ∷ pairs) kept known =
     each_reached pair.fate (some_lost pairs) (some_unknown pairs) (all_reached pairs) kept known (all_are_reached pairs)
 
 -- ---- so a verdict without a reason is safe
-not_false : (b : Bool) → not b ≡ true → b ≡ false
+pub not_false : (b : Bool) → not b ≡ true → b ≡ false
 not_false false is = refl
 not_false true is = absurd (false≢true is)
 
-both_true : (a b : Bool) → (a && b) ≡ true → (a ≡ true) × (b ≡ true)
+pub both_true : (a b : Bool) → (a && b) ≡ true → (a ≡ true) × (b ≡ true)
 both_true true b is = (refl, is)
 both_true false b is = absurd (false≢true is)
 
-reason_is_there : (net : NetState) (all : List Aim) (ring : Option (List PortRef)) → verdict_is_safe (verdict_by net all ring) ≡ false
-    → reasons (verdict_by net all ring) ≡ [] → ⊥
+-- of whichever verdict by which what is neither lost nor unknown is reached
+pub some_reason : (verdict : Verdict) → (verdict.loses ≡ false → verdict.lacks_entries ≡ false → verdict.is_reached ≡ true) → verdict_is_safe verdict ≡ false
+    → reasons verdict ≡ [] → ⊥
 unfolding reasons
-reason_is_there net all ring unsafe none =
-    let verdict = verdict_by net all ring in
+some_reason verdict reaches unsafe none =
     let unknown = none_by (verdict.is_known && not verdict.lacks_entries) (codes "unknown") _ (not_empty _ _) none in
     let mismatch = none_by verdict.is_same (codes "mismatch") _ (not_empty _ _) unknown.1 in
     let deadlock = none_by verdict.is_free (codes "deadlock") _ (not_empty _ _) mismatch.1 in
     let lost = none_by (not verdict.loses) (codes "unreached") _ (not_empty _ _) deadlock.1 in
     let named = none_by verdict.has_lids (codes "no-lid") _ (not_empty _ _) lost.1 in
     let known = both_true verdict.is_known (not verdict.lacks_entries) unknown.0 in
-    let reached : verdict.is_reached ≡ true =
-    all_are_reached (between_hosts (pairs_by net all)) (not_false verdict.loses lost.0) (not_false verdict.lacks_entries known.1) in
+    let reached : verdict.is_reached ≡ true = reaches (not_false verdict.loses lost.0) (not_false verdict.lacks_entries known.1) in
     let safe : verdict_is_safe verdict ≡ true = rw (named.0, reached, deadlock.0, mismatch.0, known.0) refl in
     false≢true (sym unsafe ∙ safe)
+
+pub reaches_or_loses : (net : NetState) (all : List Aim) (ring : Option (List PortRef)) → (verdict_by net all ring).loses ≡ false
+    → (verdict_by net all ring).lacks_entries ≡ false → (verdict_by net all ring).is_reached ≡ true
+reaches_or_loses net all ring kept known = all_are_reached (between_hosts (pairs_by net all)) kept known
+
+reason_is_there : (net : NetState) (all : List Aim) (ring : Option (List PortRef)) → verdict_is_safe (verdict_by net all ring) ≡ false
+    → reasons (verdict_by net all ring) ≡ [] → ⊥
+reason_is_there net all ring unsafe none = some_reason (verdict_by net all ring) (reaches_or_loses net all ring) unsafe none
 
 -- ---- each word is there if and only if its reason holds
 abbrev words : (known same free kept lids : Bool) → List ℕ

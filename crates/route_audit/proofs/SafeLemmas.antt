@@ -93,7 +93,7 @@ unfolding all_lids
 in_lids lid below = in_range lid 0 65536 (omega arith) (omega (arith, below))
 
 -- ---- what is reached ends there
-same_port : (a b : PortRef) → is_same_port a b ≡ true → a ≡ b
+pub same_port : (a b : PortRef) → is_same_port a b ≡ true → a ≡ b
 same_port a b same =
     let parts = and_parts (a.node == b.node) _ same in
     let node : a.node ≡ b.node = grind (arith, nat_tests, parts.0) in

@@ -9,6 +9,7 @@ use Rattle.topo_file.specs.Topology.{TopologyState}
 use Rattle.route_audit.specs.declared.following.Fate.TheVariants as fates
 use Rattle.route_audit.specs.declared.lids.Aim.{Aim}
 use Rattle.route_audit.specs.declared.pairs.Pair.{Pair}
+use Rattle.route_audit.specs.declared.verdict.Verdict.{Verdict}
 use Rattle.route_audit.specs.Channels.{deadlock, leaves_by}
 use Rattle.route_audit.specs.Lids.{aims, is_others}
 use Rattle.route_audit.specs.Lines.{files_by, lid_text, port_text, troubles_by}
@@ -21,6 +22,11 @@ use Rattle.route_audit.specs.Verdict.{verdict_by, verdict_is_safe, verdict_line}
 pub record AuditState : Type 0 where
   pub text : List ℕ
   pub is_safe : Bool
+
+-- what is found before the verdict: the lines, and what the verdict rests on
+pub record FindingsState : Type 0 where
+  pub text : List ℕ
+  pub verdict : Verdict
 
 -- ---- credit loops
 abbrev pub lids_of : List Aim → List ℕ
@@ -102,16 +108,25 @@ lines_by net all others switches =
     files_by net all ++ troubles_by net all ++ ring_line net (codes "deadlock") (filter (is_others net) all) others
     ++ ring_line net (codes "deadlock switch-lids") all switches
 
+-- all before the verdict
+unfoldable pub body_by : NetState → List Aim → Option (List PortRef) → Option (List PortRef) → List ℕ
+body_by net all others switches = lines_by net all others switches ++ counts_by (pairs_by net all) (is_some others) (is_some switches)
+
 unfoldable pub text_by : NetState → List Aim → Option (List PortRef) → Option (List PortRef) → List ℕ
-text_by net all others switches =
-    lines_by net all others switches ++ counts_by (pairs_by net all) (is_some others) (is_some switches) ++ verdict_line (verdict_by net all others)
+text_by net all others switches = body_by net all others switches ++ verdict_line (verdict_by net all others)
 
 -- by the cycles that were found
+abbrev pub findings_by : NetState → List Aim → Option (List PortRef) → Option (List PortRef) → FindingsState
+findings_by net all others switches = record { text = body_by net all others switches; verdict = verdict_by net all others }
+
 abbrev pub audit_by : NetState → List Aim → Option (List PortRef) → Option (List PortRef) → AuditState
 audit_by net all others switches = record {
   text = text_by net all others switches;
   is_safe = verdict_is_safe (verdict_by net all others);
 }
+
+unfoldable pub findings_of : NetState → FindingsState
+findings_of net = findings_by net (aims net) (credit_loop net (aims net)) (switches_credit_loop net (aims net))
 
 unfoldable pub audit_of : NetState → AuditState
 audit_of net = audit_by net (aims net) (credit_loop net (aims net)) (switches_credit_loop net (aims net))

@@ -1,12 +1,13 @@
 //! The audit of a dump over a topology or a discovery.
 
 ghost use Rattle.std.specs.Prelude.{◌≡◌, ◌<◌, ◌++◌, length, filter, flat_map, is_some, IfOk, OnOk, option_map};
-ghost use Rattle.route_audit.specs.Audit.{aggregation_line, audit, audit_by, audit_discovery, audit_of, behind, closing, closing_word, closing_words, count_line, counts_by, credit_loop, deadlock_words};
-ghost use Rattle.route_audit.specs.Audit.{leaves_by_both, lids_of, lines_by, lost_part, other_part};
-ghost use Rattle.route_audit.specs.Audit.{port_word, reached_part, ring_line, switches_credit_loop, text_by};
+ghost use Rattle.route_audit.specs.Audit.{aggregation_line, audit, audit_discovery, audit_of, behind, closing, closing_word, closing_words, count_line, counts_by, credit_loop, deadlock_words};
+ghost use Rattle.route_audit.specs.Audit.{findings_by, findings_of, leaves_by_both, lids_of, lines_by, lost_part, other_part};
+ghost use Rattle.route_audit.specs.Audit.{port_word, reached_part, ring_line, switches_credit_loop};
 ghost use Rattle.route_audit.specs.Lids.{is_others};
 
 use crate::channels::channel_at;
+use crate::findings::Findings;
 use crate::following::Fate;
 use crate::lids::Aim;
 use crate::net::Net;
@@ -291,17 +292,17 @@ impl<'a> Net<'a> {
         self.push_ring_line(text, b"deadlock switch-lids", aims, switches)
     }
 
-    /// What is printed, and whether the routes are safe, by the cycles that were found.
-    #[tactic(auto, unfolding(crate::specs::Audit::text_by))]
-    fn audit_by(
+    /// What is printed before the verdict, and what that rests on, by the cycles that were found.
+    #[tactic(auto, unfolding(crate::specs::Audit::body_by))]
+    fn findings_by(
         &self,
         alloc: Global,
         aims: &[Aim],
         others: &Option<Vec<PortRef>>,
         switches: &Option<Vec<PortRef>>,
-    ) -> Result<Audit, AllocError>
+    ) -> Result<Findings, AllocError>
         ensures { IfOk result (λ found. found
-            ≡ audit_by self.now aims.now (option_map (λ ports. ports.items) others.now) (option_map (λ ports. ports.items) switches.now)) }
+            ≡ findings_by self.now aims.now (option_map (λ ports. ports.items) others.now) (option_map (λ ports. ports.items) switches.now)) }
     {
         let mut text = Vec::new(alloc);
         self.push_lines(alloc, &mut text, aims, others, switches)?;
@@ -314,22 +315,28 @@ impl<'a> Net<'a> {
             switches.is_some(),
         )?;
         let verdict = self.verdict(alloc, aims, &pairs, others)?;
-        push_verdict(alloc, &mut text, verdict)?;
-        Ok(Audit {
-            text,
-            is_safe: verdict.is_safe(),
-        })
+        Ok(Findings { text, verdict })
     }
 
-    #[tactic(auto, unfolding(crate::specs::Audit::audit_of))]
-    fn audited(&self, alloc: Global) -> Result<Audit, AllocError>
-        ensures { IfOk result (λ found. found ≡ audit_of self.now) }
+    /// What is printed before the verdict, and what that rests on. It can only run out of memory.
+    #[tactic(auto, unfolding(crate::specs::Audit::findings_of))]
+    pub fn findings(&self, alloc: Global) -> Result<Findings, AllocError>
+        ensures { IfOk result (λ found. found ≡ findings_of self.now) }
     {
         let aims = self.aims(alloc)?;
         let others = self.credit_loop(alloc, &aims)?;
         let switches = self.switches_credit_loop(alloc, &aims, others.is_some())?;
-        let found = self.audit_by(alloc, &aims, &others, &switches)?;
+        let found = self.findings_by(alloc, &aims, &others, &switches)?;
         Ok(found)
+    }
+
+    #[tactic(auto, unfolding(crate::specs::Audit::audit_of, crate::specs::Audit::findings_of, crate::specs::Audit::text_by))]
+    fn audited(&self, alloc: Global) -> Result<Audit, AllocError>
+        ensures { IfOk result (λ found. found ≡ audit_of self.now) }
+    {
+        let Findings { mut text, verdict } = self.findings(alloc)?;
+        push_verdict(alloc, &mut text, verdict)?;
+        Ok(Audit::of(text, verdict.is_safe()))
     }
 }
 

@@ -11,7 +11,7 @@ use std::marker::Model;
 
 /// What one thing depends on, by numbers.
 #[derive(Drop)]
-pub(crate) struct NextList {
+pub struct NextList {
     numbers: Vec<usize>,
 }
 
@@ -24,7 +24,8 @@ impl Model for NextList {
 }
 
 impl NextList {
-    pub(crate) fn of(numbers: Vec<usize>) -> NextList
+    /// These numbers.
+    pub fn of(numbers: Vec<usize>) -> NextList
         ensures { result ≡ numbers.items }
     {
         NextList { numbers }
@@ -311,7 +312,7 @@ fn cycle_through(
 }
 
 /// A shortest cycle through the least thing that is on one, if there is a cycle.
-pub(crate) fn cycle(alloc: Global, graph: &[NextList]) -> Result<Option<Vec<usize>>, AllocError>
+pub fn cycle(alloc: Global, graph: &[NextList]) -> Result<Option<Vec<usize>>, AllocError>
     ensures { IfOk result (λ found. option_map (λ ring. ring.items) found ≡ cycle graph.now) }
 {
     let left = in_place(alloc, graph)?;

@@ -10,12 +10,13 @@
 mod attached;
 mod auditing;
 mod channels;
-mod cycle;
+pub mod cycle;
 mod discovered;
 mod ends;
 mod entry;
 mod examples;
 mod far_ends;
+mod findings;
 mod following;
 mod inputs;
 mod kinds;
@@ -33,6 +34,7 @@ mod wrong_rules;
 
 pub use crate::auditing::{audit, audit_discovery};
 pub use crate::entry::Entry;
+pub use crate::findings::Findings;
 pub use crate::following::{Fate, Turn};
 pub use crate::laws::{
     channels_are_reported, counts_add_up, each_trouble_has_a_line, lids_are_taken,
@@ -41,6 +43,8 @@ pub use crate::laws::{
     unsafe_routes_have_a_reason, ways_are_followed,
 };
 pub use crate::lids::Aim;
+pub use crate::lines::has_switch;
 pub use crate::net::Net;
 pub use crate::outcome::Audit;
 pub use crate::plan::{Plan, PlanNode, ports_at};
+pub use crate::verdict::{Verdict, add_reason, reasons};

@@ -23,7 +23,7 @@ use std::alloc::{AllocError, Global};
 use text_parts::{push_decimal, push_guid, push_port_name};
 
 /// Whether a switch of these has the GUID.
-pub(crate) fn has_switch(guid: u64, nodes: &[PlanNode]) -> bool
+pub fn has_switch(guid: u64, nodes: &[PlanNode]) -> bool
     ensures { result ≡ has_switch guid nodes.now }
 {
     nodes
@@ -120,7 +120,8 @@ fn push_passed_words(text: &mut Vec<u8>) -> Result<(), AllocError>
 }
 
 impl<'a> Net<'a> {
-    fn push_name(&self, text: &mut Vec<u8>, place: usize) -> Result<(), AllocError>
+    /// Adds the name of a node.
+    pub fn push_name(&self, text: &mut Vec<u8>, place: usize) -> Result<(), AllocError>
         ensures { OnOk result (text.new.items ≡ text.old.items ++ name_text self.now place) }
     {
         text.extend_from_slice(name_at(self.nodes(), place))

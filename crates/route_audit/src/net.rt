@@ -111,7 +111,8 @@ impl<'a> Net<'a> {
         self.inputs.switches()
     }
 
-    pub(crate) fn is_switch_at(&self, place: usize) -> bool
+    /// Whether the node there is a switch.
+    pub fn is_switch_at(&self, place: usize) -> bool
         ensures { result ≡ is_switch_at self.now.plan.nodes place }
     {
         self.inputs.is_switch_at(place)

@@ -20,6 +20,13 @@ impl Model for Audit {
 }
 
 impl Audit {
+    /// An audit with these lines.
+    pub fn of(text: Vec<u8>, is_safe: bool) -> Audit
+        ensures { result ≡ record { text = text.items; is_safe = is_safe } }
+    {
+        Audit { text, is_safe }
+    }
+
     /// Its lines.
     pub fn text(&self) -> &[u8]
         ensures { result.now ≡ self.now.text }

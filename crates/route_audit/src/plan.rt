@@ -28,13 +28,15 @@ impl Model for PlanNode {
 }
 
 impl PlanNode {
-    pub(crate) fn is_switch(&self) -> bool
+    /// Whether it is a switch.
+    pub fn is_switch(&self) -> bool
         ensures { result ≡ is_switch self.now }
     {
         self.node_type.is_switch()
     }
 
-    pub(crate) fn guid(&self) -> u64
+    /// Its GUID.
+    pub fn guid(&self) -> u64
         ensures { result ≡ self.now.guid }
     {
         self.guid

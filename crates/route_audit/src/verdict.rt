@@ -1,6 +1,6 @@
 //! The verdict of an audit: what safe routes are, and the last line.
 
-ghost use Rattle.std.specs.Prelude.{◌≡◌, ◌++◌, not, IfOk, OnOk, option_map};
+ghost use Rattle.std.specs.Prelude.{◌≡◌, ◌&&◌, ◌++◌, not, IfOk, OnOk, option_map};
 ghost use Rattle.std.specs.List.{list_all, list_any};
 ghost use Rattle.route_audit.specs.Lids.{have_lids, is_lacking};
 ghost use Rattle.route_audit.specs.Pairs.{pairs_by};
@@ -19,7 +19,7 @@ use std::alloc::{AllocError, Global};
 
 /// What the verdict rests on.
 #[derive(Clone, Copy)]
-pub(crate) struct Verdict {
+pub struct Verdict {
     /// Each port of an adapter that has a cable has a LID.
     has_lids: bool,
     /// From each switch to which an adapter is attached, packets reach the adapter port of each LID.
@@ -38,10 +38,21 @@ pub(crate) struct Verdict {
 
 impl Verdict {
     /// Whether the routes are safe.
-    pub(crate) fn is_safe(self) -> bool
+    pub fn is_safe(self) -> bool
         ensures { result ≡ verdict_is_safe self }
     {
         self.has_lids && self.is_reached && self.is_free && self.is_same && self.is_known
+    }
+
+    /// The same if a further dump names these nodes too, and if nothing is unknown by it.
+    pub fn and(self, is_same: bool, is_known: bool) -> Verdict
+        ensures { result ≡ record self { is_same = self.is_same && is_same; is_known = self.is_known && is_known } }
+    {
+        Verdict {
+            is_same: self.is_same && is_same,
+            is_known: self.is_known && is_known,
+            ..self
+        }
     }
 }
 
@@ -52,7 +63,7 @@ fn is_unknown(turn: Turn) -> bool
 }
 
 /// Adds a reason behind those before, unless that holds of which it would be the lack.
-fn add_reason(reasons: &mut Vec<u8>, holds: bool, word: &[u8]) -> Result<(), AllocError>
+pub fn add_reason(reasons: &mut Vec<u8>, holds: bool, word: &[u8]) -> Result<(), AllocError>
     ensures { OnOk result (reasons.new.items ≡ with_reason holds word.now reasons.old.items) }
 {
     if holds {
@@ -64,8 +75,9 @@ fn add_reason(reasons: &mut Vec<u8>, holds: bool, word: &[u8]) -> Result<(), All
     reasons.extend_from_slice(word)
 }
 
+/// The reasons of a verdict, one behind the other.
 #[tactic(auto, unfolding(crate::specs::Verdict::reasons))]
-fn reasons(alloc: Global, verdict: Verdict) -> Result<Vec<u8>, AllocError>
+pub fn reasons(alloc: Global, verdict: Verdict) -> Result<Vec<u8>, AllocError>
     ensures { IfOk result (λ text. text.items ≡ reasons verdict) }
 {
     let mut text = Vec::new(alloc);

@@ -1,0 +1,139 @@
+//! The audit of LFTs and MFTs: its output.
+
+ghost use Rattle.std.specs.Prelude.{◌≡◌, IfErr};
+ghost use Rattle.dump_file.specs.Dump.{dump_of};
+ghost use Rattle.fabric_cli.specs.Faults.{IsOfRun};
+ghost use Rattle.fabric_cli.specs.Serving.{dump_ending, ended, found_multicast_by, found_multicast_with, mfts_stop, multicast_by, multicast_from, multicast_over, multicast_viewed, multicast_with, EndsIn};
+ghost use Rattle.fabric_parts.specs.declared.limits.Limits.TheVariants.{Large};
+ghost use Rattle.mft_file.specs.Mfts.{mfts_of};
+ghost use Rattle.netdiscover_file.specs.Discovery.{discovery_of};
+ghost use Rattle.topo_file.specs.Topology.{topology_within};
+
+use crate::faults::{ForeignCause, Stop};
+use crate::outputs::{DumpOutput, discovery_stop, dump_stop, topology_stop};
+use dump_file::Dump;
+use fabric_parts::Limits;
+use mft_file::MftFault;
+use multicast_audit::{audit_multicast, audit_multicast_found};
+use netdiscover_file::{Discovery, is_discovery};
+use std::alloc::Global;
+use topo_file::LargeTopology;
+
+fn mfts_stop<'a>(fault: MftFault) -> Stop<'a>
+    ensures reported { result ≡ mfts_stop fault }
+    ensures fault { IsOfRun result }
+{
+    match fault {
+        MftFault::NoMemory => Stop::NoMemory,
+        MftFault::At { line, cause } => Stop::Foreign {
+            line,
+            cause: ForeignCause::Masks(cause),
+        },
+    }
+}
+
+fn multicast_by<'a>(
+    alloc: Global,
+    plan: &LargeTopology,
+    dump: &Dump,
+    mfts: &[u8],
+) -> Result<DumpOutput, Stop<'a>>
+    ensures exact { EndsIn dump_ending (ended (multicast_by plan.now dump.now (mfts_of mfts.now))) result }
+    ensures fault { IfErr result IsOfRun }
+{
+    match mft_file::read(alloc, mfts) {
+        Ok(mfts) => Ok(DumpOutput::Audited(audit_multicast(alloc, plan, dump, &mfts)?)),
+        Err(fault) => Err(mfts_stop(fault)),
+    }
+}
+
+fn multicast_with<'a>(
+    alloc: Global,
+    plan: &LargeTopology,
+    dump: &[u8],
+    mfts: &[u8],
+) -> Result<DumpOutput, Stop<'a>>
+    ensures exact { EndsIn dump_ending (ended (multicast_with plan.now (dump_of dump.now) mfts.now)) result }
+    ensures fault { IfErr result IsOfRun }
+{
+    match dump_file::read(alloc, dump) {
+        Ok(dump) => multicast_by(alloc, plan, &dump, mfts),
+        Err(fault) => Err(dump_stop(fault)),
+    }
+}
+
+fn multicast_over<'a>(
+    alloc: Global,
+    topology: &[u8],
+    dump: &[u8],
+    mfts: &[u8],
+) -> Result<DumpOutput, Stop<'a>>
+    ensures exact { EndsIn dump_ending (ended (multicast_over (topology_within Large topology.now) dump.now mfts.now)) result }
+    ensures fault { IfErr result IsOfRun }
+{
+    match topo_file::read_within(alloc, topology, Limits::Large) {
+        Ok(plan) => multicast_with(alloc, &plan, dump, mfts),
+        Err(fault) => Err(topology_stop(fault)),
+    }
+}
+
+fn found_multicast_by<'a>(
+    alloc: Global,
+    found: &Discovery,
+    dump: &Dump,
+    mfts: &[u8],
+) -> Result<DumpOutput, Stop<'a>>
+    ensures exact { EndsIn dump_ending (ended (found_multicast_by found.now dump.now (mfts_of mfts.now))) result }
+    ensures fault { IfErr result IsOfRun }
+{
+    match mft_file::read(alloc, mfts) {
+        Ok(mfts) => Ok(DumpOutput::Audited(audit_multicast_found(alloc, found, dump, &mfts)?)),
+        Err(fault) => Err(mfts_stop(fault)),
+    }
+}
+
+fn found_multicast_with<'a>(
+    alloc: Global,
+    found: &Discovery,
+    dump: &[u8],
+    mfts: &[u8],
+) -> Result<DumpOutput, Stop<'a>>
+    ensures exact { EndsIn dump_ending (ended (found_multicast_with found.now (dump_of dump.now) mfts.now)) result }
+    ensures fault { IfErr result IsOfRun }
+{
+    match dump_file::read(alloc, dump) {
+        Ok(dump) => found_multicast_by(alloc, found, &dump, mfts),
+        Err(fault) => Err(dump_stop(fault)),
+    }
+}
+
+fn multicast_from<'a>(
+    alloc: Global,
+    netdiscover: &[u8],
+    dump: &[u8],
+    mfts: &[u8],
+) -> Result<DumpOutput, Stop<'a>>
+    ensures exact { EndsIn dump_ending (ended (multicast_from (discovery_of netdiscover.now) dump.now mfts.now)) result }
+    ensures fault { IfErr result IsOfRun }
+{
+    match netdiscover_file::read(alloc, netdiscover) {
+        Ok(found) => found_multicast_with(alloc, &found, dump, mfts),
+        Err(fault) => Err(discovery_stop(fault)),
+    }
+}
+
+/// The audit of LFTs and MFTs for a topology, or for what `ibnetdiscover` printed.
+pub fn multicast_viewed<'a>(
+    alloc: Global,
+    fabric: &[u8],
+    dump: &[u8],
+    mfts: &[u8],
+) -> Result<DumpOutput, Stop<'a>>
+    ensures exact { EndsIn dump_ending (ended (multicast_viewed fabric.now dump.now mfts.now)) result }
+    ensures fault { IfErr result IsOfRun }
+{
+    if is_discovery(fabric) {
+        return multicast_from(alloc, fabric, dump, mfts);
+    }
+    multicast_over(alloc, fabric, dump, mfts)
+}

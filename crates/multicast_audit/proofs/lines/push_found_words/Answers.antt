@@ -1,0 +1,16 @@
+use Rattle.std.proofs.Common.{append_assoc}
+use Rattle.multicast_audit.specs.Lines.{found_words}
+use Rattle.multicast_audit.proofs.lines.push_found_words.Goals as goal
+
+pub returns : goal.returns
+unfolding found_words
+returns c =
+    rw (
+      c.in_ok-extend_from_slice-2.ensures.items,
+      c.in_ok-push_decimal-2.ensures,
+      c.in_ok-extend_from_slice.ensures.items,
+      c.in_ok-push_decimal.ensures,
+      c.ring_count.ensures,
+      c.copy_count.ensures,
+      append_assoc,
+    )

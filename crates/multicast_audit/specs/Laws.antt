@@ -1,0 +1,89 @@
+-- What is so of all fabrics and masks: the statements of the laws of `src/laws.rt`.
+use Rattle.std.specs.Prelude.{ℕ, ◌≡◌, ◌==◌, ◌&&◌, nat_le, Bool, true, false, not, List, [], ◌∷◌, codes, Option, Some, None}
+use Rattle.std.specs.List.{list_all}
+use Rattle.fabric_parts.specs.declared.cable.PortRef.{PortRef}
+use Rattle.topo_file.specs.Node.{is_switch_at, ports_at}
+use Rattle.route_audit.specs.Channels.{leads_to}
+use Rattle.route_audit.specs.Laws.{has_word, is_cycle}
+use Rattle.route_audit.specs.Net.{NetState}
+use Rattle.route_audit.specs.Verdict.{verdict_by}
+use Rattle.route_audit.specs.declared.lids.Aim.{Aim}
+use Rattle.route_audit.specs.declared.verdict.Verdict.{Verdict}
+use Rattle.multicast_audit.specs.declared.copies.SecondCopy.{SecondCopy}
+use Rattle.multicast_audit.specs.declared.verdict.MulticastVerdict.{MulticastVerdict}
+use Rattle.multicast_audit.specs.Copies.{copy_of, takes_packets}
+use Rattle.multicast_audit.specs.Loops.{loop_of}
+use Rattle.multicast_audit.specs.Verdict.{all_are_safe, all_reasons}
+use Rattle.multicast_audit.specs.Ways.{goes_on, leaves}
+
+-- the port is one that its switch has
+abbrev pub is_own_port : NetState → PortRef → Bool
+is_own_port net at = nat_le 1 at.port && nat_le at.port (ports_at net.plan.nodes at.node)
+
+-- ---- loops
+-- what is reported is a loop: packets leave by each port and then by the next, and after the last one by the first
+abbrev pub ReportsMaskLoops : (NetState → List (List ℕ) → Option (List PortRef)) → Type 0
+ReportsMaskLoops reports =
+    (net : NetState) (masks : List (List ℕ)) (ring : List PortRef) → reports net masks ≡ Some ring → is_cycle (goes_on net masks) ring ≡ true
+
+abbrev pub MaskLoopsGoRound : Type 0
+MaskLoopsGoRound = ReportsMaskLoops loop_of
+
+-- where none is reported there is none, however long
+abbrev pub MissesNoMaskLoop : (NetState → List (List ℕ) → Option (List PortRef)) → Type 0
+MissesNoMaskLoop reports =
+    (net : NetState) (masks : List (List ℕ)) → reports net masks ≡ None → (ring : List PortRef) → list_all (is_own_port net) ring ≡ true
+    → is_cycle (goes_on net masks) ring ≡ false
+
+abbrev pub NoMaskLoopIsMissed : Type 0
+NoMaskLoopIsMissed = MissesNoMaskLoop loop_of
+
+-- ---- second copies
+-- a packet from an end port at the switch `place` comes to the switch `there`. It left switches by these ports, the last one first
+abbrev pub came_by : NetState → List (List ℕ) → (place : ℕ) → List PortRef → (there : ℕ) → Bool
+came_by net masks place [] there = place == there
+came_by net masks place (last ∷ []) there = (last.node == place) && (is_own_port net last && (leaves net masks last && leads_to net last there))
+came_by net masks place (last ∷ before ∷ back) there =
+    goes_on net masks before last && (is_own_port net last && (leads_to net last there && came_by net masks place (before ∷ back) last.node))
+
+-- by two different paths
+pub record ComesTwice (net : NetState) (masks : List (List ℕ)) (place there : ℕ) : Type 0 where
+  pub one : List PortRef
+  pub other : List PortRef
+  pub differ : one ≡ other → ⊥
+  pub by_one : came_by net masks place one there ≡ true
+  pub by_other : came_by net masks place other there ≡ true
+
+-- a copy that is reported comes so, from a switch to which an end port is attached
+abbrev pub ReportsCopies : (NetState → List (List ℕ) → Option SecondCopy) → Type 0
+ReportsCopies reports =
+    (net : NetState) (masks : List (List ℕ)) (copy : SecondCopy) → reports net masks ≡ Some copy
+    → (takes_packets net copy.from ≡ true) × ComesTwice net masks copy.from copy.at
+
+abbrev pub CopiesComeTwice : Type 0
+CopiesComeTwice = ReportsCopies copy_of
+
+-- where none is reported each switch is reached by one path at most
+abbrev pub MissesNoCopy : (NetState → List (List ℕ) → Option SecondCopy) → Type 0
+MissesNoCopy reports =
+    (net : NetState) (masks : List (List ℕ)) → reports net masks ≡ None → (place there : ℕ) → is_switch_at net.plan.nodes place ≡ true
+    → takes_packets net place ≡ true → ComesTwice net masks place there → ⊥
+
+abbrev pub NoCopyIsMissed : Type 0
+NoCopyIsMissed = MissesNoCopy copy_of
+
+-- ---- a verdict that is not safe has a reason, and each reason is named if and only if it holds
+pub record NamesAllReasons (words : Verdict → MulticastVerdict → List ℕ) : Type 0 where
+  pub some : (net : NetState) (all : List Aim) (ring : Option (List PortRef)) (multicast : MulticastVerdict)
+      → all_are_safe (verdict_by net all ring) multicast ≡ false → words (verdict_by net all ring) multicast ≡ [] → ⊥
+  pub lids : (routes : Verdict) (multicast : MulticastVerdict) → has_word (codes "no-lid") (words routes multicast) ≡ not routes.has_lids
+  pub pairs : (routes : Verdict) (multicast : MulticastVerdict) → has_word (codes "unreached") (words routes multicast) ≡ routes.loses
+  pub waits : (routes : Verdict) (multicast : MulticastVerdict) → has_word (codes "deadlock") (words routes multicast) ≡ not routes.is_free
+  pub names : (routes : Verdict) (multicast : MulticastVerdict) → has_word (codes "mismatch") (words routes multicast) ≡ not (routes.is_same && multicast.is_same)
+  pub entries : (routes : Verdict) (multicast : MulticastVerdict)
+      → has_word (codes "unknown") (words routes multicast) ≡ not ((routes.is_known && multicast.is_known) && not routes.lacks_entries)
+  pub loops : (routes : Verdict) (multicast : MulticastVerdict) → has_word (codes "multicast-loop") (words routes multicast) ≡ multicast.has_loops
+  pub copies : (routes : Verdict) (multicast : MulticastVerdict) → has_word (codes "multicast-copies") (words routes multicast) ≡ multicast.has_copies
+
+abbrev pub AllReasonsAreNamed : Type 0
+AllReasonsAreNamed = NamesAllReasons all_reasons

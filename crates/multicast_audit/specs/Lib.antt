@@ -1,0 +1,12 @@
+pub mod Masks
+pub mod Ways
+pub mod Scanning
+pub mod Loops
+pub mod Copies
+pub mod Lines
+pub mod Verdict
+pub mod Audit
+pub mod Laws
+pub mod WrongRules
+pub use Rattle.route_audit.specs.Net
+pub use Rattle.route_audit.specs.Plan

@@ -1,0 +1,113 @@
+-- Wrong rules for what is reported of multicast, and the law that each breaks.
+use Rattle.std.specs.Prelude.{ℕ, ◌==◌, nat_lt, Bool, true, false, List, [], ◌∷◌, codes, filter, get_or, length, map, if◌then◌else◌, Option, Some, None, option_map}
+use Rattle.std.specs.List.{enumerate_from}
+use Rattle.std.specs.Option.{option_map_or}
+use Rattle.fabric_parts.specs.Cable.{far_end, port}
+use Rattle.fabric_parts.specs.declared.cable.Cable.{Cable}
+use Rattle.fabric_parts.specs.declared.cable.PortRef.{PortRef}
+use Rattle.fabric_parts.specs.declared.node_type.NodeType.{NodeType}
+use Rattle.fabric_parts.specs.declared.node_type.NodeType.TheVariants.{ChannelAdapter, Switch}
+use Rattle.topo_file.specs.Connectivity.{switches}
+use Rattle.topo_file.specs.declared.node.Node.{Node}
+use Rattle.route_audit.specs.Cycle.{cycle}
+use Rattle.route_audit.specs.Net.{NetState}
+use Rattle.route_audit.specs.Verdict.{reasons}
+use Rattle.route_audit.specs.declared.verdict.Verdict.{Verdict}
+use Rattle.multicast_audit.specs.declared.copies.SecondCopy.{SecondCopy}
+use Rattle.multicast_audit.specs.declared.verdict.MulticastVerdict.{MulticastVerdict}
+use Rattle.multicast_audit.specs.Copies.{again, arrivals, copy_from, entrances, first_copy}
+use Rattle.multicast_audit.specs.Laws.{MissesNoCopy, MissesNoMaskLoop, NamesAllReasons, ReportsCopies, ReportsMaskLoops}
+use Rattle.multicast_audit.specs.Loops.{all_outs, loop_of}
+use Rattle.multicast_audit.specs.Verdict.{joined}
+use Rattle.multicast_audit.specs.Ways.{outs}
+
+-- ---- small fabrics: switches, and behind them an adapter
+abbrev pub node_of : NodeType → ℕ → Node
+node_of type guid = record { name = codes "n"; node_type = type; guid = guid; ports = 3 }
+
+abbrev pub cable_of : PortRef → PortRef → Cable
+cable_of a b = record { first = a; second = b }
+
+abbrev pub fabric_of : List Node → List Cable → NetState
+fabric_of nodes cables = record { plan = record { nodes = nodes; cables = cables; apart = []; ends = []; aggregation = []; lids = [] }; dump = record { tables = [] } }
+
+-- two switches with two cables between them: ports 1 and 2 of both
+abbrev pub two_cabled : NetState
+two_cabled = fabric_of (node_of Switch 1 ∷ node_of Switch 2 ∷ []) (cable_of (port 0 1) (port 1 1) ∷ cable_of (port 0 2) (port 1 2) ∷ [])
+
+-- three switches in a triangle, and an adapter at port 3 of the first
+abbrev pub triangle : NetState
+triangle =
+    fabric_of (node_of Switch 1 ∷ node_of Switch 2 ∷ node_of Switch 3 ∷ node_of ChannelAdapter 4 ∷ [])
+    (cable_of (port 0 1) (port 1 1) ∷ cable_of (port 0 2) (port 2 1) ∷ cable_of (port 1 2) (port 2 2) ∷ cable_of (port 0 3) (port 3 1) ∷ [])
+
+-- ---- a packet may go back by the port by which it came in
+abbrev pub comes_anyhow : NetState → PortRef → PortRef → Bool
+comes_anyhow net a b = option_map_or (λ there. there.node == b.node) (far_end net.plan.cables a) false
+
+abbrev pub loop_and_back : NetState → List (List ℕ) → Option (List PortRef)
+loop_and_back net masks =
+    option_map (map (λ place. get_or (all_outs net masks) place (port 0 0)))
+    (cycle (map (λ a. map (λ p. p.0) (filter (λ p. comes_anyhow net a p.1) (enumerate_from 0 (all_outs net masks)))) (all_outs net masks)))
+
+abbrev pub PacketsDoNotGoBack : Type 0
+PacketsDoNotGoBack = ReportsMaskLoops loop_and_back → ⊥
+
+-- one cable is in the masks of both switches
+abbrev pub one_cable : List (List ℕ)
+one_cable = (1 ∷ []) ∷ (1 ∷ []) ∷ []
+
+-- ---- a loop has more than two ports
+abbrev pub if_longer : List PortRef → Option (List PortRef)
+if_longer ring = if nat_lt 2 (length ring) then Some ring else None
+
+abbrev pub longer : Option (List PortRef) → Option (List PortRef)
+longer found = option_map_or if_longer found None
+
+abbrev pub loop_of_three : NetState → List (List ℕ) → Option (List PortRef)
+loop_of_three net masks = longer (loop_of net masks)
+
+abbrev pub TwoPortsLoop : Type 0
+TwoPortsLoop = MissesNoMaskLoop loop_of_three → ⊥
+
+-- both cables are
+abbrev pub two_cables : List (List ℕ)
+two_cables = (1 ∷ 2 ∷ []) ∷ (1 ∷ 2 ∷ []) ∷ []
+
+-- ---- packets enter at each switch
+abbrev pub copy_from_any : NetState → List (List ℕ) → Option SecondCopy
+copy_from_any net masks = first_copy net masks (switches net.plan.nodes)
+
+abbrev pub PacketsEnterAtEndPorts : Type 0
+PacketsEnterAtEndPorts = ReportsCopies copy_from_any → ⊥
+
+-- ---- copies are followed for one hop
+abbrev pub after_one_hop : NetState → List (List ℕ) → ℕ → Option ℕ
+after_one_hop net masks place = again (λ other. place == other) (arrivals net masks 1 (outs net masks (port place 0)))
+
+abbrev pub first_of : NetState → List (List ℕ) → List ℕ → Option SecondCopy
+first_of net masks [] = None
+first_of net masks (place ∷ rest) = option_map (copy_from place) (after_one_hop net masks place)
+
+abbrev pub copy_in_one_hop : NetState → List (List ℕ) → Option SecondCopy
+copy_in_one_hop net masks = first_of net masks (entrances net)
+
+abbrev pub CopiesAreFollowed : Type 0
+CopiesAreFollowed = MissesNoCopy copy_in_one_hop → ⊥
+
+-- the first switch sends to both others, and the third to the second
+abbrev pub round_the_corner : List (List ℕ)
+round_the_corner = (1 ∷ 2 ∷ []) ∷ [] ∷ (2 ∷ []) ∷ []
+
+-- ---- what is wrong with multicast is no reason
+abbrev pub reasons_of_routes : Verdict → MulticastVerdict → List ℕ
+reasons_of_routes routes multicast = reasons (joined routes multicast)
+
+abbrev pub MulticastIsAReason : Type 0
+MulticastIsAReason = NamesAllReasons reasons_of_routes → ⊥
+
+abbrev pub safe_routes : Verdict
+safe_routes = record { has_lids = true; is_reached = true; is_free = true; is_same = true; is_known = true; loses = false; lacks_entries = false }
+
+abbrev pub looping : MulticastVerdict
+looping = record { is_same = true; is_known = true; has_loops = true; has_copies = false }

@@ -1,0 +1,29 @@
+//! Wrong rules for what is reported of multicast, and the law that each breaks, so that a reader sees that the laws say something.
+//! Each function does nothing: its contract says that with this rule the law is false.
+
+ghost use Rattle.multicast_audit.specs.WrongRules.{CopiesAreFollowed, MulticastIsAReason, PacketsDoNotGoBack, PacketsEnterAtEndPorts, TwoPortsLoop};
+
+/// If a packet may go back by the port by which it came in, a cable between two switches is reported as a loop, and is none.
+pub fn packets_do_not_go_back()
+    ensures { PacketsDoNotGoBack }
+{}
+
+/// If a loop has three ports or more, one over two cables between two switches is missed.
+pub fn two_ports_loop()
+    ensures { TwoPortsLoop }
+{}
+
+/// If packets enter at each switch, a copy is reported of a packet that no end port sends.
+pub fn packets_enter_at_end_ports()
+    ensures { PacketsEnterAtEndPorts }
+{}
+
+/// If copies are followed for one hop, one that comes by another switch is missed.
+pub fn copies_are_followed()
+    ensures { CopiesAreFollowed }
+{}
+
+/// If the reasons are those of the routes alone, a loop of multicast has none.
+pub fn multicast_is_a_reason()
+    ensures { MulticastIsAReason }
+{}
