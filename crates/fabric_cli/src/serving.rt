@@ -17,7 +17,7 @@ use crate::faults::{MEMORY_LINE, REFUSED, Stop};
 use crate::files::Files;
 use crate::key_audits::{KeysFiles, keys_audited, read_keys_files, written_keys};
 use crate::outputs::{imported, text_or_stop, viewed};
-use crate::reading::{read_file, read_two};
+use crate::reading::{read_fabric_and_dump, read_file};
 use crate::texts::read_texts;
 use cli_args::{Asked, Call, Clap, DumpView, Parser, given_words, read_words};
 use code_texts::explained;
@@ -221,9 +221,9 @@ fn answered_of_dump<'a, F: Files, O: Output>(
     ensures unread { IfErr result (NamesUnread (F.reported files.old) (F.reads files.old)
         (F.opened files.old) (F.opened files.new) (fabric.entry.now ∷ dump.entry.now ∷ [])) }
 {
-    match read_two(alloc, files, fabric, dump) {
-        Ok((plan, tables)) => {
-            let made = viewed(alloc, view, plan.as_slice(), tables.as_slice());
+    match read_fabric_and_dump(alloc, files, fabric, dump) {
+        Ok(read) => {
+            let made = viewed(alloc, view, read.fabric.as_slice(), &read.dump);
             written_view(out, made)
         }
         Err(stop) => Err(stop),
