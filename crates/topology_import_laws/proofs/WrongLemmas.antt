@@ -19,7 +19,7 @@ use Rattle.topology_import.specs.declared.planned.Planned.{Planned}
 use Rattle.topology_import.specs.Agreement.{is_between}
 use Rattle.topology_import.specs.Ends.{counted}
 use Rattle.topology_import.specs.Laws.{Among, LeadToOneAnother}
-use Rattle.topology_import.specs.WrongRules.{CablesAreWanted, EndsAreWanted, LinesAreWanted, NearEndsAloneAreNotEnough, NoRootsAreWanted, SwitchesAreJoinedToo, TheManagerIsWanted}
+use Rattle.topology_import_laws.specs.WrongRules.{CablesAreWanted, EndsAreWanted, LinesAreWanted, NearEndsAloneAreNotEnough, NoRootsAreWanted, SwitchesAreJoinedToo, TheManagerIsWanted}
 
 -- ---- nothing was discovered
 abbrev nothing : DiscoveryState

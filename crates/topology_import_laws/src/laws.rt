@@ -2,8 +2,8 @@
 //! are the theorems.
 
 ghost use Rattle.topology_import.specs.Laws.{OthersAreReported};
-ghost use Rattle.topology_import.specs.WrongRules.{CablesAreWanted, EndsAreWanted, LinesAreWanted, NearEndsAloneAreNotEnough, NoRootsAreWanted};
-ghost use Rattle.topology_import.specs.WrongRules.{SwitchesAreJoinedToo, TheManagerIsWanted};
+ghost use Rattle.topology_import_laws.specs.WrongRules.{CablesAreWanted, EndsAreWanted, LinesAreWanted, NearEndsAloneAreNotEnough, NoRootsAreWanted};
+ghost use Rattle.topology_import_laws.specs.WrongRules.{SwitchesAreJoinedToo, TheManagerIsWanted};
 
 /// A topology that passes the test of this crate is that of the discovery.
 pub fn others_are_reported()
