@@ -1,5 +1,5 @@
 -- What is known of each end port: its table, the keys that the file gives it, and the switch port that faces it.
-use Rattle.std.specs.Prelude.{ℕ, Bool, true, false, ◌==◌, List, [], ◌∷◌, flat_map, slice_get, if◌then◌else◌, Option, Some, None, option_map}
+use Rattle.std.specs.Prelude.{ℕ, ◌==◌, List, [], ◌∷◌, flat_map, slice_get, if◌then◌else◌, Option, Some, None, option_map}
 use Rattle.std.specs.Option.{option_and_then, option_map_or}
 use Rattle.fabric_parts.specs.Cable.{is_same_port}
 use Rattle.fabric_parts.specs.declared.cable.PortRef.{PortRef}
@@ -20,7 +20,7 @@ use Rattle.pkeys_file.specs.declared.query.QueryKind.TheVariants.{Keys, NodeInfo
 use Rattle.pkeys_file.specs.Answers.{answer_to}
 use Rattle.topo_file.specs.Topology.{TopologyState}
 use Rattle.audited_ports.specs.declared.ends.End.{End}
-use Rattle.audited_ports.specs.declared.names.GuidPort.{GuidPort}
+use Rattle.audit_plan.specs.declared.ends.EndGuid.{EndGuid}
 use Rattle.audited_ports.specs.declared.port.AuditedPort.{AuditedPort}
 use Rattle.audited_ports.specs.declared.port.Enforcement.{Enforcement}
 use Rattle.audited_ports.specs.declared.port.FacingPort.{FacingPort}
@@ -31,7 +31,7 @@ use Rattle.audited_ports.specs.OpenSm.{keys_by_opensm}
 
 -- the files: ports of the topology by GUID, the subnet manager's port among them, the discovery, and the answers
 pub record FilesState : Type 0 where
-  pub index : List GuidPort
+  pub index : List EndGuid
   pub manager : PortRef
   pub discovery : DiscoveryState
   pub answers : List Answer

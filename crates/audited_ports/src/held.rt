@@ -58,11 +58,7 @@ pub fn has_base(base: u16, keys: &[u16]) -> bool
 }
 
 /// The keys of the first list of whose bases the second has none.
-pub fn of_other_bases(
-    alloc: Global,
-    keys: &[u16],
-    others: &[u16],
-) -> Result<Vec<u16>, AllocError>
+pub fn of_other_bases(alloc: Global, keys: &[u16], others: &[u16]) -> Result<Vec<u16>, AllocError>
     ensures { IfOk result (λ found. found.items ≡ of_other_bases keys.now others.now) }
 {
     keys.iter()
