@@ -22,3 +22,6 @@ returns-in_err-dump-clause-unread g c =
 
 pub returns-clause-order : goal.returns-clause-order
 returns-clause-order g c = opens_whole _ _ _ (opens_more _ _ _ _ _ c.read_file.ensures.opened c.read_dump.ensures.opened)
+
+pub returns-clause-all : goal.returns-clause-all
+returns-clause-all g c = opens_more _ _ _ _ _ c.read_file.ensures.opened c.read_dump.ensures.opened
