@@ -13,20 +13,21 @@ use Rattle.fabric_parts.specs.Cable.{far_end, is_same_port, port}
 use Rattle.fabric_parts.specs.declared.cable.PortRef.{PortRef}
 use Rattle.topo_file.specs.Connectivity.{switches}
 use Rattle.topo_file.specs.Node.{is_switch_at}
-use Rattle.route_audit.specs.declared.entry.Entry.{Entry}
-use Rattle.route_audit.specs.declared.entry.Entry.TheVariants.{Out, Missing, Unreported}
-use Rattle.route_audit.specs.declared.following.Fate.TheVariants as fates
-use Rattle.route_audit.specs.declared.following.Turn.{Turn}
-use Rattle.route_audit.specs.declared.following.Turn.TheVariants as turns
-use Rattle.route_audit.specs.Attached.{ports_of}
-use Rattle.route_audit.specs.Channels.{channels, channels_of, is_channel, is_out, leads_to, leaves_by}
-use Rattle.route_audit.specs.Following.{end_within, fate_by, switch_total, then_end, turn, turn_by, turn_to}
-use Rattle.route_audit.specs.Laws.{GoesTo, IsChannel}
-use Rattle.route_audit.specs.Net.{NetState, entry}
+use Rattle.audit_net.specs.declared.entry.Entry.{Entry}
+use Rattle.audit_net.specs.declared.entry.Entry.TheVariants.{Out, Missing, Unreported}
+use Rattle.audit_net.specs.declared.following.Fate.TheVariants as fates
+use Rattle.audit_net.specs.declared.following.Turn.{Turn}
+use Rattle.audit_net.specs.declared.following.Turn.TheVariants as turns
+use Rattle.audit_net.specs.Attached.{ports_of}
+use Rattle.credit_loops.specs.Channels.{channels, channels_of, is_channel, is_out, leads_to, leaves_by}
+use Rattle.audit_net.specs.Following.{end_within, fate_by, switch_total, then_end, turn, turn_by, turn_to}
+use Rattle.audit_net.specs.Laws.{GoesTo}
+use Rattle.credit_loops.specs.Laws.{IsChannel}
+use Rattle.audit_net.specs.Net.{NetState, entry}
 use Rattle.route_audit.specs.Pairs.{is_fate}
-use Rattle.route_audit.specs.Plan.{is_host}
-use Rattle.route_audit.proofs.ChannelLawLemmas.{channels_are_reported}
-use Rattle.route_audit.proofs.EndlessLemmas.{loops_never_end, turn_goes}
+use Rattle.audit_plan.specs.Plan.{is_host}
+use Rattle.credit_loops.proofs.ChannelLawLemmas.{channels_are_reported}
+use Rattle.audit_net.proofs.EndlessLemmas.{loops_never_end, turn_goes}
 use Rattle.cable_load.specs.Laws.{CablesLeadBack, LastLinksCarryWhatArrives, arrives_over, last_channels, pairs_of, ports_used}
 use Rattle.cable_load.specs.Sources.{Pair, entrance, pair_from, pairs_in, sends}
 use Rattle.cable_load.specs.Ways.{goes_over, is_on, then_on, way, way_within}

@@ -22,9 +22,9 @@ use Rattle.netdiscover_file.proofs.OtherEndLemmas.{one_other_end}
 use Rattle.topo_file.specs.declared.node.Node.{Node}
 use Rattle.topo_file.specs.Node.{ports_at}
 use Rattle.topo_file.specs.Sound.{ends_at_ports, is_port, shares_port}
-use Rattle.route_audit.specs.Laws.{are_joined, has_far_line, joins}
-use Rattle.route_audit.specs.Plan.{PlanState, found_node, plan_found, plan_of}
-use Rattle.route_audit.proofs.FoundLemmas.{cables_are_taken}
+use Rattle.audit_plan.specs.Laws.{are_joined, has_far_line, joins}
+use Rattle.audit_plan.specs.Plan.{PlanState, found_node, plan_found, plan_of}
+use Rattle.audit_plan.proofs.FoundLemmas.{cables_are_taken}
 use Rattle.cable_load.specs.Laws.{CablesLeadBack, CablesOfPlansLeadBack}
 use Rattle.cable_load.proofs.KeyLemmas.{same_port}
 

@@ -9,7 +9,7 @@ use Rattle.step_results.proofs.ListLemmas.{any_none}
 use Rattle.fabric_parts.specs.Cable.{is_same_port, port}
 use Rattle.fabric_parts.specs.declared.cable.PortRef.{PortRef}
 use Rattle.pkey_rules.specs.KeyTable.{shares}
-use Rattle.route_audit.proofs.NetLemmas.{cut_before}
+use Rattle.audit_plan.proofs.RangeLemmas.{cut_before}
 use Rattle.cable_load.specs.declared.talk.PortKeys.{PortKeys}
 use Rattle.cable_load.specs.KeyClasses.{class_at, row_of, rows_of, shared_at, KnowsClasses}
 use Rattle.cable_load.specs.Talk.{keys_at}

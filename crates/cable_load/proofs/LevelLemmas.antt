@@ -8,16 +8,16 @@ use Rattle.std.proofs.lemmas.Option.{slice_get_past}
 use Rattle.step_results.proofs.ListLemmas.{list_any_weaker}
 use Rattle.topo_file.specs.Node.{ports_at}
 use Rattle.topo_file.specs.declared.node.Node.{Node}
-use Rattle.route_audit.specs.declared.entry.Entry.TheVariants.{Out}
-use Rattle.route_audit.specs.declared.following.Turn.{Turn}
-use Rattle.route_audit.specs.declared.following.Turn.TheVariants as turns
-use Rattle.route_audit.specs.Following.{turn_by}
-use Rattle.route_audit.specs.Net.{NetState}
+use Rattle.audit_net.specs.declared.entry.Entry.TheVariants.{Out}
+use Rattle.audit_net.specs.declared.following.Turn.{Turn}
+use Rattle.audit_net.specs.declared.following.Turn.TheVariants as turns
+use Rattle.audit_net.specs.Following.{turn_by}
+use Rattle.audit_net.specs.Net.{NetState}
 use Rattle.cable_load.specs.declared.loaded.Loaded.{Loaded}
 use Rattle.cable_load.specs.Levels.{goes_near, is_marked, is_near, is_next, leads_near, level_at, level_by, level_of, levels_of, marks_of, of_level, rounds_of, some_lead}
 use Rattle.cable_load.specs.Laws.{LeadsToHost, LevelsAreDistances}
 use Rattle.cable_load.specs.Sources.{host_behind}
-use Rattle.route_audit.proofs.EndlessLemmas.{in_range}
+use Rattle.audit_net.proofs.EndlessLemmas.{in_range}
 
 -- ---- a node that is not there is not near
 no_ports : (net : NetState) (place : ℕ) → length net.plan.nodes ≤ place → ports_at net.plan.nodes place ≡ 0

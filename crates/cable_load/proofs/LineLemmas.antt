@@ -8,9 +8,9 @@ use Rattle.fabric_parts.specs.Cable.{is_same_port, port}
 use Rattle.fabric_parts.specs.declared.cable.PortRef.{PortRef}
 use Rattle.topo_file.specs.Connectivity.{switches}
 use Rattle.topo_file.specs.Node.{is_switch_at, ports_at}
-use Rattle.route_audit.specs.Attached.{ports_of}
-use Rattle.route_audit.specs.Channels.{channels, channels_of, is_channel}
-use Rattle.route_audit.specs.Net.{NetState}
+use Rattle.audit_net.specs.Attached.{ports_of}
+use Rattle.credit_loops.specs.Channels.{channels, channels_of, is_channel}
+use Rattle.audit_net.specs.Net.{NetState}
 use Rattle.cable_load.specs.declared.loaded.Loaded.{Loaded}
 use Rattle.cable_load.specs.Laws.{EachChannelHasOneLine, LoadsAddUp, LoadsAreOfPairs, LoadsStayWithin, is_at, ports_used}
 use Rattle.cable_load.specs.Loads.{load, loaded, loads, most_of}

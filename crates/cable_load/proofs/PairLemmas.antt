@@ -11,13 +11,13 @@ use Rattle.fabric_parts.specs.Cable.{port}
 use Rattle.fabric_parts.specs.declared.cable.PortRef.{PortRef}
 use Rattle.topo_file.specs.Node.{ports_at}
 use Rattle.topo_file.specs.declared.node.Node.{Node}
-use Rattle.route_audit.specs.declared.entry.Entry.{Entry}
-use Rattle.route_audit.specs.declared.entry.Entry.TheVariants.{Unreported}
-use Rattle.route_audit.specs.Channels.{is_out, leaves_by}
-use Rattle.route_audit.specs.Net.{NetState, entry, entry_in, table_of}
-use Rattle.route_audit.specs.declared.following.Fate.{Fate}
-use Rattle.route_audit.specs.declared.following.Fate.TheVariants as fates
-use Rattle.route_audit.specs.Following.{fate}
+use Rattle.audit_net.specs.declared.entry.Entry.{Entry}
+use Rattle.audit_net.specs.declared.entry.Entry.TheVariants.{Unreported}
+use Rattle.credit_loops.specs.Channels.{is_out, leaves_by}
+use Rattle.audit_net.specs.Net.{NetState, entry, entry_in, table_of}
+use Rattle.audit_net.specs.declared.following.Fate.{Fate}
+use Rattle.audit_net.specs.declared.following.Fate.TheVariants as fates
+use Rattle.audit_net.specs.Following.{fate}
 use Rattle.route_audit.specs.Pairs.{is_fate}
 use Rattle.cable_load.specs.Counts.{counted_by, counts_of, plus}
 use Rattle.cable_load.specs.declared.counting.Counts.{Counts}

@@ -5,13 +5,13 @@ use Rattle.std.proofs.lemmas.Bool.Decides.{nat_tests}
 use Rattle.std.proofs.lemmas.List.{get_or_past}
 use Rattle.std.proofs.lemmas.List.Folds.{list_any-append}
 use Rattle.fabric_parts.specs.Cable.{port}
-use Rattle.route_audit.specs.declared.entry.Entry.{Entry}
-use Rattle.route_audit.specs.declared.entry.Entry.TheVariants.{Out, Missing, Unreported}
-use Rattle.route_audit.specs.Channels.{is_out, leaves_by}
-use Rattle.route_audit.specs.declared.following.Turn.TheVariants as turns
-use Rattle.route_audit.specs.Following.{switch_total, turn_by}
-use Rattle.route_audit.specs.Laws.{GoesTo}
-use Rattle.route_audit.specs.Net.{NetState, entry}
+use Rattle.audit_net.specs.declared.entry.Entry.{Entry}
+use Rattle.audit_net.specs.declared.entry.Entry.TheVariants.{Out, Missing, Unreported}
+use Rattle.credit_loops.specs.Channels.{is_out, leaves_by}
+use Rattle.audit_net.specs.declared.following.Turn.TheVariants as turns
+use Rattle.audit_net.specs.Following.{switch_total, turn_by}
+use Rattle.audit_net.specs.Laws.{GoesTo}
+use Rattle.audit_net.specs.Net.{NetState, entry}
 use Rattle.cable_load.specs.Walk.{at_port, is_stamped, on_way, sum_at, GrowBy}
 use Rattle.cable_load.specs.Ways.{is_on, way_within}
 use Rattle.cable_load.proofs.WayLemmas.{ComesTo, Stays, comes_back, comes_on, way_ends, way_more}

@@ -3,8 +3,8 @@ use Rattle.std.proofs.Common.{◌≡◌, ◌∙◌, ap, refl, sym, ℕ, Bool, tr
 use Rattle.std.proofs.lemmas.List.Elements.{filter-append}
 use Rattle.fabric_parts.specs.Cable.{is_same_port}
 use Rattle.fabric_parts.specs.declared.cable.PortRef.{PortRef}
-use Rattle.route_audit.specs.Net.{NetState}
-use Rattle.route_audit.specs.Plan.{is_host}
+use Rattle.audit_net.specs.Net.{NetState}
+use Rattle.audit_plan.specs.Plan.{is_host}
 use Rattle.cable_load.specs.Laws.{TalkersCount, all_talk, is_heard}
 use Rattle.cable_load.specs.Sources.{Entrance, Pair, entrances, pair_from, pairs_in, pairs_to, pairs_to_end}
 

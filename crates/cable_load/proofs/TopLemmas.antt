@@ -10,9 +10,9 @@ use Rattle.step_results.proofs.ListLemmas.{IsDistinct-nil}
 use Rattle.topo_file.specs.Connectivity.{switches}
 use Rattle.topo_file.specs.Node.{is_switch_at}
 use Rattle.topo_file.specs.declared.node.Node.{Node}
-use Rattle.route_audit.specs.Net.{NetState}
-use Rattle.route_audit.proofs.EndlessLemmas.{is_listed}
-use Rattle.route_audit.proofs.LidLemmas.{filter_alike}
+use Rattle.audit_net.specs.Net.{NetState}
+use Rattle.audit_net.proofs.EndlessLemmas.{is_listed}
+use Rattle.lid_owners.proofs.LidLemmas.{filter_alike}
 use Rattle.cable_load.specs.Laws.{IsFarthest, TopsAreFarthest}
 use Rattle.cable_load.specs.Levels.{carries, level_of, level_at, levels_of}
 use Rattle.cable_load.specs.Tops.{higher, is_top, top_of, tops_by, tops_of}

@@ -4,11 +4,11 @@ use Rattle.std.proofs.lemmas.Bool.{cases_Bool, eq-eqb, false≢true, or_right}
 use Rattle.std.proofs.lemmas.Bool.Decides.{nat_tests}
 use Rattle.std.proofs.lemmas.List.{append_assoc}
 use Rattle.std.proofs.lemmas.List.Folds.{list_any-append}
-use Rattle.route_audit.specs.declared.following.Turn.{Turn}
-use Rattle.route_audit.specs.declared.following.Turn.TheVariants as turns
-use Rattle.route_audit.specs.Following.{turn}
-use Rattle.route_audit.specs.Laws.{GoesTo}
-use Rattle.route_audit.specs.Net.{NetState}
+use Rattle.audit_net.specs.declared.following.Turn.{Turn}
+use Rattle.audit_net.specs.declared.following.Turn.TheVariants as turns
+use Rattle.audit_net.specs.Following.{turn}
+use Rattle.audit_net.specs.Laws.{GoesTo}
+use Rattle.audit_net.specs.Net.{NetState}
 use Rattle.cable_load.specs.Ways.{is_on, then_on, way_within}
 
 -- ---- the switch that packets come to behind so many

@@ -6,13 +6,13 @@ use Rattle.std.proofs.lemmas.List.{length-map}
 use Rattle.std.specs.Cmp.{both_ways}
 use Rattle.topo_file.specs.Connectivity.{switches}
 use Rattle.topo_file.specs.Node.{is_switch_at}
-use Rattle.route_audit.specs.declared.following.Turn.{Turn}
-use Rattle.route_audit.specs.declared.following.Turn.TheVariants as turns
-use Rattle.route_audit.specs.Following.{switch_total, turn}
-use Rattle.route_audit.specs.Laws.{ComesBy, GoesTo}
-use Rattle.route_audit.specs.Net.{NetState}
-use Rattle.route_audit.proofs.EndlessLemmas.{below_at, below_map, is_listed, map_alike, same_at, turn_goes}
-use Rattle.route_audit.proofs.RoundLemmas.{AreGrowing, settled}
+use Rattle.audit_net.specs.declared.following.Turn.{Turn}
+use Rattle.audit_net.specs.declared.following.Turn.TheVariants as turns
+use Rattle.audit_net.specs.Following.{switch_total, turn}
+use Rattle.audit_net.specs.Laws.{ComesBy, GoesTo}
+use Rattle.audit_net.specs.Net.{NetState}
+use Rattle.audit_net.proofs.EndlessLemmas.{below_at, below_map, is_listed, map_alike, same_at, turn_goes}
+use Rattle.audit_net.proofs.RoundLemmas.{AreGrowing, settled}
 use Rattle.cable_load.specs.Laws.{WaysAreWhole}
 use Rattle.cable_load.specs.Ways.{is_on, then_on, way_within}
 use Rattle.cable_load.proofs.WayLemmas.{next_on, stays_in, then_next}

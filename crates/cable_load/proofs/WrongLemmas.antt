@@ -5,8 +5,8 @@ use Rattle.step_results.proofs.DistinctLemmas.{distinct}
 use Rattle.fabric_parts.specs.Cable.{port}
 use Rattle.netdiscover_file.specs.Sound.{IsSound, shares_guid, shares_port as shares_line}
 use Rattle.topo_file.specs.Sound.{shares_port}
-use Rattle.route_audit.specs.Plan.{cable_at, joining_cables, plan_found}
-use Rattle.route_audit.specs.WrongRules.{a_plug}
+use Rattle.audit_plan.specs.Plan.{cable_at, joining_cables, plan_found}
+use Rattle.audit_plan.specs.WrongRules.{a_plug}
 use Rattle.cable_load.specs.Laws.{LeadsToHost}
 use Rattle.cable_load.specs.Sources.{Pair}
 use Rattle.cable_load.specs.Talk.{may_talk}

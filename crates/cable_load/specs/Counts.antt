@@ -1,8 +1,8 @@
 -- How many pairs there are, how many of these are lost, and of how many it is unknown whether they are.
 use Rattle.std.specs.Prelude.{ℕ, ◌+◌, List, count_by, length, if◌then◌else◌}
-use Rattle.route_audit.specs.declared.following.Fate.{Fate}
-use Rattle.route_audit.specs.declared.following.Fate.TheVariants as fates
-use Rattle.route_audit.specs.Net.{NetState}
+use Rattle.audit_net.specs.declared.following.Fate.{Fate}
+use Rattle.audit_net.specs.declared.following.Fate.TheVariants as fates
+use Rattle.audit_net.specs.Net.{NetState}
 use Rattle.route_audit.specs.Pairs.{is_fate}
 use Rattle.cable_load.specs.declared.counting.Counts.{Counts}
 use Rattle.cable_load.specs.Sources.{Pair}

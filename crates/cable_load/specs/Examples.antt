@@ -5,9 +5,9 @@ use Rattle.dump_file.specs.declared.row.Row.{Row}
 use Rattle.dump_file.specs.declared.table.Table.{Table}
 use Rattle.fabric_parts.specs.Cable.{port}
 use Rattle.fabric_parts.specs.declared.cable.PortRef.{PortRef}
-use Rattle.route_audit.specs.declared.lids.Aim.{Aim}
-use Rattle.route_audit.specs.Net.{NetState}
-use Rattle.route_audit.specs.Plan.{plan_of}
+use Rattle.lid_owners.specs.declared.lids.Aim.{Aim}
+use Rattle.audit_net.specs.Net.{NetState}
+use Rattle.audit_plan.specs.Plan.{plan_of}
 use Rattle.cable_load.specs.Sources.{pairs_by}
 use Rattle.cable_load.specs.Talk.{may_talk}
 use Rattle.cable_load.specs.Text.{hundredths, text_by}

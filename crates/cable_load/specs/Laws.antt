@@ -10,16 +10,16 @@ use Rattle.netdiscover_file.specs.Sound.{IsSound}
 use Rattle.topo_file.specs.Node.{is_switch_at, ports_at}
 use Rattle.topo_file.specs.Sound.{IsSoundWithin, is_port}
 use Rattle.topo_file.specs.Topology.{TopologyState}
-use Rattle.route_audit.specs.declared.entry.Entry.TheVariants.{Out}
-use Rattle.route_audit.specs.declared.following.Fate.TheVariants as fates
-use Rattle.route_audit.specs.declared.following.Turn.TheVariants as turns
-use Rattle.route_audit.specs.declared.lids.Aim.{Aim}
-use Rattle.route_audit.specs.Channels.{channels, leads_to}
-use Rattle.route_audit.specs.Following.{turn, turn_by}
-use Rattle.route_audit.specs.Laws.{ComesBy}
-use Rattle.route_audit.specs.Net.{NetState}
+use Rattle.audit_net.specs.declared.entry.Entry.TheVariants.{Out}
+use Rattle.audit_net.specs.declared.following.Fate.TheVariants as fates
+use Rattle.audit_net.specs.declared.following.Turn.TheVariants as turns
+use Rattle.lid_owners.specs.declared.lids.Aim.{Aim}
+use Rattle.credit_loops.specs.Channels.{channels, leads_to}
+use Rattle.audit_net.specs.Following.{turn, turn_by}
+use Rattle.audit_net.specs.Laws.{ComesBy}
+use Rattle.audit_net.specs.Net.{NetState}
 use Rattle.route_audit.specs.Pairs.{is_fate}
-use Rattle.route_audit.specs.Plan.{PlanState, plan_found, plan_of}
+use Rattle.audit_plan.specs.Plan.{PlanState, plan_found, plan_of}
 use Rattle.cable_load.specs.declared.levels.TheConstants.{LEVELS}
 use Rattle.cable_load.specs.declared.loaded.Loaded.{Loaded}
 use Rattle.cable_load.specs.Levels.{carries, level_of}

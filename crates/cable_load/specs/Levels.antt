@@ -3,11 +3,11 @@
 use Rattle.std.specs.Prelude.{ℕ, zero, suc, ◌+◌, ◌==◌, ◌||◌, Bool, false, not, List, count_by, filter, get_or, length, map}
 use Rattle.std.specs.List.{list_any, range_with_len}
 use Rattle.topo_file.specs.Node.{ports_at}
-use Rattle.route_audit.specs.declared.entry.Entry.TheVariants.{Out}
-use Rattle.route_audit.specs.declared.following.Turn.{Turn}
-use Rattle.route_audit.specs.declared.following.Turn.TheVariants as turns
-use Rattle.route_audit.specs.Following.{turn_by}
-use Rattle.route_audit.specs.Net.{NetState}
+use Rattle.audit_net.specs.declared.entry.Entry.TheVariants.{Out}
+use Rattle.audit_net.specs.declared.following.Turn.{Turn}
+use Rattle.audit_net.specs.declared.following.Turn.TheVariants as turns
+use Rattle.audit_net.specs.Following.{turn_by}
+use Rattle.audit_net.specs.Net.{NetState}
 use Rattle.cable_load.specs.declared.levels.TheConstants.{LEVELS}
 use Rattle.cable_load.specs.declared.loaded.Loaded.{Loaded}
 use Rattle.cable_load.specs.Sources.{attached}

@@ -2,8 +2,8 @@
 use Rattle.std.specs.Prelude.{ℕ, ◌*◌, ◌/◌, ◌==◌, nat_lt, List, count_by, length, map, if◌then◌else◌}
 use Rattle.std.specs.List.{fold, sum_by}
 use Rattle.fabric_parts.specs.declared.cable.PortRef.{PortRef}
-use Rattle.route_audit.specs.Channels.{channels}
-use Rattle.route_audit.specs.Net.{NetState}
+use Rattle.credit_loops.specs.Channels.{channels}
+use Rattle.audit_net.specs.Net.{NetState}
 use Rattle.cable_load.specs.declared.loaded.Loaded.{Loaded}
 use Rattle.cable_load.specs.Sources.{Pair}
 use Rattle.cable_load.specs.Ways.{goes_over}

@@ -6,9 +6,9 @@ use Rattle.fabric_parts.specs.Cable.{far_end, is_same_port, port}
 use Rattle.fabric_parts.specs.declared.cable.PortRef.{PortRef}
 use Rattle.topo_file.specs.Connectivity.{switches}
 use Rattle.topo_file.specs.Node.{ports_at}
-use Rattle.route_audit.specs.declared.lids.Aim.{Aim}
-use Rattle.route_audit.specs.Net.{NetState}
-use Rattle.route_audit.specs.Plan.{is_host}
+use Rattle.lid_owners.specs.declared.lids.Aim.{Aim}
+use Rattle.audit_net.specs.Net.{NetState}
+use Rattle.audit_plan.specs.Plan.{is_host}
 
 -- ---- the hosts' ports that are attached to the switch there, in the order of its ports
 abbrev pub if_host : NetState → PortRef → List PortRef

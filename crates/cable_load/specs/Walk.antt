@@ -3,11 +3,11 @@
 use Rattle.std.specs.Prelude.{ℕ, ◌≡◌, ◌+◌, ◌*◌, ◌<◌, ◌==◌, ◌&&◌, Bool, false, List, count_by, get_or, length, if◌then◌else◌, Option, Some, None}
 use Rattle.fabric_parts.specs.Cable.{port}
 use Rattle.fabric_parts.specs.declared.cable.PortRef.{PortRef}
-use Rattle.route_audit.specs.declared.entry.Entry.{Entry}
-use Rattle.route_audit.specs.Channels.{is_out}
-use Rattle.route_audit.specs.Net.{NetState}
-use Rattle.route_audit.specs.Plan.{is_host}
-use Rattle.route_audit.specs.declared.lids.Aim.{Aim}
+use Rattle.audit_net.specs.declared.entry.Entry.{Entry}
+use Rattle.credit_loops.specs.Channels.{is_out}
+use Rattle.audit_net.specs.Net.{NetState}
+use Rattle.audit_plan.specs.Plan.{is_host}
+use Rattle.lid_owners.specs.declared.lids.Aim.{Aim}
 use Rattle.cable_load.specs.declared.loads.Target.{Target}
 use Rattle.cable_load.specs.Sources.{Pair, sends}
 use Rattle.cable_load.specs.Ways.{goes_over, passes}

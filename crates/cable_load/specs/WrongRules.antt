@@ -11,10 +11,10 @@ use Rattle.netdiscover_file.specs.Discovery.{DiscoveryState}
 use Rattle.topo_file.specs.declared.node.Node.{Node}
 use Rattle.topo_file.specs.Connectivity.{switches}
 use Rattle.topo_file.specs.Topology.{TopologyState}
-use Rattle.route_audit.specs.declared.lids.Aim.{Aim}
-use Rattle.route_audit.specs.Channels.{leaves_by}
-use Rattle.route_audit.specs.Net.{NetState}
-use Rattle.route_audit.specs.Plan.{PlanState, plan_found, plan_of}
+use Rattle.lid_owners.specs.declared.lids.Aim.{Aim}
+use Rattle.credit_loops.specs.Channels.{leaves_by}
+use Rattle.audit_net.specs.Net.{NetState}
+use Rattle.audit_plan.specs.Plan.{PlanState, plan_found, plan_of}
 use Rattle.cable_load.specs.declared.loaded.Loaded.{Loaded}
 use Rattle.cable_load.specs.Laws.{AddsUp, CarriesWhatArrives, CountsTalkers, FindsFarthest, FollowsWays, MeasuresLevels, NamesEachOnce, ReportsUnused, StaysWithin}
 use Rattle.cable_load.specs.Laws.{TakesCables, all_talk, lines_of}

@@ -3,7 +3,7 @@
 ghost use Rattle.std.specs.Prelude.{◌≡◌, ◌+◌, IfOk};
 ghost use Rattle.cable_load.specs.Counts.{counted_by, plus};
 
-use route_audit::Fate;
+use audit_net::Fate;
 use std::alloc::AllocError;
 
 /// A number of pairs.

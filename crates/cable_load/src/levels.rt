@@ -6,7 +6,8 @@ ghost use Rattle.cable_load.specs.Levels.{carries, is_marked, is_next, leads_nea
 
 use crate::loaded::Loaded;
 use crate::sources::attached;
-use route_audit::{Net, Turn, ports_at};
+use audit_net::{Net, Turn};
+use audit_plan::ports_at;
 use std::alloc::{AllocError, Global};
 use std::marker::Model;
 

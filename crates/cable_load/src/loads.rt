@@ -1,7 +1,7 @@
 //! The loads of all channels.
 
 ghost use Rattle.std.specs.Prelude.{List, [], ◌≡◌, ◌<◌, ◌-◌, ◌*◌, length, flat_map, map, IfOk, OnOk};
-ghost use Rattle.route_audit.specs.Net.{NetState};
+ghost use Rattle.audit_net.specs.Net.{NetState};
 ghost use Rattle.cable_load.specs.Counts.{counts_of};
 ghost use Rattle.cable_load.specs.Loads.{loaded, loads};
 ghost use Rattle.cable_load.specs.Sources.{Pair, entrances, pairs_by, pairs_in, pairs_to};
@@ -14,8 +14,10 @@ use crate::sources::Entrance;
 use crate::sums::{blank_sums, sum_at, zeros};
 use crate::talk::Talk;
 use crate::walk::{Flow, add_way};
+use audit_net::Net;
+use credit_loops::all_channels;
 use fabric_parts::PortRef;
-use route_audit::{Aim, Net};
+use lid_owners::Aim;
 use std::alloc::{AllocError, Global};
 
 /// A LID, and the end port that has it.
@@ -177,7 +179,7 @@ pub(crate) fn loads(
 {
     let mut sums = blank_sums(alloc, net.nodes().len())?;
     let counts = add_all(net, alloc, &mut sums, all, talk, aims)?;
-    let channels = net.channels(alloc)?;
+    let channels = all_channels(net, alloc)?;
     let loads = loaded_all(alloc, &channels, &sums)?;
     Ok((loads, counts))
 }

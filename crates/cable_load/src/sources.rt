@@ -6,8 +6,9 @@ ghost use Rattle.cable_load.specs.Talk.{may_talk};
 ghost use Rattle.cable_load.specs.Walk.{senders};
 
 use crate::talk::Talk;
+use audit_net::Net;
+use audit_plan::ports_at;
 use fabric_parts::PortRef;
-use route_audit::{Net, ports_at};
 use std::alloc::{AllocError, Global};
 use std::marker::Model;
 

@@ -2,7 +2,7 @@
 
 ghost use Rattle.std.specs.Prelude.{◌≡◌, ◌++◌, ◌<◌, ◌/◌, flat_map, length, IfOk, OnOk};
 ghost use Rattle.std.specs.List.{fold};
-ghost use Rattle.route_audit.specs.Plan.{PlanState};
+ghost use Rattle.audit_plan.specs.Plan.{PlanState};
 ghost use Rattle.cable_load.specs.Levels.{levels_of};
 ghost use Rattle.cable_load.specs.Loads.{greater, least_of, lesser, loads, mean_of, most_of, ratio_of, total_of};
 ghost use Rattle.cable_load.specs.Text.{level_line, level_means, level_text, level_words, levels_text};
@@ -18,10 +18,13 @@ use crate::loads::loads;
 use crate::order::ordered;
 use crate::sources::entrances;
 use crate::talk::Talk;
+use audit_net::Net;
+use audit_plan::Plan;
 use dump_file::Dump;
 use fabric_parts::PortRef;
+use lid_owners::{Aim, aims};
 use netdiscover_file::Discovery;
-use route_audit::{Aim, Net, Plan};
+use route_audit::push_port;
 use std::alloc::{AllocError, Global};
 use text_parts::push_decimal;
 use topo_file::LargeTopology;
@@ -30,7 +33,7 @@ fn push_end(net: &Net<'_>, text: &mut Vec<u8>, end: Option<PortRef>) -> Result<(
     ensures { OnOk result (text.new.items ≡ text.old.items ++ end_text net.now end) }
 {
     match end {
-        Some(at) => net.push_port(text, at),
+        Some(at) => push_port(net, text, at),
         None => Ok(()),
     }
 }
@@ -40,7 +43,7 @@ fn push_load(net: &Net<'_>, text: &mut Vec<u8>, one: Loaded) -> Result<(), Alloc
     ensures { OnOk result (text.new.items ≡ text.old.items ++ load_line net.now one) }
 {
     text.extend_from_slice(b"load ")?;
-    net.push_port(text, one.at)?;
+    push_port(net, text, one.at)?;
     text.extend_from_slice(b" ")?;
     push_end(net, text, net.far_end(one.at))?;
     text.extend_from_slice(b" ")?;
@@ -288,7 +291,7 @@ fn text_by(net: &Net<'_>, alloc: Global, talk: &Talk, aims: &[Aim]) -> Result<Ve
 fn load_text_of(net: &Net<'_>, alloc: Global, talk: &Talk) -> Result<Vec<u8>, AllocError>
     ensures { IfOk result (λ text. text.items ≡ load_text_of net.now (may_talk talk.now)) }
 {
-    let aims = net.aims(alloc)?;
+    let aims = aims(net, alloc)?;
     let text = text_by(net, alloc, talk, &aims)?;
     Ok(text)
 }
@@ -313,7 +316,7 @@ pub fn load_of_plan(
 fn loads_of(net: &Net<'_>, alloc: Global, talk: &Talk) -> Result<Vec<Loaded>, AllocError>
     ensures { IfOk result (λ found. found.items ≡ loads_of net.now (may_talk talk.now)) }
 {
-    let aims = net.aims(alloc)?;
+    let aims = aims(net, alloc)?;
     let entrances = entrances(net, alloc)?;
     let (found, _) = loads(net, alloc, &entrances, talk, &aims)?;
     Ok(found)

@@ -6,8 +6,9 @@ ghost use Rattle.cable_load.specs.Levels.{level_at};
 ghost use Rattle.cable_load.specs.Tops.{higher, is_top, no_dump, top_of, top_switches, tops_by, tops_of};
 
 use crate::levels::{LEVELS, level_at, levels};
+use audit_net::Net;
+use audit_plan::Plan;
 use dump_file::Dump;
-use route_audit::{Net, Plan};
 use std::alloc::{AllocError, Global};
 
 fn higher(levels: &[usize], most: usize, place: usize) -> usize

@@ -5,7 +5,7 @@ ghost use Rattle.cable_load.specs.Walk.{is_stamped, on_way, AreBelow, GrowBy};
 
 use crate::marks::stamp_at;
 use crate::sums::add_at;
-use route_audit::{Entry, Net, Turn};
+use audit_net::{Entry, Net, Turn};
 use std::alloc::AllocError;
 
 /// As many pairs whose packets go from one switch to one LID.

@@ -21,6 +21,6 @@ mod table;
 pub use crate::destination::Destination;
 pub use crate::dump::Dump;
 pub use crate::fault::{DumpCause, DumpFault};
-pub use crate::reader::read;
+pub use crate::reader::{read, read_from};
 pub use crate::row::{Row, RowList};
 pub use crate::table::Table;

@@ -1,8 +1,10 @@
 //! The reader of a whole text.
 
-ghost use Rattle.std.specs.Prelude.{◌≡◌, Some, None, IfOk};
+ghost use Rattle.std.specs.Prelude.{◌≡◌, Some, None, Ok, IfOk, true};
 ghost use Rattle.step_results.specs.Gives.{LineGives};
 ghost use Rattle.step_results.specs.TextGives.{TextGives};
+ghost use Rattle.text_streams.specs.Reading.{IsEndless};
+ghost use Rattle.text_streams.specs.ReadingByLines.{IsMadeOf};
 ghost use Rattle.dump_file.specs.Dump.{after_between, after_line, after_multicast, after_rows, after_text, are_mlids_counted};
 ghost use Rattle.dump_file.specs.Dump.{count_reported, dump_of, heading_of, heading_reported, if_title, is_heading, is_multicast_end, is_multicast_heading};
 ghost use Rattle.dump_file.specs.Dump.{is_passed_over, row_reported, whole, with_heading, with_row, with_table};
@@ -16,6 +18,7 @@ use crate::parts::trimmed;
 use crate::stage::Stage;
 use std::alloc::Global;
 use step_results::LineError;
+use text_streams::{Reader, read_lines_of};
 use text_words::{LineReader, cut_at, number_in, read_lines};
 
 impl Draft {
@@ -223,4 +226,20 @@ pub fn read(alloc: Global, text: &[u8]) -> Result<Dump, DumpFault>
     let dump = draft.finish()?;
     dump.known_sound();
     Ok(dump)
+}
+
+/// What the text of `dump_fts` reports that a reader has left, or its first fault with the line. Lines are taken while the text is
+/// read, so that it is not kept: [`read`] says which. `None` if a read fails, or no end comes within as many reads as a big text may
+/// take ([`text_streams::read_lines_of`]).
+#[tactic(auto, unfolding(crate::specs::Dump::dump_of))]
+pub fn read_from<R: Reader>(alloc: Global, reader: &mut R) -> Result<Option<Dump>, DumpFault>
+    // What the text reports, or its first fault.
+    ensures exact { IsMadeOf (λ dump. dump) result (R.remaining reader.old) dump_of }
+    ensures sure { R.is_sure reader.old ≡ true → result ≡ Ok None → IsEndless (R.remaining reader.old) }
+{
+    let Some(draft) = read_lines_of(alloc, reader, Draft::new(alloc))? else {
+        return Ok(None);
+    };
+    let dump = draft.finish()?;
+    Ok(Some(dump))
 }

@@ -240,18 +240,18 @@ of_file (Some file) name bytes manager roots result a out out' is answers = rw i
 
 -- and of two files
 pub of_two : (reported : Option Contents) (view : DumpView) (first second one other : List ℕ) (result : Result Answer Stop) (a : Bool) (out out' : Option (List ℕ))
-    → IfSome reported (λ file. (file first ≡ Some one) × (file second ≡ Some other)) → Answers (ended (viewed view one other)) result a out out'
+    → IfSome reported (λ file. file first ≡ Some one) → IfSome reported (λ file. file second ≡ Some other) → Answers (ended (viewed view one other)) result a out out'
     → IfSome reported (λ file. Answers (judged_for file (Ok (Dumped view first second))) result a out out')
-of_two None view first second one other result a out out' is answers = tt
-of_two (Some file) view first second one other result a out out' is answers = rw (is.0, is.1) answers
+of_two None view first second one other result a out out' is are answers = tt
+of_two (Some file) view first second one other result a out out' is are answers = rw (is, are) answers
 
 -- and of three
 pub of_masks : (reported : Option Contents) (first second third one other last : List ℕ) (result : Result Answer Stop) (a : Bool) (out out' : Option (List ℕ))
-    → IfSome reported (λ file. (file first ≡ Some one) × (file second ≡ Some other) × (file third ≡ Some last))
+    → IfSome reported (λ file. file first ≡ Some one) → IfSome reported (λ file. file second ≡ Some other) → IfSome reported (λ file. file third ≡ Some last)
     → Answers (ended (multicast_viewed one other last)) result a out out'
     → IfSome reported (λ file. Answers (judged_for file (Ok (AuditMfts first second third))) result a out out')
-of_masks None first second third one other last result a out out' is answers = tt
-of_masks (Some file) first second third one other last result a out out' is answers = rw (is.0, is.1, is.2) answers
+of_masks None first second third one other last result a out out' is are too answers = tt
+of_masks (Some file) first second third one other last result a out out' is are too answers = rw (is, are, too) answers
 
 -- and of three, the last of which need not be there
 pub of_three : (reported : Option Contents) (first second one other : List ℕ) (third last : Option (List ℕ)) (manager : Option ℕ) (all : Bool) (result : Result Answer Stop) (a : Bool)

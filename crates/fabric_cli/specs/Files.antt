@@ -37,3 +37,9 @@ pub record StopsAt (file : Contents) (reads : Bool) (old new : Opened) (names : 
   pub opened : OpensAll old new (before ++ name ∷ [])
   pub open_before : all_open file before ≡ true
   pub unread : reads ≡ true → IsEndless (file name)
+
+-- this holds of some bytes, which are those behind the name if the contents of the files are known
+pub record ForBytes (reported : Option Contents) (name : List ℕ) (Is : List ℕ → Type 0) : Type 0 where
+  pub bytes : List ℕ
+  pub are_known : IfSome reported (λ file. file name ≡ Some bytes)
+  pub holds : Is bytes

@@ -1,17 +1,18 @@
 //! The audit of LFTs and MFTs: its output.
 
-ghost use Rattle.std.specs.Prelude.{◌≡◌, IfErr};
+ghost use Rattle.std.specs.Prelude.{ℕ, ◌≡◌, List, IfErr};
 ghost use Rattle.dump_file.specs.Dump.{dump_of};
 ghost use Rattle.fabric_cli.specs.Faults.{IsOfRun};
 ghost use Rattle.fabric_cli.specs.Serving.{dump_ending, ended, found_multicast_by, found_multicast_with, mfts_stop, multicast_by, multicast_from, multicast_over, multicast_viewed, multicast_with, EndsIn};
 ghost use Rattle.fabric_parts.specs.declared.limits.Limits.TheVariants.{Large};
 ghost use Rattle.mft_file.specs.Mfts.{mfts_of};
 ghost use Rattle.netdiscover_file.specs.Discovery.{discovery_of};
+ghost use Rattle.step_results.specs.TextGives.{TextGives};
 ghost use Rattle.topo_file.specs.Topology.{topology_within};
 
 use crate::faults::{ForeignCause, Stop};
 use crate::outputs::{DumpOutput, discovery_stop, dump_stop, topology_stop};
-use dump_file::Dump;
+use dump_file::{Dump, DumpFault};
 use fabric_parts::Limits;
 use mft_file::MftFault;
 use multicast_audit::{audit_multicast, audit_multicast_found};
@@ -50,25 +51,27 @@ fn multicast_by<'a>(
 fn multicast_with<'a>(
     alloc: Global,
     plan: &LargeTopology,
-    dump: &[u8],
+    dump: &Result<Dump, DumpFault>,
     mfts: &[u8],
 ) -> Result<DumpOutput, Stop<'a>>
-    ensures exact { EndsIn dump_ending (ended (multicast_with plan.now (dump_of dump.now) mfts.now)) result }
+    ensures exact { (tables : List ℕ) → TextGives (λ dump. dump) dump.now (dump_of tables)
+        → EndsIn dump_ending (ended (multicast_with plan.now (dump_of tables) mfts.now)) result }
     ensures fault { IfErr result IsOfRun }
 {
-    match dump_file::read(alloc, dump) {
-        Ok(dump) => multicast_by(alloc, plan, &dump, mfts),
-        Err(fault) => Err(dump_stop(fault)),
+    match dump {
+        Ok(dump) => multicast_by(alloc, plan, dump, mfts),
+        Err(fault) => Err(dump_stop(*fault)),
     }
 }
 
 fn multicast_over<'a>(
     alloc: Global,
     topology: &[u8],
-    dump: &[u8],
+    dump: &Result<Dump, DumpFault>,
     mfts: &[u8],
 ) -> Result<DumpOutput, Stop<'a>>
-    ensures exact { EndsIn dump_ending (ended (multicast_over (topology_within Large topology.now) dump.now mfts.now)) result }
+    ensures exact { (tables : List ℕ) → TextGives (λ dump. dump) dump.now (dump_of tables)
+        → EndsIn dump_ending (ended (multicast_over (topology_within Large topology.now) tables mfts.now)) result }
     ensures fault { IfErr result IsOfRun }
 {
     match topo_file::read_within(alloc, topology, Limits::Large) {
@@ -95,25 +98,27 @@ fn found_multicast_by<'a>(
 fn found_multicast_with<'a>(
     alloc: Global,
     found: &Discovery,
-    dump: &[u8],
+    dump: &Result<Dump, DumpFault>,
     mfts: &[u8],
 ) -> Result<DumpOutput, Stop<'a>>
-    ensures exact { EndsIn dump_ending (ended (found_multicast_with found.now (dump_of dump.now) mfts.now)) result }
+    ensures exact { (tables : List ℕ) → TextGives (λ dump. dump) dump.now (dump_of tables)
+        → EndsIn dump_ending (ended (found_multicast_with found.now (dump_of tables) mfts.now)) result }
     ensures fault { IfErr result IsOfRun }
 {
-    match dump_file::read(alloc, dump) {
-        Ok(dump) => found_multicast_by(alloc, found, &dump, mfts),
-        Err(fault) => Err(dump_stop(fault)),
+    match dump {
+        Ok(dump) => found_multicast_by(alloc, found, dump, mfts),
+        Err(fault) => Err(dump_stop(*fault)),
     }
 }
 
 fn multicast_from<'a>(
     alloc: Global,
     netdiscover: &[u8],
-    dump: &[u8],
+    dump: &Result<Dump, DumpFault>,
     mfts: &[u8],
 ) -> Result<DumpOutput, Stop<'a>>
-    ensures exact { EndsIn dump_ending (ended (multicast_from (discovery_of netdiscover.now) dump.now mfts.now)) result }
+    ensures exact { (tables : List ℕ) → TextGives (λ dump. dump) dump.now (dump_of tables)
+        → EndsIn dump_ending (ended (multicast_from (discovery_of netdiscover.now) tables mfts.now)) result }
     ensures fault { IfErr result IsOfRun }
 {
     match netdiscover_file::read(alloc, netdiscover) {
@@ -122,14 +127,16 @@ fn multicast_from<'a>(
     }
 }
 
-/// The audit of LFTs and MFTs for a topology, or for what `ibnetdiscover` printed.
+/// The audit of LFTs and MFTs for a topology, or for what `ibnetdiscover` printed. The dump was read before, and its fault counts
+/// once the other file has none.
 pub fn multicast_viewed<'a>(
     alloc: Global,
     fabric: &[u8],
-    dump: &[u8],
+    dump: &Result<Dump, DumpFault>,
     mfts: &[u8],
 ) -> Result<DumpOutput, Stop<'a>>
-    ensures exact { EndsIn dump_ending (ended (multicast_viewed fabric.now dump.now mfts.now)) result }
+    ensures exact { (tables : List ℕ) → TextGives (λ dump. dump) dump.now (dump_of tables)
+        → EndsIn dump_ending (ended (multicast_viewed fabric.now tables mfts.now)) result }
     ensures fault { IfErr result IsOfRun }
 {
     if is_discovery(fabric) {

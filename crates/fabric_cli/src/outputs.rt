@@ -466,14 +466,16 @@ pub enum DumpOutput {
     Loaded(Vec<u8>),
 }
 
-/// A look at a dump's LFTs for a topology, or for what `ibnetdiscover` printed.
+/// A look at a dump's LFTs for a topology, or for what `ibnetdiscover` printed. The dump was read before, and its fault counts once
+/// the other file has none.
 pub fn viewed<'a>(
     alloc: Global,
     view: DumpView,
     fabric: &[u8],
-    dump: &[u8],
+    dump: &Result<Dump, DumpFault>,
 ) -> Result<DumpOutput, Stop<'a>>
-    ensures exact { EndsIn dump_ending (ended (viewed view fabric.now dump.now)) result }
+    ensures exact { (tables : List ℕ) → TextGives (λ dump. dump) dump.now (dump_of tables)
+        → EndsIn dump_ending (ended (viewed view fabric.now tables)) result }
     ensures fault { IfErr result IsOfRun }
 {
     if is_discovery(fabric) {
@@ -486,9 +488,10 @@ fn viewed_over_topology<'a>(
     alloc: Global,
     view: DumpView,
     topology: &[u8],
-    dump: &[u8],
+    dump: &Result<Dump, DumpFault>,
 ) -> Result<DumpOutput, Stop<'a>>
-    ensures exact { EndsIn dump_ending (ended (viewed_over view (topology_within Large topology.now) dump.now)) result }
+    ensures exact { (tables : List ℕ) → TextGives (λ dump. dump) dump.now (dump_of tables)
+        → EndsIn dump_ending (ended (viewed_over view (topology_within Large topology.now) tables)) result }
     ensures fault { IfErr result IsOfRun }
 {
     match topo_file::read_within(alloc, topology, Limits::Large) {
@@ -501,9 +504,10 @@ fn viewed_from<'a>(
     alloc: Global,
     view: DumpView,
     netdiscover: &[u8],
-    dump: &[u8],
+    dump: &Result<Dump, DumpFault>,
 ) -> Result<DumpOutput, Stop<'a>>
-    ensures exact { EndsIn dump_ending (ended (viewed_from view (discovery_of netdiscover.now) dump.now)) result }
+    ensures exact { (tables : List ℕ) → TextGives (λ dump. dump) dump.now (dump_of tables)
+        → EndsIn dump_ending (ended (viewed_from view (discovery_of netdiscover.now) tables)) result }
     ensures fault { IfErr result IsOfRun }
 {
     match netdiscover_file::read(alloc, netdiscover) {
@@ -516,14 +520,15 @@ fn viewed_of<'a>(
     alloc: Global,
     view: DumpView,
     found: &Discovery,
-    dump: &[u8],
+    dump: &Result<Dump, DumpFault>,
 ) -> Result<DumpOutput, Stop<'a>>
-    ensures exact { EndsIn dump_ending (ended (viewed_of view found.now (dump_of dump.now))) result }
+    ensures exact { (tables : List ℕ) → TextGives (λ dump. dump) dump.now (dump_of tables)
+        → EndsIn dump_ending (ended (viewed_of view found.now (dump_of tables))) result }
     ensures fault { IfErr result IsOfRun }
 {
-    match dump_file::read(alloc, dump) {
-        Ok(dump) => found_output(alloc, view, found, &dump),
-        Err(fault) => Err(dump_stop(fault)),
+    match dump {
+        Ok(dump) => found_output(alloc, view, found, dump),
+        Err(fault) => Err(dump_stop(*fault)),
     }
 }
 
@@ -546,14 +551,15 @@ fn viewed_over<'a>(
     alloc: Global,
     view: DumpView,
     plan: &LargeTopology,
-    dump: &[u8],
+    dump: &Result<Dump, DumpFault>,
 ) -> Result<DumpOutput, Stop<'a>>
-    ensures exact { EndsIn dump_ending (ended (viewed_by view plan.now (dump_of dump.now))) result }
+    ensures exact { (tables : List ℕ) → TextGives (λ dump. dump) dump.now (dump_of tables)
+        → EndsIn dump_ending (ended (viewed_by view plan.now (dump_of tables))) result }
     ensures fault { IfErr result IsOfRun }
 {
-    match dump_file::read(alloc, dump) {
-        Ok(dump) => plan_output(alloc, view, plan, &dump),
-        Err(fault) => Err(dump_stop(fault)),
+    match dump {
+        Ok(dump) => plan_output(alloc, view, plan, dump),
+        Err(fault) => Err(dump_stop(*fault)),
     }
 }
 

@@ -1,11 +1,14 @@
 //! Files that are opened, and read to their end.
 
 ghost use Rattle.std.specs.Prelude.{ℕ, ◌≡◌, true, List, [], ◌∷◌, Option, Some, IfOk, IfErr, IfSome, OnOk, option_map};
-ghost use Rattle.fabric_cli.specs.Files.{OpensAll, OpensInOrder};
+ghost use Rattle.dump_file.specs.Dump.{dump_of};
+ghost use Rattle.step_results.specs.TextGives.{TextGives};
+ghost use Rattle.fabric_cli.specs.Files.{ForBytes, OpensAll, OpensInOrder};
 ghost use Rattle.fabric_cli.specs.Faults.{IsOfFiles, NamesUnread};
 
 use crate::faults::Stop;
 use crate::files::Files;
+use dump_file::{Dump, DumpFault};
 use std::alloc::Global;
 use text_streams::{TextSize, read_to_end};
 
@@ -40,62 +43,92 @@ pub fn open_file<'a, F: Files>(
     }
 }
 
-/// The bytes of two named files, each opened once; both may be big.
-pub fn read_two<'a, F: Files>(
-    alloc: Global,
-    files: &mut F,
-    first: &'a str,
-    second: &'a str,
-) -> Result<(Vec<u8>, Vec<u8>), Stop<'a>>
-    ensures order { OpensInOrder (F.opened files.old) (F.opened files.new) (first.entry.now ∷ second.entry.now ∷ []) }
-    ensures all { OnOk result (OpensAll (F.opened files.old) (F.opened files.new) (first.entry.now ∷ second.entry.now ∷ [])) }
-    ensures bytes { IfOk result (λ read. IfSome (F.reported files.old)
-        (λ file. (file first.entry.now ≡ Some read.0.items) × (file second.entry.now ≡ Some read.1.items))) }
-    ensures fault { IfErr result IsOfFiles }
-    ensures unread { IfErr result (NamesUnread (F.reported files.old) (F.reads files.old)
-        (F.opened files.old) (F.opened files.new) (first.entry.now ∷ second.entry.now ∷ [])) }
-{
-    let one = read_file(alloc, files, first, TextSize::Big)?;
-    let other = read_file(alloc, files, second, TextSize::Big)?;
-    Ok((one, other))
-}
-
-/// The bytes of three named files, each opened once; all may be big.
-pub fn read_three<'a, F: Files>(
-    alloc: Global,
-    files: &mut F,
-    first: &'a str,
-    second: &'a str,
-    third: &'a str,
-) -> Result<ThreeTexts, Stop<'a>>
-    ensures order { OpensInOrder (F.opened files.old) (F.opened files.new) (first.entry.now ∷ second.entry.now ∷ third.entry.now ∷ []) }
-    ensures all { OnOk result (OpensAll (F.opened files.old) (F.opened files.new) (first.entry.now ∷ second.entry.now ∷ third.entry.now ∷ [])) }
-    ensures bytes { IfOk result (λ read. IfSome (F.reported files.old)
-        (λ file. (file first.entry.now ≡ Some read.first.items) × (file second.entry.now ≡ Some read.second.items)
-        × (file third.entry.now ≡ Some read.third.items))) }
-    ensures fault { IfErr result IsOfFiles }
-    ensures unread { IfErr result (NamesUnread (F.reported files.old) (F.reads files.old)
-        (F.opened files.old) (F.opened files.new) (first.entry.now ∷ second.entry.now ∷ third.entry.now ∷ [])) }
-{
-    let first = read_file(alloc, files, first, TextSize::Big)?;
-    let second = read_file(alloc, files, second, TextSize::Big)?;
-    let third = read_file(alloc, files, third, TextSize::Big)?;
-    Ok(ThreeTexts {
-        first,
-        second,
-        third,
-    })
-}
-
-/// The bytes of three files.
+/// What was read of a fabric and of a dump of its LFTs.
 #[derive(Drop)]
-pub struct ThreeTexts {
-    /// Of the first.
-    pub first: Vec<u8>,
-    /// Of the second.
-    pub second: Vec<u8>,
-    /// Of the third.
-    pub third: Vec<u8>,
+pub struct FabricAndDump {
+    /// The bytes of the first file.
+    pub fabric: Vec<u8>,
+    /// What the second reports, or its first fault.
+    pub dump: Result<Dump, DumpFault>,
+}
+
+/// The bytes of a named file, and what `dump_fts` printed into another: each is opened once, and may be big.
+pub fn read_fabric_and_dump<'a, F: Files>(
+    alloc: Global,
+    files: &mut F,
+    fabric: &'a str,
+    dump: &'a str,
+) -> Result<FabricAndDump, Stop<'a>>
+    ensures order { OpensInOrder (F.opened files.old) (F.opened files.new) (fabric.entry.now ∷ dump.entry.now ∷ []) }
+    ensures all { OnOk result (OpensAll (F.opened files.old) (F.opened files.new) (fabric.entry.now ∷ dump.entry.now ∷ [])) }
+    ensures fabric { IfOk result (λ read. IfSome (F.reported files.old) (λ file. file fabric.entry.now ≡ Some read.fabric.items)) }
+    ensures dump { IfOk result (λ read. ForBytes (F.reported files.old) dump.entry.now
+        (λ tables. TextGives (λ dump. dump) read.dump (dump_of tables))) }
+    ensures fault { IfErr result IsOfFiles }
+    ensures unread { IfErr result (NamesUnread (F.reported files.old) (F.reads files.old)
+        (F.opened files.old) (F.opened files.new) (fabric.entry.now ∷ dump.entry.now ∷ [])) }
+{
+    let fabric = read_file(alloc, files, fabric, TextSize::Big)?;
+    let dump = read_dump(alloc, files, dump)?;
+    Ok(FabricAndDump { fabric, dump })
+}
+
+/// What `dump_fts` printed into a named file, or its first fault. The file is opened once. It may be big, and is not kept.
+fn read_dump<'a, F: Files>(
+    alloc: Global,
+    files: &mut F,
+    name: &'a str,
+) -> Result<Result<Dump, DumpFault>, Stop<'a>>
+    ensures opened { OpensAll (F.opened files.old) (F.opened files.new) (name.entry.now ∷ []) }
+    ensures same { F.reported files.new ≡ F.reported files.old }
+    ensures stays { F.reads files.new ≡ F.reads files.old }
+    ensures dump { IfOk result (λ read. ForBytes (F.reported files.old) name.entry.now
+        (λ tables. TextGives (λ dump. dump) read (dump_of tables))) }
+    ensures fault { IfErr result IsOfFiles }
+    ensures unread { IfErr result (NamesUnread (F.reported files.old) (F.reads files.old)
+        (F.opened files.old) (F.opened files.new) (name.entry.now ∷ [])) }
+{
+    let OpenFile { name, mut input } = open_file(files, name)?;
+    match dump_file::read_from(alloc, &mut input) {
+        Ok(Some(dump)) => Ok(Ok(dump)),
+        Ok(None) => Err(Stop::Unread(name)),
+        Err(fault) => Ok(Err(fault)),
+    }
+}
+
+/// What was read of a fabric, of a dump of its LFTs, and of one of its MFTs.
+#[derive(Drop)]
+pub struct FabricAndDumps {
+    /// The bytes of the first file.
+    pub fabric: Vec<u8>,
+    /// What the second reports, or its first fault.
+    pub dump: Result<Dump, DumpFault>,
+    /// The bytes of the third file.
+    pub mfts: Vec<u8>,
+}
+
+/// The same, and the bytes of a third file: each is opened once, and may be big.
+pub fn read_fabric_and_dumps<'a, F: Files>(
+    alloc: Global,
+    files: &mut F,
+    fabric: &'a str,
+    dump: &'a str,
+    mfts: &'a str,
+) -> Result<FabricAndDumps, Stop<'a>>
+    ensures order { OpensInOrder (F.opened files.old) (F.opened files.new) (fabric.entry.now ∷ dump.entry.now ∷ mfts.entry.now ∷ []) }
+    ensures all { OnOk result (OpensAll (F.opened files.old) (F.opened files.new) (fabric.entry.now ∷ dump.entry.now ∷ mfts.entry.now ∷ [])) }
+    ensures fabric { IfOk result (λ read. IfSome (F.reported files.old) (λ file. file fabric.entry.now ≡ Some read.fabric.items)) }
+    ensures dump { IfOk result (λ read. ForBytes (F.reported files.old) dump.entry.now
+        (λ tables. TextGives (λ dump. dump) read.dump (dump_of tables))) }
+    ensures mfts { IfOk result (λ read. IfSome (F.reported files.old) (λ file. file mfts.entry.now ≡ Some read.mfts.items)) }
+    ensures fault { IfErr result IsOfFiles }
+    ensures unread { IfErr result (NamesUnread (F.reported files.old) (F.reads files.old)
+        (F.opened files.old) (F.opened files.new) (fabric.entry.now ∷ dump.entry.now ∷ mfts.entry.now ∷ [])) }
+{
+    let fabric = read_file(alloc, files, fabric, TextSize::Big)?;
+    let dump = read_dump(alloc, files, dump)?;
+    let mfts = read_file(alloc, files, mfts, TextSize::Big)?;
+    Ok(FabricAndDumps { fabric, dump, mfts })
 }
 
 /// The bytes of a named file of at most this size, which is opened once.

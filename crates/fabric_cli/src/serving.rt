@@ -18,7 +18,7 @@ use crate::files::Files;
 use crate::key_audits::{KeysFiles, keys_audited, read_keys_files, written_keys};
 use crate::multicast_audits::multicast_viewed;
 use crate::outputs::{imported, text_or_stop, viewed};
-use crate::reading::{read_file, read_three, read_two};
+use crate::reading::{read_fabric_and_dump, read_fabric_and_dumps, read_file};
 use crate::texts::read_texts;
 use cli_args::{Asked, Call, Clap, DumpView, Parser, given_words, read_words};
 use code_texts::explained;
@@ -225,9 +225,9 @@ fn answered_of_dump<'a, F: Files, O: Output>(
     ensures unread { IfErr result (NamesUnread (F.reported files.old) (F.reads files.old)
         (F.opened files.old) (F.opened files.new) (fabric.entry.now ∷ dump.entry.now ∷ [])) }
 {
-    match read_two(alloc, files, fabric, dump) {
-        Ok((plan, tables)) => {
-            let made = viewed(alloc, view, plan.as_slice(), tables.as_slice());
+    match read_fabric_and_dump(alloc, files, fabric, dump) {
+        Ok(read) => {
+            let made = viewed(alloc, view, read.fabric.as_slice(), &read.dump);
             written_view(out, made)
         }
         Err(stop) => Err(stop),
@@ -252,15 +252,10 @@ fn answered_of_mfts<'a, F: Files, O: Output>(
     ensures unread { IfErr result (NamesUnread (F.reported files.old) (F.reads files.old)
         (F.opened files.old) (F.opened files.new) (fabric.entry.now ∷ dump.entry.now ∷ mfts.entry.now ∷ [])) }
 {
-    match read_three(alloc, files, fabric, dump, mfts) {
-        Ok(texts) => {
-            let made = multicast_viewed(
-                alloc,
-                texts.first.as_slice(),
-                texts.second.as_slice(),
-                texts.third.as_slice(),
-            );
-            written_view(out, made)
+    match read_fabric_and_dumps(alloc, files, fabric, dump, mfts) {
+        Ok(read) => {
+            let (fabric, mfts) = (read.fabric.as_slice(), read.mfts.as_slice());
+            written_view(out, multicast_viewed(alloc, fabric, &read.dump, mfts))
         }
         Err(stop) => Err(stop),
     }

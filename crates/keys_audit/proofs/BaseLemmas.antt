@@ -15,8 +15,8 @@ use Rattle.pkey_rules.specs.PKey.{base_of}
 use Rattle.port_shares.proofs.ShareLemmas.{in_range, kept_alike, range_rises}
 use Rattle.port_shares.proofs.SumLemmas.{full_is_member, nothing_added}
 use Rattle.topo_file.specs.declared.node.Node.{Node}
-use Rattle.keys_audit.specs.declared.port.AuditedPort.{AuditedPort}
-use Rattle.keys_audit.specs.declared.port.HeldKeys.{HeldKeys}
+use Rattle.audited_ports.specs.declared.port.AuditedPort.{AuditedPort}
+use Rattle.audited_ports.specs.declared.port.HeldKeys.{HeldKeys}
 use Rattle.keys_audit.specs.Standing.{AreBasesOf, bases_of_keys, bases_of_port, bases_there, is_given, only_by_file, only_by_tables, pairs_at, pairs_text, port_bases, standing, standing_by, stands, stray_at, turned}
 
 abbrev among : ℕ → List ℕ → Bool

@@ -5,12 +5,12 @@ use Rattle.std.proofs.lemmas.Bool.{and_parts, cases_Bool, eqb-true, false≢true
 use Rattle.std.proofs.lemmas.Option.{same_Some}
 use Rattle.std.proofs.lemmas.Bool.Decides.{nat_tests}
 use Rattle.pkey_rules.specs.PKey.{base_of}
-use Rattle.keys_audit.specs.declared.port.AuditedPort.{AuditedPort}
-use Rattle.keys_audit.specs.declared.port.Enforcement.{Enforcement}
-use Rattle.keys_audit.specs.declared.port.FacingPort.{FacingPort}
-use Rattle.keys_audit.specs.declared.port.HeldKeys.{HeldKeys}
+use Rattle.audited_ports.specs.declared.port.AuditedPort.{AuditedPort}
+use Rattle.audited_ports.specs.declared.port.Enforcement.{Enforcement}
+use Rattle.audited_ports.specs.declared.port.FacingPort.{FacingPort}
+use Rattle.audited_ports.specs.declared.port.HeldKeys.{HeldKeys}
 use Rattle.keys_audit.specs.Differences.{are_clean, enforces, facing_fits_by, fits_if_enforced, is_clean, keys_follow, tables_fit}
-use Rattle.keys_audit.specs.Held.{is_key}
+use Rattle.audited_ports.specs.Held.{is_key}
 use Rattle.keys_audit.specs.Laws.{FitsIfEnforced, HasKeys, HaveBases, HaveSameBases, HaveSameKeys, IsRight, OfEach, PassesTheRight, TablesThatFollowAreClean, TheStatusIsThatOfEachPort}
 
 equal : (n : ℕ) → (n == n) ≡ true

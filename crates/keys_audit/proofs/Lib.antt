@@ -1,4 +1,3 @@
-mod LoopLemmas
 mod LawLemmas
 mod VerdictLemmas
 mod BaseLemmas

@@ -11,8 +11,8 @@ use Rattle.pair_changes.proofs.TwoLemmas.{pairs_mapped, two_places}
 use Rattle.pkey_rules.specs.KeyTable.{shares_base}
 use Rattle.pkey_rules.specs.PKey.{is_base}
 use Rattle.fabric_parts.specs.declared.cable.PortRef.{PortRef}
-use Rattle.keys_audit.specs.declared.port.AuditedPort.{AuditedPort}
-use Rattle.keys_audit.specs.declared.port.HeldKeys.{HeldKeys}
+use Rattle.audited_ports.specs.declared.port.AuditedPort.{AuditedPort}
+use Rattle.audited_ports.specs.declared.port.HeldKeys.{HeldKeys}
 use Rattle.keys_audit.specs.Laws.{PairsOfTablesAreTheirs, PairsOfTheFileAreIts, match_if_read, talk_alone, talk_by_file, talk_by_tables}
 use Rattle.keys_audit.specs.Standing.{standing, standing_by, turned}
 

@@ -5,12 +5,12 @@ use Rattle.std.proofs.lemmas.Bool.{and_parts, cases_Bool, false≢true}
 use Rattle.partition_file.specs.declared.partition.Partition.{Partition}
 use Rattle.pkey_rules.specs.PKey.{base_of}
 use Rattle.topo_file.specs.declared.node.Node.{Node}
-use Rattle.keys_audit.specs.declared.port.AuditedPort.{AuditedPort}
-use Rattle.keys_audit.specs.declared.port.Enforcement.{Enforcement}
-use Rattle.keys_audit.specs.declared.port.FacingPort.{FacingPort}
-use Rattle.keys_audit.specs.declared.port.HeldKeys.{HeldKeys}
+use Rattle.audited_ports.specs.declared.port.AuditedPort.{AuditedPort}
+use Rattle.audited_ports.specs.declared.port.Enforcement.{Enforcement}
+use Rattle.audited_ports.specs.declared.port.FacingPort.{FacingPort}
+use Rattle.audited_ports.specs.declared.port.HeldKeys.{HeldKeys}
 use Rattle.keys_audit.specs.Differences.{agrees, all_agree, are_clean, enforces, facing_fits_by, facing_fits_if_read, facing_differences, fits_if_enforced, fits_if_read, is_clean, keys_follow, keys_follow_if_read, port_differences, tables_fit, tables_fit_if_read}
-use Rattle.keys_audit.specs.Held.{have_same_bases, have_same_keys}
+use Rattle.audited_ports.specs.Held.{have_same_bases, have_same_keys}
 use Rattle.keys_audit.specs.Laws.{FacingWasRead, FitsAsRead, FitsIfEnforced, HasKeys, HaveBases, HaveSameBases, HaveSameKeys, IsRight, IsRightAsRead, OfEach, TheVerdictIsTrue, WasRead}
 use Rattle.keys_audit.specs.Text.{audit_of, counts_of, first_lines, later_lines, text_by, verdict, verdict_line}
 use Rattle.keys_audit.proofs.LawLemmas.{all_mean, by_fits, fits_by, mean_all, means_port, means_same, port_means, same_means, the_status_is_that_of_each_port}

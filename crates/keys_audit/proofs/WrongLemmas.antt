@@ -6,10 +6,10 @@ use Rattle.pair_changes.specs.declared.pairs.Pair.{Pair}
 use Rattle.pair_changes.proofs.WrongLemmas.{all_counted, one_is_not_none}
 use Rattle.pkey_rules.specs.KeyTable.{has_base, holds}
 use Rattle.fabric_parts.specs.declared.cable.PortRef.{PortRef}
-use Rattle.keys_audit.specs.declared.port.AuditedPort.{AuditedPort}
-use Rattle.keys_audit.specs.declared.port.Enforcement.{Enforcement}
-use Rattle.keys_audit.specs.declared.port.FacingPort.{FacingPort}
-use Rattle.keys_audit.specs.declared.port.HeldKeys.{HeldKeys}
+use Rattle.audited_ports.specs.declared.port.AuditedPort.{AuditedPort}
+use Rattle.audited_ports.specs.declared.port.Enforcement.{Enforcement}
+use Rattle.audited_ports.specs.declared.port.FacingPort.{FacingPort}
+use Rattle.audited_ports.specs.declared.port.HeldKeys.{HeldKeys}
 use Rattle.keys_audit.specs.Differences.{enforces}
 use Rattle.keys_audit.specs.Laws.{FitsIfEnforced, HasKeys, HasThoseAlone, HaveBases, IsRight, talk_by_file, talk_by_tables}
 use Rattle.keys_audit.specs.Standing.{only_by_file, only_by_tables}

@@ -5,13 +5,13 @@ use Rattle.fabric_parts.specs.declared.cable.PortRef.{PortRef}
 use Rattle.pair_changes.specs.Membership.{may_talk}
 use Rattle.pkey_rules.specs.PKey.{base_of}
 use Rattle.topo_file.specs.declared.node.Node.{Node}
-use Rattle.keys_audit.specs.declared.port.AuditedPort.{AuditedPort}
-use Rattle.keys_audit.specs.declared.port.Enforcement.{Enforcement}
-use Rattle.keys_audit.specs.declared.port.FacingPort.{FacingPort}
-use Rattle.keys_audit.specs.declared.port.HeldKeys.{HeldKeys}
+use Rattle.audited_ports.specs.declared.port.AuditedPort.{AuditedPort}
+use Rattle.audited_ports.specs.declared.port.Enforcement.{Enforcement}
+use Rattle.audited_ports.specs.declared.port.FacingPort.{FacingPort}
+use Rattle.audited_ports.specs.declared.port.HeldKeys.{HeldKeys}
 use Rattle.keys_audit.specs.Differences.{enforces}
-use Rattle.keys_audit.specs.Held.{of_other_bases}
-use Rattle.keys_audit.specs.Names.{port_text}
+use Rattle.audited_ports.specs.Held.{of_other_bases}
+use Rattle.audited_ports.specs.Names.{port_text}
 use Rattle.keys_audit.specs.Standing.{line_of_count, standing}
 
 -- by their tables the two may talk in the partition of this base

@@ -5,10 +5,10 @@ use Rattle.fabric_parts.specs.declared.cable.PortRef.{PortRef}
 use Rattle.pair_changes.specs.Membership.{is_full_member, membership_of}
 use Rattle.pkey_rules.specs.PKey.{default_base}
 use Rattle.topo_file.specs.declared.node.Node.{Node}
-use Rattle.keys_audit.specs.declared.port.AuditedPort.{AuditedPort}
-use Rattle.keys_audit.specs.declared.port.HeldKeys.{HeldKeys}
-use Rattle.keys_audit.specs.Held.{have_same_keys}
-use Rattle.keys_audit.specs.Names.{port_text}
+use Rattle.audited_ports.specs.declared.port.AuditedPort.{AuditedPort}
+use Rattle.audited_ports.specs.declared.port.HeldKeys.{HeldKeys}
+use Rattle.audited_ports.specs.Held.{have_same_keys}
+use Rattle.audited_ports.specs.Names.{port_text}
 
 abbrev pub is_read : AuditedPort → Bool
 is_read port = is_some port.table

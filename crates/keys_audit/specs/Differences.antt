@@ -7,11 +7,11 @@ use Rattle.pkey_rules.specs.PKey.{base_of}
 use Rattle.keys_audit.specs.declared.differences.Difference.{Difference}
 use Rattle.keys_audit.specs.declared.differences.DifferenceKind.{DifferenceKind}
 use Rattle.keys_audit.specs.declared.differences.DifferenceKind.TheVariants.{Extra, Missing, Membership, Full, Off, Half, Lacks, More, UnreadSwitchPort}
-use Rattle.keys_audit.specs.declared.port.AuditedPort.{AuditedPort}
-use Rattle.keys_audit.specs.declared.port.Enforcement.{Enforcement}
-use Rattle.keys_audit.specs.declared.port.FacingPort.{FacingPort}
-use Rattle.keys_audit.specs.declared.port.HeldKeys.{HeldKeys}
-use Rattle.keys_audit.specs.Held.{have_same_bases, have_same_keys, of_other_bases, of_other_membership}
+use Rattle.audited_ports.specs.declared.port.AuditedPort.{AuditedPort}
+use Rattle.audited_ports.specs.declared.port.Enforcement.{Enforcement}
+use Rattle.audited_ports.specs.declared.port.FacingPort.{FacingPort}
+use Rattle.audited_ports.specs.declared.port.HeldKeys.{HeldKeys}
+use Rattle.audited_ports.specs.Held.{have_same_bases, have_same_keys, of_other_bases, of_other_membership}
 
 -- OpenSM, by its own reading of the file, makes just this of the key's base
 abbrev pub is_by_opensm : DifferenceKind → (opensms : List ℕ) → (key : ℕ) → Bool

@@ -7,12 +7,12 @@ use Rattle.partition_file.specs.declared.partition.Partition.{Partition}
 use Rattle.pkey_rules.specs.KeyTable.{has_base, holds, shares_base}
 use Rattle.pkey_rules.specs.PKey.{is_base}
 use Rattle.topo_file.specs.declared.node.Node.{Node}
-use Rattle.keys_audit.specs.declared.port.AuditedPort.{AuditedPort}
-use Rattle.keys_audit.specs.declared.port.Enforcement.{Enforcement}
-use Rattle.keys_audit.specs.declared.port.FacingPort.{FacingPort}
-use Rattle.keys_audit.specs.declared.port.HeldKeys.{HeldKeys}
+use Rattle.audited_ports.specs.declared.port.AuditedPort.{AuditedPort}
+use Rattle.audited_ports.specs.declared.port.Enforcement.{Enforcement}
+use Rattle.audited_ports.specs.declared.port.FacingPort.{FacingPort}
+use Rattle.audited_ports.specs.declared.port.HeldKeys.{HeldKeys}
 use Rattle.keys_audit.specs.Differences.{are_clean, enforces}
-use Rattle.keys_audit.specs.Held.{have_same_keys, held, is_key}
+use Rattle.audited_ports.specs.Held.{have_same_keys, held, is_key}
 use Rattle.keys_audit.specs.Standing.{only_by_file, only_by_tables}
 use Rattle.keys_audit.specs.Text.{audit_of, verdict}
 

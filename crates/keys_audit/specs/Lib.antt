@@ -1,13 +1,7 @@
-pub mod Held
 pub mod Differences
-pub mod Ends
-pub mod OpenSm
-pub mod Gathered
-pub mod Names
 pub mod Standing
 pub mod Cuts
 pub mod Diagnosis
-pub mod Strangers
 pub mod Text
 pub mod Laws
 pub mod WrongRules

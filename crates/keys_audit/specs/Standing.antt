@@ -12,9 +12,9 @@ use Rattle.pair_changes.specs.Membership.{is_member, membership_of}
 use Rattle.pair_changes.specs.Pairs.{new_pairs}
 use Rattle.pkey_rules.specs.PKey.{base_of}
 use Rattle.topo_file.specs.declared.node.Node.{Node}
-use Rattle.keys_audit.specs.declared.port.AuditedPort.{AuditedPort}
-use Rattle.keys_audit.specs.declared.port.HeldKeys.{HeldKeys}
-use Rattle.keys_audit.specs.Names.{key_word, port_text}
+use Rattle.audited_ports.specs.declared.port.AuditedPort.{AuditedPort}
+use Rattle.audited_ports.specs.declared.port.HeldKeys.{HeldKeys}
+use Rattle.audited_ports.specs.Names.{key_word, port_text}
 
 -- ---- what a port is in the partition of a base; one that was not read is left out of both
 abbrev pub standing_by : ℕ → PortRef → Option HeldKeys → (file : List ℕ) → Member

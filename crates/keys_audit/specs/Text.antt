@@ -12,14 +12,14 @@ use Rattle.topo_file.specs.Topology.{TopologyState}
 use Rattle.keys_audit.specs.declared.differences.Difference.{Difference}
 use Rattle.keys_audit.specs.declared.differences.DifferenceKind.{DifferenceKind}
 use Rattle.keys_audit.specs.declared.differences.DifferenceKind.TheVariants.{Extra, Missing, Membership, Full, Off, Half, Lacks, More, UnreadSwitchPort}
-use Rattle.keys_audit.specs.declared.port.AuditedPort.{AuditedPort}
+use Rattle.audited_ports.specs.declared.port.AuditedPort.{AuditedPort}
 use Rattle.keys_audit.specs.Cuts.{cut_lines}
 use Rattle.keys_audit.specs.Diagnosis.{diagnosis, is_another, open_line}
 use Rattle.keys_audit.specs.Differences.{all_agree, are_clean, facing_differences, follows_file, is_of_key, port_differences}
-use Rattle.keys_audit.specs.Gathered.{ports_of_files}
-use Rattle.keys_audit.specs.Names.{key_word, port_text}
+use Rattle.audited_ports.specs.Gathered.{ports_of_files}
+use Rattle.audited_ports.specs.Names.{key_word, port_text}
 use Rattle.keys_audit.specs.Standing.{pair_changes, strays}
-use Rattle.keys_audit.specs.Strangers.{strangers}
+use Rattle.audited_ports.specs.Strangers.{strangers}
 
 -- what is found: the lines, and whether the tables follow the file
 pub record KeysAuditState : Type 0 where

@@ -7,12 +7,12 @@ use Rattle.pair_changes.specs.declared.pairs.Member.{Member}
 use Rattle.pair_changes.specs.declared.pairs.Pair.{Pair}
 use Rattle.pair_changes.specs.Pairs.{new_pairs}
 use Rattle.pair_changes.specs.WrongRules.{talking_pairs}
-use Rattle.keys_audit.specs.declared.port.AuditedPort.{AuditedPort}
-use Rattle.keys_audit.specs.declared.port.Enforcement.{Enforcement}
-use Rattle.keys_audit.specs.declared.port.FacingPort.{FacingPort}
-use Rattle.keys_audit.specs.declared.port.HeldKeys.{HeldKeys}
+use Rattle.audited_ports.specs.declared.port.AuditedPort.{AuditedPort}
+use Rattle.audited_ports.specs.declared.port.Enforcement.{Enforcement}
+use Rattle.audited_ports.specs.declared.port.FacingPort.{FacingPort}
+use Rattle.audited_ports.specs.declared.port.HeldKeys.{HeldKeys}
 use Rattle.keys_audit.specs.Differences.{all_agree, enforces_both, facing_fits, fits_if_enforced, follows_file, is_clean, keys_follow_if_read, tables_fit}
-use Rattle.keys_audit.specs.Held.{all_held, have_same_bases, is_key}
+use Rattle.audited_ports.specs.Held.{all_held, have_same_bases, is_key}
 use Rattle.keys_audit.specs.Laws.{FindsTheKeys, HasThoseAlone, IsTrueVerdict, PassesTheRight, talk_by_file, talk_by_tables}
 use Rattle.keys_audit.specs.Standing.{standing, turned}
 use Rattle.keys_audit.specs.Text.{verdict_line}

@@ -3,13 +3,11 @@
 ghost use Rattle.std.specs.Prelude.{◌≡◌, ◌++◌, codes, count_by, IfOk, OnOk};
 ghost use Rattle.std.specs.List.{flat_map};
 ghost use Rattle.keys_audit.specs.Cuts.{cut_line, cut_lines, lacking, lacking_if, line_unless_none, talks_with};
-ghost use Rattle.keys_audit.specs.Names.{port_text};
+ghost use Rattle.audited_ports.specs.Names.{port_text};
 
-use crate::differences::bases_of;
-use crate::held::of_other_bases;
-use crate::parts::push_port;
-use crate::port::{AuditedPort, FacingPort, HeldKeys};
+use crate::differences::{bases_of, enforces};
 use crate::standing::{Listing, push_line_of_count, standing};
+use audited_ports::{AuditedPort, FacingPort, HeldKeys, of_other_bases, push_port};
 use fabric_parts::PortRef;
 use std::alloc::{AllocError, Global};
 use topo_file::Node;
@@ -58,7 +56,7 @@ fn lacking_if(
 {
     match facing.enforcement {
         Some(enforcement) => {
-            if enforcement.enforces() {
+            if enforces(enforcement) {
                 lacking(alloc, &facing.table, adapter)
             } else {
                 Ok(Vec::new(alloc))

@@ -5,9 +5,7 @@ ghost use Rattle.std.specs.List.{flat_map, list_all, list_any};
 ghost use Rattle.keys_audit.specs.Diagnosis.{all_as_opensm, another_line, cause_lines, causes_if, diagnosis, fell_open, full_line, has_default_alone, has_default_port, is_as_opensm, is_cut_off};
 ghost use Rattle.keys_audit.specs.Diagnosis.{is_another, is_default, is_limited, is_read, limited_line, limited_words, line_if, manager_line, manager_words, open_line, opensms_line, other_causes};
 
-use crate::held::have_same_keys;
-use crate::parts::push_port;
-use crate::port::{AuditedPort, HeldKeys};
+use audited_ports::{AuditedPort, HeldKeys, have_same_keys, push_port};
 use fabric_parts::PortRef;
 use pair_changes::membership_of;
 use std::alloc::AllocError;

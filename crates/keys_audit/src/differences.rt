@@ -7,10 +7,10 @@ ghost use Rattle.keys_audit.specs.Differences.{agrees, all_agree, facing_fits_if
 ghost use Rattle.keys_audit.specs.Differences.{are_clean, bases_by, bases_with, differences_by, differences_with, each, enforced_by, enforces, enforces_both, is_by_opensm, is_of_key};
 ghost use Rattle.keys_audit.specs.Differences.{facing_differences, facing_fits, fits_if_enforced, follows_file, is_clean, lacks_room, noted, noted_if, port_differences, tables_fit};
 
-use crate::held::{
-    has_base, have_same_bases, have_same_keys, holds, of_other_bases, of_other_membership,
+use audited_ports::{
+    AuditedPort, Enforcement, FacingPort, HeldKeys, has_base, have_same_bases, have_same_keys,
+    holds, of_other_bases, of_other_membership,
 };
-use crate::port::{AuditedPort, Enforcement, FacingPort, HeldKeys};
 use fabric_parts::PortRef;
 use pkey_rules::base_of;
 use std::alloc::{AllocError, Global};
@@ -188,22 +188,17 @@ pub(crate) fn differences(
     Ok(list)
 }
 
-impl Enforcement {
-    ghost use Rattle.std.specs.Prelude.{◌≡◌};
-    ghost use Rattle.keys_audit.specs.Differences.{enforces, enforces_both};
+/// Whether packets are dropped in some direction.
+pub(crate) fn enforces(enforcement: Enforcement) -> bool
+    ensures { result ≡ enforces enforcement }
+{
+    enforcement.inbound || enforcement.outbound
+}
 
-    /// Whether packets are dropped in some direction.
-    pub(crate) fn enforces(self) -> bool
-        ensures { result ≡ enforces self }
-    {
-        self.inbound || self.outbound
-    }
-
-    fn enforces_both(self) -> bool
-        ensures { result ≡ enforces_both self }
-    {
-        self.inbound && self.outbound
-    }
+fn enforces_both(enforcement: Enforcement) -> bool
+    ensures { result ≡ enforces_both enforcement }
+{
+    enforcement.inbound && enforcement.outbound
 }
 
 pub(crate) fn bases_of(alloc: Global, keys: &[u16]) -> Result<Vec<u16>, AllocError>
@@ -262,12 +257,12 @@ fn push_enforced_by(
 ) -> Result<(), AllocError>
     ensures { OnOk result (list.new.items ≡ list.old.items ++ enforced_by facing.now.port enforcement facing.now.table adapter.now) }
 {
-    if !enforcement.enforces() {
+    if !enforces(enforcement) {
         return note(list, DifferenceKind::Off, facing.port);
     }
     note_if(
         list,
-        !enforcement.enforces_both(),
+        !enforces_both(enforcement),
         DifferenceKind::Half,
         facing.port,
     )?;
@@ -329,7 +324,7 @@ fn fits_if_enforced(facing: &FacingPort, adapter: &Option<HeldKeys>) -> bool
     ensures { result ≡ fits_if_enforced facing.now.enforcement facing.now.table adapter.now }
 {
     match facing.enforcement {
-        Some(enforcement) => !enforcement.enforces() || tables_fit(&facing.table, adapter),
+        Some(enforcement) => !enforces(enforcement) || tables_fit(&facing.table, adapter),
         None => false,
     }
 }
@@ -387,7 +382,7 @@ fn fits_if_read(facing: &FacingPort, adapter: &Option<HeldKeys>) -> bool
     ensures { result ≡ fits_if_read facing.now.enforcement facing.now.table adapter.now }
 {
     match facing.enforcement {
-        Some(enforcement) => !enforcement.enforces() || tables_fit_if_read(&facing.table, adapter),
+        Some(enforcement) => !enforces(enforcement) || tables_fit_if_read(&facing.table, adapter),
         None => true,
     }
 }

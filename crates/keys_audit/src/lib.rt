@@ -4,17 +4,9 @@
 mod cuts;
 mod diagnosis;
 mod differences;
-mod ends;
-mod gathering;
-mod held;
 mod laws;
-mod names;
-mod opensm;
 mod outcome;
-mod parts;
-mod port;
 mod standing;
-mod strangers;
 mod text;
 mod wrong_rules;
 
@@ -24,5 +16,4 @@ pub use crate::laws::{
     the_right_ports_pass, the_status_is_that_of_each_port, the_verdict_is_true,
 };
 pub use crate::outcome::KeysAudit;
-pub use crate::port::{AuditedPort, Enforcement, FacingPort, HeldKeys};
 pub use crate::text::{audit_keys, audit_without_partitions};

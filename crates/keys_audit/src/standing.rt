@@ -6,8 +6,7 @@ ghost use Rattle.pair_changes.specs.Pairs.{new_pairs};
 ghost use Rattle.keys_audit.specs.Standing.{bases_of_keys, bases_of_port, bases_there, is_given, line_of_count, pair_changes, pair_line, pairs_at};
 ghost use Rattle.keys_audit.specs.Standing.{pairs_text, standing, stands, stray_at, strays, turned, HaveBasesOf};
 
-use crate::parts::{push_key, push_port};
-use crate::port::AuditedPort;
+use audited_ports::{AuditedPort, push_key, push_port};
 use itoa::Buffer;
 use pair_changes::{Member, Membership, Pair, membership_of, new_pair_count, new_pairs};
 use pkey_rules::base_of;

@@ -3,7 +3,7 @@
 ghost use Rattle.std.specs.Prelude.{◌≡◌, ◌++◌, [], ◌==◌, if◌then◌else◌, count_by, not, IfOk, OnOk};
 ghost use Rattle.std.specs.List.{flat_map};
 ghost use Rattle.keys_audit.specs.Text.{audit_of, audit_without_partitions, bases_line, code_of_kind, count_of, counts_of, difference_line, is_as_file, is_faced, is_moved, is_of, is_unread};
-ghost use Rattle.keys_audit.specs.Names.{key_word};
+ghost use Rattle.audited_ports.specs.Names.{key_word};
 ghost use Rattle.keys_audit.specs.Text.{first_lines, half_part, keys_audit, keys_line, kind_word, later_lines, moved_lines, off_part, opensm_words, ports_line, read_part};
 ghost use Rattle.keys_audit.specs.Text.{switch_lines, switch_ports_line, unread_lines, unread_part, verdict_line};
 ghost use Rattle.keys_audit.specs.declared.differences.DifferenceKind.TheVariants.{Full};
@@ -14,12 +14,9 @@ use crate::differences::{
     Difference, DifferenceKind, all_agree, are_clean, differences, facing_differences,
     follows_file, has_key,
 };
-use crate::gathering::ports_of_files;
 use crate::outcome::KeysAudit;
-use crate::parts::{push_key, push_port};
-use crate::port::AuditedPort;
 use crate::standing::{Listing, push_pair_changes, rising_bases, strays};
-use crate::strangers::push_strangers;
+use audited_ports::{AuditedPort, ports_of_files, push_key, push_port, push_strangers};
 use netdiscover_file::Discovery;
 use partition_file::{Partitions, no_file};
 use pkeys_file::Answers;

@@ -4,9 +4,9 @@ use Rattle.std.specs.List.{list_all, list_any, range_with_len, starts_with}
 use Rattle.std.proofs.lemmas.Bool.{and_parts, false≢true}
 use Rattle.fabric_parts.specs.declared.cable.PortRef.{PortRef}
 use Rattle.route_audit.specs.Laws.{has_word}
-use Rattle.route_audit.specs.Net.{NetState}
+use Rattle.audit_net.specs.Net.{NetState}
 use Rattle.route_audit.specs.Verdict.{reasons, verdict_by, verdict_is_safe, with_reason}
-use Rattle.route_audit.specs.declared.lids.Aim.{Aim}
+use Rattle.lid_owners.specs.declared.lids.Aim.{Aim}
 use Rattle.route_audit.specs.declared.verdict.Verdict.{Verdict}
 use Rattle.route_audit.proofs.ReasonLemmas.{none_by, not_empty, not_false, reaches_or_loses, some_reason, unsafe_routes_have_a_reason}
 use Rattle.multicast_audit.specs.Laws.{AllReasonsAreNamed}

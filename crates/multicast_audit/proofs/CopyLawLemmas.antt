@@ -16,10 +16,10 @@ use Rattle.step_results.proofs.DistinctLemmas.{all_differ, distinct}
 use Rattle.step_results.proofs.ListLemmas.{any_flat, any_map, list_any_weaker}
 use Rattle.topo_file.specs.Connectivity.{switches}
 use Rattle.topo_file.specs.Node.{is_switch_at}
-use Rattle.route_audit.specs.Attached.{ports_of}
-use Rattle.route_audit.specs.Channels.{leads_to}
-use Rattle.route_audit.specs.Net.{NetState}
-use Rattle.route_audit.proofs.EndlessLemmas.{in_kept, in_range, is_listed, within_nodes}
+use Rattle.audit_net.specs.Attached.{ports_of}
+use Rattle.credit_loops.specs.Channels.{leads_to}
+use Rattle.audit_net.specs.Net.{NetState}
+use Rattle.audit_net.proofs.EndlessLemmas.{in_kept, in_range, is_listed, within_nodes}
 use Rattle.route_audit.proofs.SafeLemmas.{same_port}
 use Rattle.multicast_audit.specs.Copies.{again, arrivals, copy_from, copy_of, entrances, first_copy, hop, next_outs, node_behind, second_copy, takes_packets}
 use Rattle.multicast_audit.specs.Laws.{ComesTwice, NoCopyIsMissed, came_by, is_own_port}

@@ -10,13 +10,13 @@ use Rattle.fabric_parts.specs.declared.cable.PortRef.{PortRef}
 use Rattle.step_results.proofs.ListLemmas.{any_flat}
 use Rattle.topo_file.specs.Connectivity.{switches}
 use Rattle.topo_file.specs.Node.{is_switch_at, ports_at}
-use Rattle.route_audit.specs.Attached.{ports_of}
-use Rattle.route_audit.specs.Channels.{is_channel}
-use Rattle.route_audit.specs.Laws.{is_cycle, wait_round}
-use Rattle.route_audit.specs.Net.{NetState}
-use Rattle.route_audit.proofs.CycleLawLemmas.{are_among, no_ring_missed, rings_wait}
-use Rattle.route_audit.proofs.CycleLemmas.{any_of}
-use Rattle.route_audit.proofs.EndlessLemmas.{is_listed}
+use Rattle.audit_net.specs.Attached.{ports_of}
+use Rattle.credit_loops.specs.Channels.{is_channel}
+use Rattle.credit_loops.specs.Laws.{is_cycle, wait_round}
+use Rattle.audit_net.specs.Net.{NetState}
+use Rattle.credit_loops.proofs.CycleLawLemmas.{are_among, no_ring_missed, rings_wait}
+use Rattle.credit_loops.proofs.CycleLemmas.{any_of}
+use Rattle.audit_net.proofs.EndlessLemmas.{is_listed}
 use Rattle.route_audit.proofs.SafeLemmas.{same_port}
 use Rattle.multicast_audit.specs.Laws.{MaskLoopsGoRound, NoMaskLoopIsMissed, is_own_port}
 use Rattle.multicast_audit.specs.Loops.{all_outs, loop_of}

@@ -2,8 +2,8 @@
 use Rattle.std.proofs.Common.{◌≡◌, ◌∙◌, ap, refl, sym, ℕ, ◌+◌, ◌<◌, ◌≤◌, Bool, true, false, ◌||◌, List, ◌∷◌, length, drop, get_or, add-one, drop-cons}
 use Rattle.std.specs.List.{list_any}
 use Rattle.std.proofs.lemmas.List.{drop_all}
-use Rattle.route_audit.specs.Marks.{is_marked}
-use Rattle.route_audit.proofs.LidLemmas.{or_moved}
+use Rattle.audit_net.specs.Marked.{is_marked}
+use Rattle.lid_owners.proofs.LidLemmas.{or_moved}
 
 -- before the element of this number
 pub record AreMarkedOf {X : Type 0} (names : X → ℕ → Bool) (before : List Bool) (xs : List X) (index : ℕ) (marks : List Bool) : Type 0 where

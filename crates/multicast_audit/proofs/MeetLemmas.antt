@@ -9,12 +9,12 @@ use Rattle.fabric_parts.specs.declared.cable.PortRef.{PortRef}
 use Rattle.step_results.proofs.ListLemmas.{any_map}
 use Rattle.topo_file.specs.Connectivity.{switches}
 use Rattle.topo_file.specs.Node.{is_switch_at}
-use Rattle.route_audit.specs.Attached.{ports_of}
-use Rattle.route_audit.specs.Channels.{is_channel}
-use Rattle.route_audit.specs.Marks.{is_marked}
-use Rattle.route_audit.specs.Net.{NetState}
-use Rattle.route_audit.proofs.EndlessLemmas.{within_nodes}
-use Rattle.route_audit.proofs.LidLemmas.{or_moved}
+use Rattle.audit_net.specs.Attached.{ports_of}
+use Rattle.credit_loops.specs.Channels.{is_channel}
+use Rattle.audit_net.specs.Marked.{is_marked}
+use Rattle.audit_net.specs.Net.{NetState}
+use Rattle.audit_net.proofs.EndlessLemmas.{within_nodes}
+use Rattle.lid_owners.proofs.LidLemmas.{or_moved}
 use Rattle.multicast_audit.specs.Copies.{again, arrivals, entrances, first_copy, hop, next_outs, node_behind, second_copy, takes_packets}
 use Rattle.multicast_audit.specs.Copies.{copy_from}
 use Rattle.multicast_audit.specs.Ways.{is_set, leaves, outs}

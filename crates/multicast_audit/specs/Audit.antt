@@ -6,8 +6,8 @@ use Rattle.mft_file.specs.Mfts.{MftState}
 use Rattle.netdiscover_file.specs.Discovery.{DiscoveryState}
 use Rattle.topo_file.specs.Topology.{TopologyState}
 use Rattle.route_audit.specs.Audit.{AuditState, FindingsState, findings_of}
-use Rattle.route_audit.specs.Net.{NetState}
-use Rattle.route_audit.specs.Plan.{plan_found, plan_of}
+use Rattle.audit_net.specs.Net.{NetState}
+use Rattle.audit_plan.specs.Plan.{plan_found, plan_of}
 use Rattle.multicast_audit.specs.declared.found.Found.{Found}
 use Rattle.multicast_audit.specs.Copies.{copy_of}
 use Rattle.multicast_audit.specs.Lines.{multicast_lines}

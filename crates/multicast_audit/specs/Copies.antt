@@ -6,8 +6,8 @@ use Rattle.fabric_parts.specs.Cable.{far_end, port}
 use Rattle.fabric_parts.specs.declared.cable.PortRef.{PortRef}
 use Rattle.topo_file.specs.Connectivity.{switches}
 use Rattle.topo_file.specs.Node.{is_switch_at}
-use Rattle.route_audit.specs.Attached.{ports_of}
-use Rattle.route_audit.specs.Net.{NetState}
+use Rattle.audit_net.specs.Attached.{ports_of}
+use Rattle.audit_net.specs.Net.{NetState}
 use Rattle.multicast_audit.specs.declared.copies.SecondCopy.{SecondCopy}
 use Rattle.multicast_audit.specs.Ways.{outs}
 

@@ -3,11 +3,12 @@ use Rattle.std.specs.Prelude.{ℕ, ◌≡◌, ◌==◌, ◌&&◌, nat_le, Bool, 
 use Rattle.std.specs.List.{list_all}
 use Rattle.fabric_parts.specs.declared.cable.PortRef.{PortRef}
 use Rattle.topo_file.specs.Node.{is_switch_at, ports_at}
-use Rattle.route_audit.specs.Channels.{leads_to}
-use Rattle.route_audit.specs.Laws.{has_word, is_cycle}
-use Rattle.route_audit.specs.Net.{NetState}
+use Rattle.credit_loops.specs.Channels.{leads_to}
+use Rattle.route_audit.specs.Laws.{has_word}
+use Rattle.credit_loops.specs.Laws.{is_cycle}
+use Rattle.audit_net.specs.Net.{NetState}
 use Rattle.route_audit.specs.Verdict.{verdict_by}
-use Rattle.route_audit.specs.declared.lids.Aim.{Aim}
+use Rattle.lid_owners.specs.declared.lids.Aim.{Aim}
 use Rattle.route_audit.specs.declared.verdict.Verdict.{Verdict}
 use Rattle.multicast_audit.specs.declared.copies.SecondCopy.{SecondCopy}
 use Rattle.multicast_audit.specs.declared.verdict.MulticastVerdict.{MulticastVerdict}

@@ -8,5 +8,5 @@ pub mod Verdict
 pub mod Audit
 pub mod Laws
 pub mod WrongRules
-pub use Rattle.route_audit.specs.Net
-pub use Rattle.route_audit.specs.Plan
+pub use Rattle.audit_net.specs.Net
+pub use Rattle.audit_plan.specs.Plan

@@ -11,7 +11,7 @@ use Rattle.topo_file.specs.Connectivity.{switches}
 use Rattle.topo_file.specs.Node.{ports_at}
 use Rattle.route_audit.specs.Audit.{port_word}
 use Rattle.route_audit.specs.Lines.{has_switch, name_text}
-use Rattle.route_audit.specs.Net.{NetState}
+use Rattle.audit_net.specs.Net.{NetState}
 use Rattle.multicast_audit.specs.declared.copies.SecondCopy.{SecondCopy}
 use Rattle.multicast_audit.specs.declared.found.Found.{Found}
 use Rattle.multicast_audit.specs.Masks.{table_of}

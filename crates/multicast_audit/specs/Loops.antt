@@ -4,8 +4,8 @@ use Rattle.std.specs.List.{enumerate_from}
 use Rattle.fabric_parts.specs.Cable.{port}
 use Rattle.fabric_parts.specs.declared.cable.PortRef.{PortRef}
 use Rattle.topo_file.specs.Connectivity.{switches}
-use Rattle.route_audit.specs.Cycle.{cycle}
-use Rattle.route_audit.specs.Net.{NetState}
+use Rattle.credit_loops.specs.Cycle.{cycle}
+use Rattle.audit_net.specs.Net.{NetState}
 use Rattle.multicast_audit.specs.Ways.{comes_to, outs}
 
 -- all ports by which packets to the MLID leave a switch for another one

@@ -7,7 +7,7 @@ use Rattle.mft_file.specs.declared.table.MaskTable.{MaskTable}
 use Rattle.mft_file.specs.Table.{place_of}
 use Rattle.topo_file.specs.Node.{is_switch}
 use Rattle.topo_file.specs.declared.node.Node.{Node}
-use Rattle.route_audit.specs.Net.{NetState}
+use Rattle.audit_net.specs.Net.{NetState}
 
 -- the table of the switch of this GUID
 abbrev pub table_of : List MaskTable → ℕ → Option MaskTable

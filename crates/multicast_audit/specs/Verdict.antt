@@ -4,7 +4,7 @@ use Rattle.std.specs.List.{list_all, list_any}
 use Rattle.mft_file.specs.declared.table.MaskTable.{MaskTable}
 use Rattle.topo_file.specs.Connectivity.{switches}
 use Rattle.route_audit.specs.Lines.{has_switch}
-use Rattle.route_audit.specs.Net.{NetState}
+use Rattle.audit_net.specs.Net.{NetState}
 use Rattle.route_audit.specs.Verdict.{reasons, verdict_is_safe, with_reason}
 use Rattle.route_audit.specs.declared.verdict.Verdict.{Verdict}
 use Rattle.multicast_audit.specs.declared.found.Found.{Found}

@@ -4,9 +4,9 @@ use Rattle.std.specs.List.{list_any}
 use Rattle.std.specs.Option.{option_map_or}
 use Rattle.fabric_parts.specs.Cable.{far_end}
 use Rattle.fabric_parts.specs.declared.cable.PortRef.{PortRef}
-use Rattle.route_audit.specs.Attached.{ports_of}
-use Rattle.route_audit.specs.Channels.{is_channel}
-use Rattle.route_audit.specs.Net.{NetState}
+use Rattle.audit_net.specs.Attached.{ports_of}
+use Rattle.credit_loops.specs.Channels.{is_channel}
+use Rattle.audit_net.specs.Net.{NetState}
 
 -- the port is in the mask of its switch
 abbrev pub is_set : List (List ℕ) → PortRef → Bool

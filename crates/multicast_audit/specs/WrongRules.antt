@@ -9,8 +9,8 @@ use Rattle.fabric_parts.specs.declared.node_type.NodeType.{NodeType}
 use Rattle.fabric_parts.specs.declared.node_type.NodeType.TheVariants.{ChannelAdapter, Switch}
 use Rattle.topo_file.specs.Connectivity.{switches}
 use Rattle.topo_file.specs.declared.node.Node.{Node}
-use Rattle.route_audit.specs.Cycle.{cycle}
-use Rattle.route_audit.specs.Net.{NetState}
+use Rattle.credit_loops.specs.Cycle.{cycle}
+use Rattle.audit_net.specs.Net.{NetState}
 use Rattle.route_audit.specs.Verdict.{reasons}
 use Rattle.route_audit.specs.declared.verdict.Verdict.{Verdict}
 use Rattle.multicast_audit.specs.declared.copies.SecondCopy.{SecondCopy}

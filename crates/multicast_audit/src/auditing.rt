@@ -10,10 +10,12 @@ use crate::lines::push_multicast;
 use crate::loops::loop_of;
 use crate::masks::{masks_of, mlids_of};
 use crate::verdict::{all_are_safe, multicast_verdict, push_verdict};
+use audit_net::Net;
+use audit_plan::Plan;
 use dump_file::Dump;
 use mft_file::{Mfts, Ports};
 use netdiscover_file::Discovery;
-use route_audit::{Audit, Findings, Net, Plan};
+use route_audit::{Audit, Findings, findings};
 use std::alloc::{AllocError, Global};
 use topo_file::LargeTopology;
 
@@ -90,7 +92,7 @@ fn with_multicast(
 fn audit_with(alloc: Global, net: &Net<'_>, mfts: &Mfts) -> Result<Audit, AllocError>
     ensures { IfOk result (λ found. found ≡ audit_with net.now mfts.now.tables) }
 {
-    let routes = net.findings(alloc)?;
+    let routes = findings(net, alloc)?;
     let all = all_found(alloc, net, mfts)?;
     with_multicast(alloc, net, mfts, routes, &all)
 }

@@ -3,14 +3,15 @@
 ghost use Rattle.std.specs.Prelude.{◌≡◌, ◌<◌, ◌==◌, ◌||◌, ◌++◌, nat_lt, true, length, map, ℕ, IfOk, OnOk, None};
 ghost use Rattle.std.specs.List.{list_all, list_any};
 ghost use Rattle.fabric_parts.specs.Cable.{port};
-ghost use Rattle.route_audit.specs.Marks.{is_marked};
+ghost use Rattle.audit_net.specs.Marked.{is_marked};
 ghost use Rattle.multicast_audit.specs.Copies.{again, copy_of, entrances, hop, leads_to_end, next_outs, node_behind, second_copy, takes_packets};
 ghost use Rattle.multicast_audit.specs.Ways.{outs};
 
 use crate::ways::push_outs;
+use audit_net::Net;
+use audit_plan::ports_at;
 use fabric_parts::PortRef;
 use mft_file::Ports;
-use route_audit::{Net, ports_at};
 use std::alloc::{AllocError, Global};
 
 /// A packet that comes to a switch twice.

@@ -2,7 +2,6 @@
 
 ghost use Rattle.std.specs.Prelude.{◌≡◌, ◌++◌, count_by, flat_map, OnOk};
 ghost use Rattle.std.specs.Option.{option_copied};
-ghost use Rattle.route_audit.specs.Audit.{port_word};
 ghost use Rattle.topo_file.specs.Connectivity.{switches};
 ghost use Rattle.multicast_audit.specs.Lines.{copy_line, copy_text, copy_words, found_lines, found_words, has_copy, has_ring, is_past, is_uncabled, loop_line, mask_line, mask_lines_at, mask_port_line, mask_row_lines};
 ghost use Rattle.multicast_audit.specs.Lines.{mask_table_lines, members_line, mft_at, mlid_text, mlids_line, mlids_words, multicast_lines, no_mft_line, no_mft_text, ring_text, strange_mft_line};
@@ -10,9 +9,11 @@ ghost use Rattle.multicast_audit.specs.Lines.{mask_table_lines, members_line, mf
 use crate::copies::SecondCopy;
 use crate::found::{Found, Ring};
 use crate::masks::table_of;
+use audit_net::Net;
+use audit_plan::ports_at;
 use fabric_parts::PortRef;
 use mft_file::{MaskRow, MaskTable, Mfts};
-use route_audit::{Net, has_switch, ports_at};
+use route_audit::{has_switch, push_name, push_port_words};
 use std::alloc::AllocError;
 use text_parts::{push_decimal, push_guid, push_hex};
 
@@ -34,7 +35,7 @@ fn push_no_mft_text(net: &Net<'_>, text: &mut Vec<u8>, place: usize) -> Result<(
     ensures { OnOk result (text.new.items ≡ text.old.items ++ no_mft_text net.now place) }
 {
     text.extend_from_slice(b"multicast no-table ")?;
-    net.push_name(text, place)?;
+    push_name(net, text, place)?;
     text.push(b'\n')?;
     Ok(())
 }
@@ -106,7 +107,7 @@ fn push_mask(
 {
     text.extend_from_slice(b"multicast ")?;
     text.extend_from_slice(words)?;
-    net.push_name(text, port.place)?;
+    push_name(net, text, port.place)?;
     text.extend_from_slice(b" ")?;
     push_mlid(text, port.mlid)?;
     text.extend_from_slice(b" port ")?;
@@ -202,22 +203,6 @@ fn push_masks(net: &Net<'_>, text: &mut Vec<u8>, mfts: &Mfts) -> Result<(), Allo
     Ok(())
 }
 
-fn push_port_word(net: &Net<'_>, text: &mut Vec<u8>, port: PortRef) -> Result<(), AllocError>
-    ensures { OnOk result (text.new.items ≡ text.old.items ++ port_word net.now port) }
-{
-    text.extend_from_slice(b" ")?;
-    net.push_port(text, port)
-}
-
-fn push_port_words(net: &Net<'_>, text: &mut Vec<u8>, ring: &[PortRef]) -> Result<(), AllocError>
-    ensures { OnOk result (text.new.items ≡ text.old.items ++ flat_map (port_word net.now) ring.now) }
-{
-    for port in ring {
-        push_port_word(net, text, *port)?;
-    }
-    Ok(())
-}
-
 #[tactic(auto, unfolding(crate::specs::Lines::ring_text))]
 fn push_ring(net: &Net<'_>, text: &mut Vec<u8>, mlid: u16, ring: &Ring) -> Result<(), AllocError>
     ensures { OnOk result (text.new.items ≡ text.old.items ++ ring_text net.now mlid ring.now) }
@@ -262,9 +247,9 @@ fn push_copy_text(
     ensures { OnOk result (text.new.items ≡ text.old.items ++ copy_text net.now mlid copy) }
 {
     push_copy_words(text, mlid)?;
-    net.push_name(text, copy.at)?;
+    push_name(net, text, copy.at)?;
     text.extend_from_slice(b" from ")?;
-    net.push_name(text, copy.from)?;
+    push_name(net, text, copy.from)?;
     text.push(b'\n')?;
     Ok(())
 }

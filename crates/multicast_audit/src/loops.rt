@@ -6,10 +6,10 @@ ghost use Rattle.multicast_audit.specs.Loops.{all_outs, graph_of, loop_among, lo
 
 use crate::found::Ring;
 use crate::ways::{comes_to, push_outs};
+use audit_net::Net;
+use credit_loops::cycle::{NextList, cycle};
 use fabric_parts::PortRef;
 use mft_file::Ports;
-use route_audit::Net;
-use route_audit::cycle::{NextList, cycle};
 use std::alloc::{AllocError, Global};
 
 /// All ports by which packets leave a switch for another one.

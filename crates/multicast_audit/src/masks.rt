@@ -3,11 +3,12 @@
 ghost use Rattle.std.specs.Prelude.{◌≡◌, ◌≤◌, ◌||◌, ◌==◌, false, [], filter, find, length, ℕ, IfOk};
 ghost use Rattle.std.specs.List.{list_any, range_with_len};
 ghost use Rattle.std.specs.Option.{option_copied};
-ghost use Rattle.route_audit.specs.Marks.{is_marked};
+ghost use Rattle.audit_net.specs.Marked.{is_marked};
 ghost use Rattle.multicast_audit.specs.Masks.{has_row, is_used, mask_in, mask_of, masks_of, mlids_of, table_of};
 
+use audit_net::{Net, blank, is_marked};
+use audit_plan::PlanNode;
 use mft_file::{MaskRow, MaskTable, Mfts, Ports};
-use route_audit::{Net, PlanNode};
 use std::alloc::{AllocError, Global};
 
 /// The MFT of the switch of this GUID.
@@ -70,15 +71,6 @@ pub(crate) fn masks_of(
     Ok(masks)
 }
 
-fn is_marked(marks: &[bool], place: usize) -> bool
-    ensures { result ≡ is_marked marks.now place }
-{
-    match marks.get(place) {
-        Some(mark) => *mark,
-        None => false,
-    }
-}
-
 fn mark(marks: &mut [bool], mlid: u16)
     requires { 65536 ≤ length marks.old }
     ensures long { length marks.new ≡ length marks.old }
@@ -96,13 +88,6 @@ fn mark_rows(marks: &mut [bool], table: &MaskTable)
     for row in table.rows.as_slice() {
         mark(marks, row.mlid);
     }
-}
-
-fn blank(alloc: Global, count: usize) -> Result<Vec<bool>, AllocError>
-    ensures long { IfOk result (λ marks. length marks.items ≡ count) }
-    ensures none { IfOk result (λ marks. (mlid : ℕ) → is_marked marks.items mlid ≡ false) }
-{
-    vec![in alloc; false; count]
 }
 
 /// A mark for each MLID that a row names.

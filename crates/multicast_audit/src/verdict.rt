@@ -8,8 +8,9 @@ ghost use Rattle.multicast_audit.specs.Verdict.{all_are_safe, all_reasons, all_v
 
 use crate::found::Found;
 use crate::lines::mft_at;
+use audit_net::Net;
 use mft_file::{MaskTable, Mfts};
-use route_audit::{Net, Verdict, add_reason, has_switch, reasons};
+use route_audit::{Verdict, add_reason, has_switch, reasons};
 use std::alloc::{AllocError, Global};
 
 /// What the verdict on multicast rests on.

@@ -2,13 +2,14 @@
 
 ghost use Rattle.std.specs.Prelude.{◌≡◌, ◌<◌, ◌==◌, ◌&&◌, ◌++◌, not, IfOk, OnOk};
 ghost use Rattle.std.specs.List.{list_any};
-ghost use Rattle.route_audit.specs.Channels.{is_channel};
 ghost use Rattle.multicast_audit.specs.Ways.{comes_to, is_set, leaves, outs, turns};
 ghost use Rattle.multicast_audit.specs.Scanning.{out_behind};
 
+use audit_net::Net;
+use audit_plan::ports_at;
+use credit_loops::is_channel;
 use fabric_parts::PortRef;
 use mft_file::Ports;
-use route_audit::{Net, ports_at};
 use std::alloc::{AllocError, Global};
 
 fn has_port(mask: &[u8], number: u8) -> bool
@@ -23,16 +24,6 @@ fn is_set(masks: &[Ports], at: PortRef) -> bool
 {
     match masks.get(at.node) {
         Some(mask) => has_port(mask.as_slice(), at.port),
-        None => false,
-    }
-}
-
-/// Whether the port's cable leads to a switch.
-fn is_channel(net: &Net<'_>, at: PortRef) -> bool
-    ensures { result ≡ is_channel net.now at }
-{
-    match net.far_end(at) {
-        Some(there) => net.is_switch_at(there.node),
         None => false,
     }
 }

@@ -11,7 +11,7 @@ use Rattle.fabric_graph.specs.declared.loads.Look.TheVariants.{Loaded as LoadedL
 use Rattle.fabric_parts.specs.Cable.{far_end, is_same_port, port}
 use Rattle.fabric_parts.specs.declared.cable.Cable.{Cable}
 use Rattle.fabric_parts.specs.declared.cable.PortRef.{PortRef}
-use Rattle.route_audit.specs.Plan.{PlanState, plan_of}
+use Rattle.audit_plan.specs.Plan.{PlanState, plan_of}
 use Rattle.smp_wire.specs.FabricState.{FabricState}
 use Rattle.subnet_model.specs.declared.subnet_port.SubnetPort.{SubnetPort}
 use Rattle.topo_file.specs.Node.{place_of}

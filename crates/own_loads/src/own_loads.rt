@@ -5,12 +5,12 @@ ghost use Rattle.own_loads.specs.OwnLoads.{cable_look, is_up, load_at, own_load_
 
 use crate::own_dump::own_dump;
 use crate::talking::talk_of;
+use audit_plan::Plan;
 use cable_load::{Loaded, load_of_plan, loads_of_plan};
 use fabric_graph::{CableLoad, Look};
 use fabric_parts::{Cable, PortRef};
 use fabric_wire::Fabric;
 use lid_assign::Lids;
-use route_audit::Plan;
 use std::alloc::{AllocError, Global};
 use subnet_model::SubnetPort;
 use topo_file::Topology;

@@ -12,7 +12,7 @@ use Rattle.fabric_parts.specs.NodeType.{is_switch_type}
 use Rattle.fabric_wire.proofs.OfTopologyLemmas.{node_at}
 use Rattle.fabric_wire.specs.OfTopology.{fabric_of, node_of, node_of_type}
 use Rattle.lid_assign.specs.Lids.{guid_in}
-use Rattle.route_audit.specs.Net.{NetState, row_of, table_at, table_of}
+use Rattle.audit_net.specs.Net.{NetState, row_of, table_at, table_of}
 use Rattle.smp_wire.specs.FabricState.{FabricState, is_switch as is_switch_node}
 use Rattle.smp_wire.specs.Good.{IsGood, node_guid}
 use Rattle.smp_wire.specs.declared.node.Node.TheVariants.{Switch}

@@ -39,7 +39,7 @@ use Rattle.topo_file.specs.Sound.{IsSound, is_port}
 use Rattle.topo_file.specs.Topology.{TopologyState}
 use Rattle.updn_routes.specs.Routes.{home_of}
 use Rattle.updn_routes.specs.Subnet.{RoutesState, home_in}
-use Rattle.route_audit.specs.Plan.{ends_of, port_of}
+use Rattle.audit_plan.specs.Plan.{ends_of, port_of}
 use Rattle.own_route_laws.proofs.GuidLemmas.{port_of_end}
 use Rattle.own_route_laws.proofs.StandLemmas.{Stands, few, attachment}
 

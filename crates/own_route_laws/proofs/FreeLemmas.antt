@@ -8,10 +8,10 @@ use Rattle.fabric_parts.specs.Cable.{far_end, port}
 use Rattle.fabric_parts.specs.declared.cable.PortRef.{PortRef}
 use Rattle.fabric_wire.specs.OfTopology.{fabric_of}
 use Rattle.step_results.proofs.ListLemmas.{all_there}
-use Rattle.route_audit.proofs.CycleLawLemmas.{reported_loops_wait}
-use Rattle.route_audit.specs.Channels.{deadlock, depends, leads_to, leaves_by}
-use Rattle.route_audit.specs.Laws.{are_channels, is_cycle, wait_round}
-use Rattle.route_audit.specs.Net.{NetState}
+use Rattle.credit_loops.proofs.CycleLawLemmas.{reported_loops_wait}
+use Rattle.credit_loops.specs.Channels.{deadlock, depends, leads_to, leaves_by}
+use Rattle.credit_loops.specs.Laws.{are_channels, is_cycle, wait_round}
+use Rattle.audit_net.specs.Net.{NetState}
 use Rattle.smp_wire.specs.FabricState.{FabricState}
 use Rattle.subnet_fabric.specs.BringUp.{IsBroughtUpBy}
 use Rattle.sweep.proofs.FoundLemmas.{any_at}

@@ -17,8 +17,8 @@ use Rattle.topo_file.specs.Node.{last_guid, port_guid_at, port_guids, shares_gui
 use Rattle.topo_file.specs.Sound.{IsSound}
 use Rattle.topo_file.specs.Topology.{TopologyState}
 use Rattle.topo_file.specs.declared.node.Node.{Node}
-use Rattle.route_audit.specs.Plan.{ends_of, port_of}
-use Rattle.route_audit.proofs.TopologyEndLemmas.{found_by_node, number_in, port_from}
+use Rattle.audit_plan.specs.Plan.{ends_of, port_of}
+use Rattle.audit_plan.proofs.TopologyEndLemmas.{found_by_node, number_in, port_from}
 
 -- ---- a GUID of a node is one of those from its first to its last
 abbrev number_of : NodeType → ℕ → ℕ → ℕ → Option ℕ

@@ -12,10 +12,10 @@ use Rattle.fabric_parts.specs.Cable.{port}
 use Rattle.fabric_parts.specs.declared.cable.PortRef.{PortRef}
 use Rattle.lid_assign.specs.Lids.{guid_in}
 use Rattle.step_results.proofs.ListLemmas.{list_all_weaker}
-use Rattle.route_audit.specs.Laws.{end_port_of}
-use Rattle.route_audit.specs.Lids.{end_by, if_of_kind, is_of_kind, reported_end, says_kind}
-use Rattle.route_audit.specs.Net.{NetState, row_at, row_of}
-use Rattle.route_audit.specs.Plan.{ends_of, port_of}
+use Rattle.lid_owners.specs.Laws.{end_port_of}
+use Rattle.lid_owners.specs.Lids.{end_by, if_of_kind, is_of_kind, reported_end, says_kind}
+use Rattle.audit_net.specs.Net.{NetState, row_at, row_of}
+use Rattle.audit_plan.specs.Plan.{ends_of, port_of}
 use Rattle.smp_wire.specs.FabricState.{FabricState}
 use Rattle.smp_wire.specs.declared.node.Node.TheVariants.{Switch}
 use Rattle.subnet_fabric.specs.BringUp.{IsBroughtUpBy}
@@ -33,7 +33,7 @@ use Rattle.own_route_laws.specs.OwnTables.{dump_of}
 use Rattle.own_route_laws.proofs.DumpLemmas.{has_place, table_there}
 use Rattle.own_route_laws.proofs.GuidLemmas.{port_is}
 use Rattle.own_route_laws.proofs.HeldLemmas.{holds}
-use Rattle.route_audit.proofs.TopologyEndLemmas.{found_by_node, number_in, port_from}
+use Rattle.audit_plan.proofs.TopologyEndLemmas.{found_by_node, number_in, port_from}
 use Rattle.own_route_laws.proofs.RingLemmas.{kept}
 use Rattle.own_route_laws.proofs.ShownLemmas.{no_row, row_found}
 use Rattle.own_route_laws.proofs.StandLemmas.{place_for}

@@ -13,10 +13,11 @@ use Rattle.lid_assign.specs.Lids.{adapter_end as port_end, end_ports, guid_in, l
 use Rattle.pkey_rules.specs.declared.end_port.EndPort.{EndPort}
 use Rattle.step_results.proofs.RangeLemmas.{get_kept}
 use Rattle.step_results.proofs.ListLemmas.{all_have}
-use Rattle.route_audit.specs.Laws.{CarriesAHost, end_port_of}
-use Rattle.route_audit.specs.Net.{NetState}
-use Rattle.route_audit.specs.Plan.{plan_of}
-use Rattle.route_audit.proofs.PlanLemmas.{host_is_no_switch}
+use Rattle.route_audit.specs.Laws.{CarriesAHost}
+use Rattle.lid_owners.specs.Laws.{end_port_of}
+use Rattle.audit_net.specs.Net.{NetState}
+use Rattle.audit_plan.specs.Plan.{plan_of}
+use Rattle.audit_plan.proofs.PlanLemmas.{host_is_no_switch}
 use Rattle.smp_wire.specs.FabricState.{FabricState}
 use Rattle.subnet_fabric.specs.BringUp.{IsBroughtUpBy}
 use Rattle.subnet_model.specs.EndPorts.{lid_of}

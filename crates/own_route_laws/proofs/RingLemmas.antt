@@ -9,9 +9,9 @@ use Rattle.step_results.proofs.ListLemmas.{all_joined, list_all_weaker}
 use Rattle.smp_wire.proofs.CableLemmas.{same_port}
 use Rattle.topo_file.specs.Connectivity.{switches}
 use Rattle.topo_file.specs.Node.{is_switch_at, ports_at}
-use Rattle.route_audit.specs.Channels.{channels, channels_of, is_channel, leads_to}
-use Rattle.route_audit.specs.Laws.{are_channels}
-use Rattle.route_audit.specs.Net.{NetState}
+use Rattle.credit_loops.specs.Channels.{channels, channels_of, is_channel, leads_to}
+use Rattle.credit_loops.specs.Laws.{are_channels}
+use Rattle.audit_net.specs.Net.{NetState}
 
 -- ---- lists
 pub kept : {X : Type 0} (p : X → Bool) (xs : List X) → list_all p (filter p xs) ≡ true

@@ -16,16 +16,18 @@ use Rattle.fabric_wire.specs.OfTopology.{fabric_of}
 use Rattle.fabric_wire.specs.Recabling.{cabling_of}
 use Rattle.lid_assign.specs.Lids.{guid_in}
 use Rattle.step_results.proofs.ListLemmas.{all_there}
-use Rattle.route_audit.proofs.CycleLawLemmas.{no_cycle_is_missed}
-use Rattle.route_audit.proofs.GoingLemmas.{goes_leaves, next_known}
-use Rattle.route_audit.proofs.PlanLemmas.{host_is_no_switch}
+use Rattle.credit_loops.proofs.CycleLawLemmas.{no_cycle_is_missed}
+use Rattle.credit_loops.proofs.GoingLemmas.{goes_leaves, next_known}
+use Rattle.audit_plan.proofs.PlanLemmas.{host_is_no_switch}
 use Rattle.route_audit.proofs.SafeLemmas.{comes_there}
 use Rattle.route_audit.proofs.ReportedLemmas.{safe_routes_are_reported}
 use Rattle.route_audit.specs.Audit.{audit_of}
-use Rattle.route_audit.specs.Laws.{AreSafe, GoesTo, IsOfKind, IsUnknownAt, NameTheSame, end_port_of, other_lids}
-use Rattle.route_audit.specs.Plan.{ends_of, plan_of, port_of}
+use Rattle.route_audit.specs.Laws.{AreSafe, IsOfKind, NameTheSame, other_lids}
+use Rattle.audit_net.specs.Laws.{GoesTo, IsUnknownAt}
+use Rattle.lid_owners.specs.Laws.{end_port_of}
+use Rattle.audit_plan.specs.Plan.{ends_of, plan_of, port_of}
 use Rattle.route_audit.specs.Lines.{has_switch}
-use Rattle.route_audit.specs.Net.{NetState, row_at, row_of, table_at, table_of}
+use Rattle.audit_net.specs.Net.{NetState, row_at, row_of, table_at, table_of}
 use Rattle.smp_wire.specs.FabricState.{FabricState}
 use Rattle.smp_wire.specs.declared.node.Node.{Node}
 use Rattle.smp_wire.specs.declared.node.Node.TheVariants.{Switch, Adapter}

@@ -9,7 +9,7 @@ use Rattle.dump_file.specs.Table.{rows_of}
 use Rattle.dump_file.specs.declared.table.Table.{Table}
 use Rattle.step_results.proofs.DistinctLemmas.{none_shares}
 use Rattle.step_results.proofs.ElementLemmas.{each_joined}
-use Rattle.route_audit.specs.Net.{table_of}
+use Rattle.audit_net.specs.Net.{table_of}
 use Rattle.smp_wire.specs.Good.{node_guid}
 use Rattle.smp_wire.specs.declared.node.Node.{Node}
 use Rattle.smp_wire.specs.declared.node.Node.TheVariants.{Switch, Adapter}

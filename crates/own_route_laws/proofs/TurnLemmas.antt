@@ -7,10 +7,10 @@ use Rattle.dump_file.specs.declared.table.Table.{Table}
 use Rattle.fabric_parts.specs.Cable.{far_end, port}
 use Rattle.fabric_parts.specs.declared.cable.PortRef.{PortRef}
 use Rattle.topo_file.specs.Node.{is_switch_at, ports_at}
-use Rattle.route_audit.specs.Channels.{leaves_by}
-use Rattle.route_audit.specs.Following.{end_from, turn, turn_to}
-use Rattle.route_audit.specs.Laws.{IsWay}
-use Rattle.route_audit.specs.Net.{NetState, may_lack, row_of, table_at}
+use Rattle.credit_loops.specs.Channels.{leaves_by}
+use Rattle.audit_net.specs.Following.{end_from, turn, turn_to}
+use Rattle.audit_net.specs.Laws.{IsWay}
+use Rattle.audit_net.specs.Net.{NetState, may_lack, row_of, table_at}
 use Rattle.own_route_laws.specs.Laws.{comes_to}
 use Rattle.own_route_laws.specs.Shown.{HasRow}
 

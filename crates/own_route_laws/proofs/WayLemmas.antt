@@ -8,13 +8,14 @@ use Rattle.dump_file.specs.Row.{end_of}
 use Rattle.dump_file.specs.Table.{rows_of}
 use Rattle.fabric_parts.specs.Cable.{port}
 use Rattle.fabric_parts.specs.declared.cable.PortRef.{PortRef}
-use Rattle.route_audit.proofs.EndlessLemmas.{ways_are_followed}
-use Rattle.route_audit.specs.Channels.{leaves_by}
-use Rattle.route_audit.specs.Following.{end_from, turn}
-use Rattle.route_audit.specs.Laws.{IsWay, end_port_of}
-use Rattle.route_audit.specs.Lids.{owner_of}
-use Rattle.route_audit.specs.Plan.{ends_of, port_of}
-use Rattle.route_audit.specs.Net.{NetState}
+use Rattle.audit_net.proofs.EndlessLemmas.{ways_are_followed}
+use Rattle.credit_loops.specs.Channels.{leaves_by}
+use Rattle.audit_net.specs.Following.{end_from, turn}
+use Rattle.audit_net.specs.Laws.{IsWay}
+use Rattle.lid_owners.specs.Laws.{end_port_of}
+use Rattle.lid_owners.specs.Lids.{owner_of}
+use Rattle.audit_plan.specs.Plan.{ends_of, port_of}
+use Rattle.audit_net.specs.Net.{NetState}
 use Rattle.smp_wire.specs.FabricState.{FabricState}
 use Rattle.subnet_fabric.specs.BringUp.{IsBroughtUpBy}
 use Rattle.sweep.specs.Graph.{GraphState}

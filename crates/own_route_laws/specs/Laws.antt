@@ -5,11 +5,12 @@ use Rattle.dump_file.specs.Sound.{IsSound as IsSoundDump}
 use Rattle.fabric_parts.specs.Cable.{is_cabled, port}
 use Rattle.fabric_parts.specs.declared.cable.PortRef.{PortRef}
 use Rattle.route_audit.specs.Audit.{audit_of}
-use Rattle.route_audit.specs.Channels.{deadlock, leaves_by}
-use Rattle.route_audit.specs.Laws.{CarriesAHost, end_port_of}
-use Rattle.route_audit.specs.Net.{NetState}
+use Rattle.credit_loops.specs.Channels.{deadlock, leaves_by}
+use Rattle.route_audit.specs.Laws.{CarriesAHost}
+use Rattle.lid_owners.specs.Laws.{end_port_of}
+use Rattle.audit_net.specs.Net.{NetState}
 use Rattle.route_audit.specs.Pairs.{all_reached, pair_to}
-use Rattle.route_audit.specs.Plan.{plan_of}
+use Rattle.audit_plan.specs.Plan.{plan_of}
 use Rattle.smp_wire.specs.FabricState.{FabricState}
 use Rattle.subnet_fabric.specs.BringUp.{IsBroughtUpBy}
 use Rattle.subnet_fabric.specs.Recabled.{with_cables}

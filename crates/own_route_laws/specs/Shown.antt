@@ -6,7 +6,7 @@ use Rattle.dump_file.specs.declared.row.Row.{Row}
 use Rattle.dump_file.specs.declared.table.Table.{Table}
 use Rattle.lid_assign.specs.Lids.{guid_in}
 use Rattle.own_loads.specs.HeldRows.{held_entry}
-use Rattle.route_audit.specs.Net.{NetState, row_of, table_at}
+use Rattle.audit_net.specs.Net.{NetState, row_of, table_at}
 use Rattle.smp_wire.specs.FabricState.{FabricState}
 use Rattle.smp_wire.specs.declared.node.Node.TheVariants.{Switch}
 use Rattle.switch_model.specs.SwitchState.{SwitchState}

@@ -7,10 +7,11 @@ use Rattle.dump_file.specs.declared.table.Table.{Table}
 use Rattle.fabric_parts.specs.Cable.{port}
 use Rattle.fabric_parts.specs.declared.cable.Cable.{Cable}
 use Rattle.fabric_parts.specs.declared.node_type.NodeType.TheVariants.{ChannelAdapter}
-use Rattle.route_audit.specs.Channels.{deadlock}
-use Rattle.route_audit.specs.Net.{NetState}
-use Rattle.route_audit.specs.Plan.{plan_of}
-use Rattle.route_audit.specs.WrongRules.{a_plan, a_switch, a_table}
+use Rattle.credit_loops.specs.Channels.{deadlock}
+use Rattle.audit_net.specs.Net.{NetState}
+use Rattle.audit_plan.specs.Plan.{plan_of}
+use Rattle.audit_net.specs.SmallNets.{a_plan, a_table}
+use Rattle.audit_plan.specs.Examples.{a_switch}
 use Rattle.topo_file.specs.Topology.{TopologyState}
 use Rattle.topo_file.specs.declared.node.Node.{Node}
 use Rattle.own_route_laws.specs.Laws.{PassesTheAudit, comes_to}

@@ -6,19 +6,19 @@ use Rattle.dump_file.specs.Dump.{DumpState}
 use Rattle.fabric_parts.specs.declared.cable.PortRef.{PortRef}
 use Rattle.step_results.proofs.ElementLemmas.{each_always}
 use Rattle.topo_file.specs.Node.{is_switch_at, ports_at}
-use Rattle.route_audit.proofs.EndlessLemmas.{turn_goes}
-use Rattle.route_audit.specs.declared.entry.Entry.{Entry}
-use Rattle.route_audit.specs.declared.entry.Entry.TheVariants.{Out, Missing, Unreported}
-use Rattle.route_audit.specs.declared.following.Fate.TheVariants as fates
-use Rattle.route_audit.specs.declared.following.Turn.{Turn}
-use Rattle.route_audit.specs.declared.following.Turn.TheVariants as turns
-use Rattle.route_audit.specs.Channels.{channels, is_out, leaves_by}
-use Rattle.route_audit.specs.Following.{end_within, fate_by, switch_total, then_end, turn, turn_by}
-use Rattle.route_audit.specs.Laws.{end_port_of}
-use Rattle.route_audit.specs.Lids.{aims}
-use Rattle.route_audit.specs.Net.{NetState, entry}
+use Rattle.audit_net.proofs.EndlessLemmas.{turn_goes}
+use Rattle.audit_net.specs.declared.entry.Entry.{Entry}
+use Rattle.audit_net.specs.declared.entry.Entry.TheVariants.{Out, Missing, Unreported}
+use Rattle.audit_net.specs.declared.following.Fate.TheVariants as fates
+use Rattle.audit_net.specs.declared.following.Turn.{Turn}
+use Rattle.audit_net.specs.declared.following.Turn.TheVariants as turns
+use Rattle.credit_loops.specs.Channels.{channels, is_out, leaves_by}
+use Rattle.audit_net.specs.Following.{end_within, fate_by, switch_total, then_end, turn, turn_by}
+use Rattle.lid_owners.specs.Laws.{end_port_of}
+use Rattle.lid_owners.specs.Lids.{aims}
+use Rattle.audit_net.specs.Net.{NetState, entry}
 use Rattle.route_audit.specs.Pairs.{is_fate}
-use Rattle.route_audit.specs.Plan.{PlanState}
+use Rattle.audit_plan.specs.Plan.{PlanState}
 use Rattle.cable_load.specs.Counts.{counts_of}
 use Rattle.cable_load.specs.declared.levels.TheConstants.{LEVELS}
 use Rattle.cable_load.specs.declared.loaded.Loaded.{Loaded}

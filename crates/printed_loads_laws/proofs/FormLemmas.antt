@@ -21,9 +21,9 @@ use Rattle.own_loads.specs.OwnDump.{own_dump, own_table, own_table_at}
 use Rattle.own_loads.specs.OwnLoads.{over_cables_up}
 use Rattle.own_route_laws.proofs.SafeLemmas.{some_carries}
 use Rattle.partition_file.specs.declared.partition.Partition.{Partition}
-use Rattle.route_audit.specs.declared.entry.Entry.TheVariants.{Unreported}
-use Rattle.route_audit.specs.Net.{entry, entry_in, table_of as table_of_guid}
-use Rattle.route_audit.specs.Plan.{plan_of}
+use Rattle.audit_net.specs.declared.entry.Entry.TheVariants.{Unreported}
+use Rattle.audit_net.specs.Net.{entry, entry_in, table_of as table_of_guid}
+use Rattle.audit_plan.specs.Plan.{plan_of}
 use Rattle.smp_wire.specs.FabricState.{FabricState}
 use Rattle.smp_wire.specs.declared.node.Node.{Node}
 use Rattle.smp_wire.specs.declared.node.Node.TheVariants.{Switch, Adapter}

@@ -9,14 +9,14 @@ use Rattle.dump_file.specs.declared.row.Row.{Row}
 use Rattle.dump_file.specs.declared.table.Table.{Table}
 use Rattle.fabric_parts.specs.declared.cable.PortRef.{PortRef}
 use Rattle.lid_assign.specs.Lids.{guid_in}
-use Rattle.route_audit.proofs.PlanLemmas.{host_is_no_switch}
-use Rattle.route_audit.specs.declared.entry.Entry.TheVariants.{Out, Missing, Unreported}
-use Rattle.route_audit.specs.declared.following.Fate.{Fate}
-use Rattle.route_audit.specs.declared.following.Fate.TheVariants as fates
-use Rattle.route_audit.specs.Laws.{end_port_of}
-use Rattle.route_audit.specs.Net.{NetState, entry, entry_by, entry_in, may_lack, row_of, table_at}
+use Rattle.audit_plan.proofs.PlanLemmas.{host_is_no_switch}
+use Rattle.audit_net.specs.declared.entry.Entry.TheVariants.{Out, Missing, Unreported}
+use Rattle.audit_net.specs.declared.following.Fate.{Fate}
+use Rattle.audit_net.specs.declared.following.Fate.TheVariants as fates
+use Rattle.lid_owners.specs.Laws.{end_port_of}
+use Rattle.audit_net.specs.Net.{NetState, entry, entry_by, entry_in, may_lack, row_of, table_at}
 use Rattle.route_audit.specs.Pairs.{is_fate}
-use Rattle.route_audit.specs.Plan.{plan_of}
+use Rattle.audit_plan.specs.Plan.{plan_of}
 use Rattle.smp_wire.specs.FabricState.{FabricState}
 use Rattle.smp_wire.specs.declared.node.Node.TheVariants.{Switch}
 use Rattle.subnet_fabric.specs.BringUp.{IsBroughtUpBy}

@@ -18,10 +18,10 @@ use Rattle.fabric_parts.specs.declared.cable.PortRef.{PortRef}
 use Rattle.fabric_wire.proofs.OfTopologyLemmas.{node_at}
 use Rattle.fabric_wire.specs.OfTopology.{fabric_of, node_of}
 use Rattle.lid_assign.specs.Lids.{guid_in}
-use Rattle.route_audit.specs.Laws.{end_port_of}
-use Rattle.route_audit.specs.Lids.{end_by, if_of_kind, is_of_kind, reported_end, says_kind}
-use Rattle.route_audit.specs.Net.{row_at, row_of, table_at, table_of}
-use Rattle.route_audit.specs.Plan.{PlanState, ends_of, plan_of, port_of}
+use Rattle.lid_owners.specs.Laws.{end_port_of}
+use Rattle.lid_owners.specs.Lids.{end_by, if_of_kind, is_of_kind, reported_end, says_kind}
+use Rattle.audit_net.specs.Net.{row_at, row_of, table_at, table_of}
+use Rattle.audit_plan.specs.Plan.{PlanState, ends_of, plan_of, port_of}
 use Rattle.smp_wire.specs.FabricState.{FabricState}
 use Rattle.smp_wire.specs.declared.node.Node.{Node}
 use Rattle.smp_wire.specs.declared.node.Node.TheVariants.{Switch, Adapter}

@@ -9,10 +9,11 @@ use Rattle.fabric_parts.specs.declared.cable.PortRef.{PortRef}
 use Rattle.step_results.proofs.ElementLemmas.{each_joined}
 use Rattle.topo_file.specs.Node.{is_switch_at, ports_at}
 use Rattle.route_audit.proofs.SafeLemmas.{has_end}
-use Rattle.route_audit.specs.Laws.{CarriesAHost, end_port_of}
-use Rattle.route_audit.specs.Lids.{aim_of, aims, all_lids, is_known_lid}
-use Rattle.route_audit.specs.Net.{NetState}
-use Rattle.route_audit.specs.Plan.{PlanState, is_host}
+use Rattle.route_audit.specs.Laws.{CarriesAHost}
+use Rattle.lid_owners.specs.Laws.{end_port_of}
+use Rattle.lid_owners.specs.Lids.{aim_of, aims, all_lids, is_known_lid}
+use Rattle.audit_net.specs.Net.{NetState}
+use Rattle.audit_plan.specs.Plan.{PlanState, is_host}
 use Rattle.cable_load.specs.Sources.{Pair, attached, entrance, entrances, host_behind, pair_from, pairs_by, pairs_in, pairs_to_end, sends}
 use Rattle.printed_loads_laws.specs.Alike.{net_of}
 

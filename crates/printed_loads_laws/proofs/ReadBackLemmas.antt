@@ -29,17 +29,17 @@ use Rattle.own_route_laws.proofs.ShownLemmas.{table_is}
 use Rattle.own_route_laws.specs.Laws.{over}
 use Rattle.own_route_laws.specs.OwnTables.{dump_of as own_tables}
 use Rattle.partition_file.specs.declared.partition.Partition.{Partition}
-use Rattle.route_audit.specs.declared.entry.Entry.{Entry}
-use Rattle.route_audit.specs.declared.entry.Entry.TheVariants.{Out, Missing, Unreported}
-use Rattle.route_audit.specs.declared.following.Fate.TheVariants as fates
-use Rattle.route_audit.specs.declared.following.Turn.{Turn}
-use Rattle.route_audit.specs.declared.following.Turn.TheVariants as turns
-use Rattle.route_audit.specs.Channels.{is_out}
-use Rattle.route_audit.specs.Following.{end_within, fate_by, switch_total, then_end, turn_by, turn_to}
-use Rattle.route_audit.specs.Laws.{end_port_of}
-use Rattle.route_audit.specs.Net.{NetState, entry, table_of}
+use Rattle.audit_net.specs.declared.entry.Entry.{Entry}
+use Rattle.audit_net.specs.declared.entry.Entry.TheVariants.{Out, Missing, Unreported}
+use Rattle.audit_net.specs.declared.following.Fate.TheVariants as fates
+use Rattle.audit_net.specs.declared.following.Turn.{Turn}
+use Rattle.audit_net.specs.declared.following.Turn.TheVariants as turns
+use Rattle.credit_loops.specs.Channels.{is_out}
+use Rattle.audit_net.specs.Following.{end_within, fate_by, switch_total, then_end, turn_by, turn_to}
+use Rattle.lid_owners.specs.Laws.{end_port_of}
+use Rattle.audit_net.specs.Net.{NetState, entry, table_of}
 use Rattle.route_audit.specs.Pairs.{is_fate}
-use Rattle.route_audit.specs.Plan.{ends_of, port_of}
+use Rattle.audit_plan.specs.Plan.{ends_of, port_of}
 use Rattle.smp_wire.proofs.CableLemmas.{cabled_is_port}
 use Rattle.smp_wire.proofs.PresentLemmas.{present_right}
 use Rattle.smp_wire.specs.FabricState.{FabricState, is_port, port_count}

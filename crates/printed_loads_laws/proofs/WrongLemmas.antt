@@ -11,16 +11,16 @@ use Rattle.fabric_tables.specs.Whole.{led_by}
 use Rattle.own_route_laws.specs.Laws.{over}
 use Rattle.own_route_laws.specs.Shown.{HasRow}
 use Rattle.dump_file.specs.declared.table.Table.{Table}
-use Rattle.route_audit.specs.Laws.{end_port_of}
-use Rattle.route_audit.specs.Net.{entry, row_of, NetState}
-use Rattle.route_audit.specs.Plan.{plan_of}
+use Rattle.lid_owners.specs.Laws.{end_port_of}
+use Rattle.audit_net.specs.Net.{entry, row_of, NetState}
+use Rattle.audit_plan.specs.Plan.{plan_of}
 use Rattle.printed_loads_laws.specs.Alike.{AreAlike, net_of}
 use Rattle.printed_loads_laws.specs.WrongRules.{ARowLessIsNotAlike, RowsDoNotCount, a_row_less, both_tables, EndPortsDoNotDecide}
 use Rattle.printed_loads_laws.proofs.AlikeLemmas.{named_port}
 use Rattle.std.specs.List.{range_with_len}
 use Rattle.fabric_parts.specs.declared.cable.PortRef.{PortRef}
 use Rattle.cable_load.specs.Sources.{Pair, pairs_by, pairs_to_end}
-use Rattle.route_audit.specs.Lids.{aims, all_lids}
+use Rattle.lid_owners.specs.Lids.{aims, all_lids}
 use Rattle.printed_loads_laws.proofs.PairLemmas.{pairs_of_known}
 
 more_rows : AreAlike (plan_of a_plan) (record { tables = both_tables }) (record { tables = table_to 16 1 2 ∷ table_to 32 2 1 ∷ table_to 32 2 1 ∷ [] })

@@ -1,9 +1,9 @@
 -- Which dumps say the same of a fabric, as far as its loads go.
 use Rattle.std.specs.Prelude.{ℕ, ◌≡◌, true}
 use Rattle.dump_file.specs.Dump.{DumpState}
-use Rattle.route_audit.specs.Laws.{end_port_of}
-use Rattle.route_audit.specs.Net.{NetState, entry}
-use Rattle.route_audit.specs.Plan.{PlanState}
+use Rattle.lid_owners.specs.Laws.{end_port_of}
+use Rattle.audit_net.specs.Net.{NetState, entry}
+use Rattle.audit_plan.specs.Plan.{PlanState}
 use Rattle.topo_file.specs.Node.{is_switch_at}
 
 abbrev pub net_of : PlanState → DumpState → NetState

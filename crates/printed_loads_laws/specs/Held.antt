@@ -8,9 +8,9 @@ use Rattle.lid_assign.specs.Lids.{guid_in}
 use Rattle.own_loads.specs.HeldRows.{rows_from}
 use Rattle.own_route_laws.specs.Laws.{over}
 use Rattle.own_route_laws.specs.Shown.{Shows}
-use Rattle.route_audit.specs.Laws.{end_port_of}
-use Rattle.route_audit.specs.Net.{NetState, table_at}
-use Rattle.route_audit.specs.Plan.{port_of}
+use Rattle.lid_owners.specs.Laws.{end_port_of}
+use Rattle.audit_net.specs.Net.{NetState, table_at}
+use Rattle.audit_plan.specs.Plan.{port_of}
 use Rattle.smp_wire.specs.FabricState.{FabricState}
 use Rattle.smp_wire.specs.declared.node.Node.TheVariants.{Switch}
 use Rattle.switch_model.specs.SwitchState.{SwitchState}

@@ -5,7 +5,7 @@ use Rattle.dump_file.specs.Dump.{DumpState, dump_of}
 use Rattle.fabric_parts.specs.declared.cable.PortRef.{PortRef}
 use Rattle.fabric_tables.specs.Multicast.{tables_text}
 use Rattle.partition_file.specs.declared.partition.Partition.{Partition}
-use Rattle.route_audit.specs.Plan.{PlanState, plan_of}
+use Rattle.audit_plan.specs.Plan.{PlanState, plan_of}
 use Rattle.smp_wire.specs.FabricState.{FabricState}
 use Rattle.subnet_fabric.specs.BringUp.{IsBroughtUpBy}
 use Rattle.subnet_fabric.specs.Standing.{IsStanding}

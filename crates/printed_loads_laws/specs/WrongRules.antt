@@ -14,8 +14,8 @@ use Rattle.dump_file.specs.declared.table.Table.{Table}
 use Rattle.dump_file.specs.Dump.{DumpState}
 use Rattle.dump_file.specs.Table.{rows_of}
 use Rattle.fabric_parts.specs.declared.cable.PortRef.{PortRef}
-use Rattle.route_audit.specs.Laws.{end_port_of}
-use Rattle.route_audit.specs.Plan.{PlanState, plan_of}
+use Rattle.lid_owners.specs.Laws.{end_port_of}
+use Rattle.audit_plan.specs.Plan.{PlanState, plan_of}
 use Rattle.printed_loads_laws.specs.Alike.{AreAlike, net_of}
 use Rattle.printed_loads_laws.specs.Laws.{IsOfEntries}
 

@@ -6,7 +6,7 @@ use Rattle.topo_file.specs.declared.node.Node.{Node}
 use Rattle.topo_file.specs.Node.{is_switch_at, name_at}
 use Rattle.topology_import.specs.Agreement.{guid_at}
 use Rattle.topology_import.specs.Nodes.{switch_guid_at}
-use Rattle.route_audit.specs.Plan.{plan_found}
+use Rattle.audit_plan.specs.Plan.{plan_found}
 use Rattle.cable_load.specs.Tops.{top_switches}
 
 -- the GUIDs that the top switches have in the topology

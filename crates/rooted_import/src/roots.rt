@@ -4,13 +4,13 @@ ghost use Rattle.std.specs.Prelude.{◌≡◌, ◌++◌, flat_map, map, IfOk, On
 ghost use Rattle.topo_file.specs.Node.{is_switch_at};
 ghost use Rattle.topology_import.specs.Agreement.{guid_at};
 ghost use Rattle.topology_import.specs.Nodes.{switch_guid, switch_guid_at};
-ghost use Rattle.route_audit.specs.Plan.{plan_found};
+ghost use Rattle.audit_plan.specs.Plan.{plan_found};
 ghost use Rattle.cable_load.specs.Tops.{top_switches};
 ghost use Rattle.rooted_import.specs.Roots.{is_among, is_wanted, root_line, roots_of, top_guids};
 
+use audit_plan::Plan;
 use cable_load::top_switches;
 use netdiscover_file::{Discovery, Node as FoundNode};
-use route_audit::Plan;
 use std::alloc::{AllocError, Global};
 use topo_file::{Node, name_at};
 

@@ -4,12 +4,13 @@ use Rattle.std.specs.List.{list_any}
 use Rattle.std.proofs.lemmas.Bool.{and_from, and_parts, cases_Bool, eq-eqb, false≢true, ltb-false, ltb-true, or_right}
 use Rattle.fabric_parts.specs.Cable.{port}
 use Rattle.fabric_parts.specs.declared.cable.PortRef.{PortRef}
-use Rattle.route_audit.specs.declared.lids.Aim.{Aim}
+use Rattle.lid_owners.specs.declared.lids.Aim.{Aim}
 use Rattle.route_audit.specs.Audit.{behind, leaves_by_both, lids_of}
-use Rattle.route_audit.specs.Channels.{depends, leads_to, leaves_by}
-use Rattle.route_audit.specs.Laws.{LoopsAreClosedByTheirLids, is_cycle, wait_round}
-use Rattle.route_audit.specs.Net.{NetState}
-use Rattle.route_audit.proofs.CycleLawLemmas.{reported_loops_wait}
+use Rattle.credit_loops.specs.Channels.{depends, leads_to, leaves_by}
+use Rattle.route_audit.specs.Laws.{LoopsAreClosedByTheirLids}
+use Rattle.credit_loops.specs.Laws.{is_cycle, wait_round}
+use Rattle.audit_net.specs.Net.{NetState}
+use Rattle.credit_loops.proofs.CycleLawLemmas.{reported_loops_wait}
 
 -- ---- each channel of a cycle waits for the one behind it
 waits_next : (waits : PortRef → PortRef → Bool) (first : PortRef) (ring : List PortRef) (index : ℕ) → wait_round waits first ring ≡ true → index + 1 < length ring

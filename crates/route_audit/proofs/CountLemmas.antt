@@ -1,8 +1,8 @@
 -- Pairs are counted once each.
 use Rattle.std.proofs.Common.{◌≡◌, refl, ℕ, ◌+◌, cond, List, [], ◌∷◌, arith}
 use Rattle.std.proofs.lemmas.List.Sums.{sum_by-cons}
-use Rattle.route_audit.specs.declared.following.Fate.{Fate}
-use Rattle.route_audit.specs.declared.following.Fate.TheVariants as fates
+use Rattle.audit_net.specs.declared.following.Fate.{Fate}
+use Rattle.audit_net.specs.declared.following.Fate.TheVariants as fates
 use Rattle.route_audit.specs.declared.pairs.Pair.{Pair}
 use Rattle.route_audit.specs.Laws.{CountsAddUp}
 use Rattle.route_audit.specs.Pairs.{count_of, is_fate}

@@ -1,34 +1,9 @@
--- Entries, ports and lines, computed.
+-- Lines, computed.
 use Rattle.std.proofs.Common.{refl}
 use Rattle.std.specs.Fmt.{digits}
 use Rattle.route_audit.specs.Audit.{aggregation_line, count_line, counts_by, lost_part, other_part, reached_part}
 use Rattle.route_audit.specs.Verdict.{reasons, safe_words, verdict_line}
-use Rattle.route_audit.specs.Examples.{AttachedAreReported, CountsAreReported, DeadlocksAreReported, EntriesAreReported, KindsAreReported, LacksAreReported, PortsAreFound, TroublesAreReported, VerdictsAreReported}
-
-pub entries_are_reported : EntriesAreReported
-entries_are_reported = record {
-  there = refl;
-  closed = refl;
-  without_row = refl;
-  of_many_ports = refl;
-  closed_of_many = refl;
-  left_out = refl;
-  above_a_multiple = refl;
-  below_the_top = refl;
-  without_table = refl;
-  has_the_row = refl;
-}
-
-pub ports_are_found : PortsAreFound
-ports_are_found = record {
-  switch = refl;
-  port_of_a_switch = refl;
-  node = refl;
-  first = refl;
-  last = refl;
-  past = refl;
-  of_another = refl;
-}
+use Rattle.route_audit.specs.Examples.{CountsAreReported, DeadlocksAreReported, LacksAreReported, TroublesAreReported, VerdictsAreReported}
 
 pub troubles_are_reported : TroublesAreReported
 unfolding digits
@@ -40,13 +15,7 @@ deadlocks_are_reported = record { to_the_adapter = refl; none = refl }
 
 pub lacks_are_reported : LacksAreReported
 unfolding digits
-lacks_are_reported = record { table = refl; has_table = refl; switch = refl; has_switch = refl; end_port = refl; lid = refl; untold = refl; told = refl; has_lid = refl }
-
-pub kinds_are_reported : KindsAreReported
-kinds_are_reported = record { switch = refl; further = refl; adapter = refl; router = refl; lacking = refl; not_lacking = refl; router_lacking = refl }
-
-pub attached_are_reported : AttachedAreReported
-attached_are_reported = record { first = refl; second = refl }
+lacks_are_reported = record { has_the_row = refl; table = refl; has_table = refl; switch = refl; has_switch = refl; end_port = refl; lid = refl; untold = refl; told = refl; has_lid = refl }
 
 pub verdicts_are_reported : VerdictsAreReported
 unfolding reasons safe_words verdict_line

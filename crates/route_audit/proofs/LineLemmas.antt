@@ -1,9 +1,9 @@
 -- Lines of numbers that are counted otherwise.
 use Rattle.std.proofs.Common.{◌≡◌, ap, refl, ℕ, ◌*◌, List, [], ◌∷◌, ◌++◌, map, flat_map}
 use Rattle.std.specs.List.{range_with_len}
-use Rattle.route_audit.specs.declared.lids.Aim.{Aim}
+use Rattle.lid_owners.specs.declared.lids.Aim.{Aim}
 use Rattle.route_audit.specs.Lines.{multiples, unreported_line, unreported_lines}
-use Rattle.route_audit.specs.Net.{NetState}
+use Rattle.audit_net.specs.Net.{NetState}
 
 flat_mapped : (f : ℕ → List ℕ) (g : ℕ → ℕ) (xs : List ℕ) → flat_map (λ x. f (g x)) xs ≡ flat_map f (map g xs)
 flat_mapped f g [] = refl

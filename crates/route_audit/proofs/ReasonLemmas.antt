@@ -1,14 +1,14 @@
 -- A verdict that is not safe has a reason, and each reason is named if and only if it holds.
 use Rattle.std.proofs.Common.{ℕ, ◌≡◌, ◌∙◌, refl, sym, ◌&&◌, Bool, true, false, not, ◌||◌, List, [], ◌∷◌, codes, Option}
 use Rattle.std.proofs.lemmas.Bool.{false≢true}
-use Rattle.route_audit.specs.declared.following.Fate.{Fate}
-use Rattle.route_audit.specs.declared.following.Fate.TheVariants as fates
+use Rattle.audit_net.specs.declared.following.Fate.{Fate}
+use Rattle.audit_net.specs.declared.following.Fate.TheVariants as fates
 use Rattle.route_audit.specs.declared.pairs.Pair.{Pair}
 use Rattle.fabric_parts.specs.declared.cable.PortRef.{PortRef}
-use Rattle.route_audit.specs.declared.lids.Aim.{Aim}
+use Rattle.lid_owners.specs.declared.lids.Aim.{Aim}
 use Rattle.route_audit.specs.declared.verdict.Verdict.{Verdict}
 use Rattle.route_audit.specs.Laws.{UnsafeRoutesHaveAReason, has_word}
-use Rattle.route_audit.specs.Net.{NetState}
+use Rattle.audit_net.specs.Net.{NetState}
 use Rattle.route_audit.specs.Pairs.{all_reached, between_hosts, is_fate, pairs_by}
 use Rattle.route_audit.specs.Verdict.{reasons, some_lost, some_unknown, verdict_by, verdict_is_safe, with_reason}
 

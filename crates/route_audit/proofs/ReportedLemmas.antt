@@ -1,6 +1,5 @@
 -- What is safe is reported to be.
-use Rattle.std.proofs.Common.{◌≡◌, ◌∙◌, inl, inr, ap, refl, sym, ℕ, zero, suc, ◌+◌, ◌<◌, ◌≤◌, Bool, true, false, not, ◌==◌, List, [], ◌∷◌, ◌++◌, length, filter, map, flat_map, slice_get, arith}
-use Rattle.std.proofs.Common.{Option, Some, None, is_none}
+use Rattle.std.proofs.Common.{◌≡◌, ◌∙◌, inl, inr, ap, refl, sym, ℕ, zero, suc, ◌+◌, ◌<◌, ◌≤◌, Bool, true, false, not, ◌==◌, List, [], ◌∷◌, ◌++◌, length, filter, map, flat_map, slice_get, arith, Option, Some, None, is_none}
 use Rattle.std.specs.List.{list_all, list_any, range_with_len}
 use Rattle.std.specs.Option.{option_map_or}
 use Rattle.std.proofs.lemmas.Bool.{and_from, cases_Bool, eq-eqb, false≢true, or_left, or_right}
@@ -15,24 +14,26 @@ use Rattle.fabric_parts.specs.declared.cable.Cable.{Cable}
 use Rattle.fabric_parts.specs.declared.cable.PortRef.{PortRef}
 use Rattle.topo_file.specs.Connectivity.{switches}
 use Rattle.topo_file.specs.Node.{is_switch_at, ports_at}
-use Rattle.route_audit.specs.declared.following.Fate.TheVariants as fates
-use Rattle.route_audit.specs.declared.following.Turn.{Turn}
-use Rattle.route_audit.specs.declared.following.Turn.TheVariants as turns
-use Rattle.route_audit.specs.declared.lids.Aim.{Aim}
+use Rattle.audit_net.specs.declared.following.Fate.TheVariants as fates
+use Rattle.audit_net.specs.declared.following.Turn.{Turn}
+use Rattle.audit_net.specs.declared.following.Turn.TheVariants as turns
+use Rattle.lid_owners.specs.declared.lids.Aim.{Aim}
 use Rattle.route_audit.specs.declared.pairs.Pair.{Pair}
-use Rattle.route_audit.specs.Attached.{carries_host, leads_to_host}
+use Rattle.audit_net.specs.Attached.{carries_host, leads_to_host}
 use Rattle.route_audit.specs.Audit.{audit_of, credit_loop}
-use Rattle.route_audit.specs.Channels.{deadlock}
-use Rattle.route_audit.specs.Following.{end_from, fate_by, turn}
-use Rattle.route_audit.specs.Laws.{AreSafe, CarriesAHost, IsOfKind, NameTheSame, SafeRoutesAreReported, end_port_of, other_lids, says_safe}
-use Rattle.route_audit.specs.Lids.{aim_of, aims, all_lids, has_lid, have_lids, is_known_lid, is_lacking, is_of, is_of_fabric, known_lids, says_of_fabric}
-use Rattle.route_audit.specs.Net.{NetState, has_table, row_at}
-use Rattle.route_audit.specs.Plan.{is_host}
+use Rattle.credit_loops.specs.Channels.{deadlock}
+use Rattle.audit_net.specs.Following.{end_from, fate_by, turn}
+use Rattle.route_audit.specs.Laws.{AreSafe, CarriesAHost, IsOfKind, NameTheSame, SafeRoutesAreReported, other_lids, says_safe}
+use Rattle.lid_owners.specs.Laws.{end_port_of}
+use Rattle.lid_owners.specs.Lids.{aim_of, aims, all_lids, has_lid, have_lids, is_known_lid, is_lacking, is_of, is_of_fabric, known_lids, says_of_fabric}
+use Rattle.audit_net.specs.Net.{NetState, has_table, row_at}
+use Rattle.audit_plan.specs.Plan.{is_host}
 use Rattle.route_audit.specs.Pairs.{all_reached, between_hosts, is_between_hosts, is_fate, pair_at, pair_to, pairs_at, pairs_by}
 use Rattle.route_audit.specs.Verdict.{goes_on_known, have_tables, is_known, is_unknown, knows_all, knows_entries, knows_next, name_the_same}
-use Rattle.route_audit.proofs.CycleLawLemmas.{reported_loops_wait}
-use Rattle.route_audit.proofs.EndlessLemmas.{in_kept, ways_are_followed}
-use Rattle.route_audit.proofs.SafeLemmas.{flat_mapped, has_end, in_lids, reported_is_safe}
+use Rattle.credit_loops.proofs.CycleLawLemmas.{reported_loops_wait}
+use Rattle.audit_net.proofs.EndlessLemmas.{in_kept, ways_are_followed}
+use Rattle.route_audit.proofs.SafeLemmas.{flat_mapped, has_end, reported_is_safe}
+use Rattle.lid_owners.proofs.LidLemmas.{in_lids}
 
 itself : (at : PortRef) → is_same_port at at ≡ true
 itself at =

@@ -1,6 +1,5 @@
 -- What is reported to be safe is.
-use Rattle.std.proofs.Common.{◌≡◌, ◌∙◌, inl, inr, ap, ap₂, refl, subst, sym, ℕ, zero, suc, ◌+◌, ◌<◌, ◌≤◌, nat_lt, Bool, true, false, not, ◌==◌, if◌then◌else◌, List, [], ◌∷◌, ◌++◌, filter, length, map, flat_map, slice_get, arith}
-use Rattle.std.proofs.Common.{Option, Some, None, is_none, is_some}
+use Rattle.std.proofs.Common.{◌≡◌, ◌∙◌, inl, inr, ap, ap₂, refl, subst, sym, ℕ, zero, suc, ◌+◌, ◌<◌, ◌≤◌, nat_lt, Bool, true, false, not, ◌==◌, if◌then◌else◌, List, [], ◌∷◌, ◌++◌, filter, length, map, flat_map, slice_get, arith, Option, Some, None, is_none, is_some}
 use Rattle.std.specs.List.{list_all, list_any, range_with_len}
 use Rattle.std.specs.Option.{option_and_then, option_map_or, option_or}
 use Rattle.std.proofs.lemmas.Bool.{and_from, and_parts, cases_Bool, eqb-true, false≢true, not-true, or_left, or_right}
@@ -20,22 +19,25 @@ use Rattle.step_results.proofs.ListLemmas.{all_there, any_map, list_any_weaker}
 use Rattle.topo_file.specs.Connectivity.{switches}
 use Rattle.topo_file.specs.Node.{is_switch_at, ports_at}
 use Rattle.topo_file.specs.declared.node.Node.{Node}
-use Rattle.route_audit.specs.declared.following.Fate.TheVariants as fates
-use Rattle.route_audit.specs.declared.following.Turn.{Turn}
-use Rattle.route_audit.specs.declared.following.Turn.TheVariants as turns
-use Rattle.route_audit.specs.declared.lids.Aim.{Aim}
+use Rattle.audit_net.specs.declared.following.Fate.TheVariants as fates
+use Rattle.audit_net.specs.declared.following.Turn.{Turn}
+use Rattle.audit_net.specs.declared.following.Turn.TheVariants as turns
+use Rattle.lid_owners.specs.declared.lids.Aim.{Aim}
 use Rattle.route_audit.specs.declared.pairs.Pair.{Pair}
-use Rattle.route_audit.specs.Attached.{carries_host, leads_to_host}
+use Rattle.audit_net.specs.Attached.{carries_host, leads_to_host}
 use Rattle.route_audit.specs.Audit.{audit_of, credit_loop}
-use Rattle.route_audit.specs.Following.{end_from, fate_by, switch_total, turn}
-use Rattle.route_audit.specs.Laws.{AreSafe, CarriesAHost, EndsBy, IsAdaptersEnd, IsOfKind, NameTheSame, end_port_of, other_lids, says_safe}
-use Rattle.route_audit.specs.Lids.{aim_of, aims, all_lids, end_by, has_lid, have_lids, if_of_kind, is_known_lid, is_lacking, is_named, is_of, is_of_fabric, is_of_kind, known_lids, owner_of, reported_end, says_kind, says_of_fabric}
-use Rattle.route_audit.specs.Plan.{is_host, port_of}
-use Rattle.route_audit.specs.Net.{NetState, has_table, row_at, row_of, table_of}
+use Rattle.audit_net.specs.Following.{end_from, fate_by, switch_total, turn}
+use Rattle.route_audit.specs.Laws.{AreSafe, CarriesAHost, IsAdaptersEnd, IsOfKind, NameTheSame, other_lids, says_safe}
+use Rattle.audit_net.specs.Laws.{EndsBy}
+use Rattle.lid_owners.specs.Laws.{end_port_of}
+use Rattle.lid_owners.specs.Lids.{aim_of, aims, all_lids, end_by, has_lid, have_lids, if_of_kind, is_known_lid, is_lacking, is_named, is_of, is_of_fabric, is_of_kind, known_lids, owner_of, reported_end, says_kind, says_of_fabric}
+use Rattle.audit_plan.specs.Plan.{is_host, port_of}
+use Rattle.audit_net.specs.Net.{NetState, has_table, row_at, row_of, table_of}
 use Rattle.route_audit.specs.Pairs.{all_reached, between_hosts, is_between_hosts, is_fate, pair_at, pair_to, pairs_at, pairs_by}
 use Rattle.route_audit.specs.Verdict.{goes_on_known, have_tables, is_known, is_unknown, knows_all, knows_entries, knows_next, name_the_same}
-use Rattle.route_audit.proofs.CycleLawLemmas.{no_cycle_is_missed}
-use Rattle.route_audit.proofs.EndlessLemmas.{in_kept, in_range, is_listed, way_there}
+use Rattle.credit_loops.proofs.CycleLawLemmas.{no_cycle_is_missed}
+use Rattle.audit_net.proofs.EndlessLemmas.{in_kept, in_range, is_listed, way_there}
+use Rattle.lid_owners.proofs.LidLemmas.{in_lids}
 
 abbrev is_reached : Pair → Bool
 is_reached pair = is_fate fates.Reached pair.fate
@@ -87,10 +89,6 @@ has_end net lid end is = by (owner_of net lid) refl is
     by : (o : Option ℕ) → owner_of net lid ≡ o → end_by net lid o ≡ Some end → is_known_lid net lid ≡ true
     by (Some guid) owner found = owner_known net lid guid owner
     by None owner found = cc
-
-pub in_lids : (lid : ℕ) → lid < 65536 → list_any (λ n. n == lid) all_lids ≡ true
-unfolding all_lids
-in_lids lid below = in_range lid 0 65536 (omega arith) (omega (arith, below))
 
 -- ---- what is reached ends there
 pub same_port : (a b : PortRef) → is_same_port a b ≡ true → a ≡ b

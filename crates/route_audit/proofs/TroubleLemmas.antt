@@ -1,6 +1,5 @@
 -- What is wrong has its line.
-use Rattle.std.proofs.Common.{◌≡◌, ◌∙◌, ◌⊎◌, inl, inr, ap, refl, subst, sym, ℕ, zero, suc, ◌+◌, ◌-◌, ◌<◌, ◌≤◌, Bool, true, false, ◌==◌, nat_le, List, [], ◌∷◌, length, ◌++◌, codes, flat_map, arith}
-use Rattle.std.proofs.Common.{Option, Some, None, is_some, option_map}
+use Rattle.std.proofs.Common.{◌≡◌, ◌∙◌, ◌⊎◌, inl, inr, ap, refl, subst, sym, ℕ, zero, suc, ◌+◌, ◌-◌, ◌<◌, ◌≤◌, Bool, true, false, ◌==◌, nat_le, List, [], ◌∷◌, length, ◌++◌, codes, flat_map, arith, Option, Some, None, is_some, option_map}
 use Rattle.std.specs.List.{list_any}
 use Rattle.std.proofs.lemmas.Bool.{and_from, cases_Bool, cases_lt, false≢true}
 use Rattle.std.proofs.lemmas.Bool.Decides.{nat_tests}
@@ -11,15 +10,16 @@ use Rattle.fabric_parts.specs.declared.cable.PortRef.{PortRef}
 use Rattle.step_results.proofs.DistinctLemmas.{all_differ, distinct}
 use Rattle.topo_file.specs.Connectivity.{switches}
 use Rattle.topo_file.specs.Node.{is_switch_at}
-use Rattle.route_audit.specs.declared.following.Turn.{Turn}
-use Rattle.route_audit.specs.declared.following.Turn.TheVariants as turns
-use Rattle.route_audit.specs.declared.following.Fate.TheVariants as fates
-use Rattle.route_audit.specs.Following.{back, end_from, end_within, fate_by, if_goes, loop_from, switch_total, then_end, turn}
-use Rattle.route_audit.specs.Laws.{ComesBy, EndsBy, HasItsLine, IsWay, NeverEnds, EachTroubleHasALine}
-use Rattle.route_audit.specs.Lids.{aim_of}
+use Rattle.audit_net.specs.declared.following.Turn.{Turn}
+use Rattle.audit_net.specs.declared.following.Turn.TheVariants as turns
+use Rattle.audit_net.specs.declared.following.Fate.TheVariants as fates
+use Rattle.audit_net.specs.Following.{back, end_from, end_within, fate_by, if_goes, loop_from, switch_total, then_end, turn}
+use Rattle.audit_net.specs.Laws.{ComesBy, EndsBy, IsWay, NeverEnds}
+use Rattle.route_audit.specs.Laws.{HasItsLine, EachTroubleHasALine}
+use Rattle.lid_owners.specs.Lids.{aim_of}
 use Rattle.route_audit.specs.Lines.{is_least, left_out_line, lid_text, line_by, loop_line, name_text, name_word, nobodys_line, stray_line, trouble_line, trouble_to, unplaced_line}
-use Rattle.route_audit.specs.Net.{NetState, table_at}
-use Rattle.route_audit.proofs.EndlessLemmas.{is_listed, loops_never_end, turn_goes, way_there}
+use Rattle.audit_net.specs.Net.{NetState, table_at}
+use Rattle.audit_net.proofs.EndlessLemmas.{is_listed, loops_never_end, turn_goes, way_there}
 
 module _ (net : NetState) (lid : ℕ) where
   -- ---- what goes on for ever

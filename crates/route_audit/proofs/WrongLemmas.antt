@@ -1,54 +1,33 @@
 -- What wrong rules report of two switches.
-use Rattle.std.proofs.Common.{◌≡◌, ◌∙◌, ◌==◌, ◌≤◌, ◌<◌, ◌+◌, ◌||◌, inl, inr, ℕ, zero, suc, nat_le, nat_lt, Bool, true, false, List, Option, Some, None, is_some, ap, filter, lit<, map, refl, sym, [], ◌∷◌}
-use Rattle.std.proofs.Common.{arith}
+use Rattle.std.proofs.Common.{◌≡◌, ◌∙◌, ◌==◌, ◌≤◌, ◌<◌, ◌+◌, ◌||◌, inl, inr, ℕ, zero, suc, nat_le, nat_lt, true, false, List, Option, Some, None, is_some, ap, filter, lit<, map, refl, sym, [], ◌∷◌, arith}
 use Rattle.std.specs.List.{list_all, list_any, range_with_len}
-use Rattle.std.specs.Option.{option_map_or}
 use Rattle.std.proofs.lemmas.Bool.{cases_Bool, false≢true}
 use Rattle.std.proofs.lemmas.Bool.Decides.{nat_tests}
-use Rattle.dump_file.specs.Row.{end_of}
 use Rattle.dump_file.specs.Table.{rows_of}
 use Rattle.dump_file.specs.declared.row.Row.{Row}
 use Rattle.fabric_parts.specs.Cable.{port}
 use Rattle.step_results.proofs.ListLemmas.{none_passes}
-use Rattle.route_audit.specs.declared.following.Fate.TheVariants as fates
-use Rattle.route_audit.specs.declared.following.Turn.TheVariants as turns
-use Rattle.route_audit.specs.declared.lids.Aim.{Aim}
+use Rattle.audit_net.specs.declared.following.Fate.TheVariants as fates
+use Rattle.audit_net.specs.declared.following.Turn.TheVariants as turns
+use Rattle.lid_owners.specs.declared.lids.Aim.{Aim}
 use Rattle.topo_file.specs.Node.{is_switch_at}
 use Rattle.route_audit.specs.Audit.{audit_of}
-use Rattle.route_audit.specs.Channels.{depends}
-use Rattle.route_audit.specs.Following.{end_within}
-use Rattle.route_audit.specs.Laws.{CarriesAHost, ComesBy, IsWay, is_cycle, other_lids, says_safe}
-use Rattle.route_audit.specs.Lids.{aim_of, aims, all_lids, is_known_lid, is_named, reported_by}
-use Rattle.route_audit.specs.Net.{NetState, table_at}
+use Rattle.credit_loops.specs.Channels.{depends}
+use Rattle.audit_net.specs.Following.{end_within}
+use Rattle.route_audit.specs.Laws.{CarriesAHost, other_lids, says_safe}
+use Rattle.audit_net.specs.Laws.{ComesBy, IsWay}
+use Rattle.credit_loops.specs.Laws.{is_cycle}
+use Rattle.lid_owners.specs.Lids.{aim_of, aims, all_lids, is_known_lid, is_named, reported_by}
+use Rattle.audit_net.specs.Net.{NetState, table_at}
 use Rattle.route_audit.specs.Verdict.{is_unknown}
-use Rattle.route_audit.specs.declared.ends.LidGuid.{LidGuid}
-use Rattle.route_audit.specs.WrongRules.{AggregationDecidesNothing, UnknownEntriesDecide, an_aggregations_hole, an_unknown_entry, to_each_adapter, with_unknown}
-use Rattle.route_audit.specs.WrongRules.{EachStepHasItsLid, LidsGoOnRound, LostPairsAreAReason, ReasonsHold, all_three, both_ways, one_way, three_ways}
-use Rattle.route_audit.specs.WrongRules.{FirstPortsAreChannels, HolesAreCounted, HolesHaveALine, LidsAreAsked, LoopsBeginWhereReported, LoopsHaveALine, NobodysLoopsHaveALine, OtherLidsDecide}
-use Rattle.route_audit.specs.WrongRules.{OtherLidsDoNotCount, OtherPortsDecide, OtherTablesDecide, OldLidsDoNotCount, OthersHolesHaveALine, ReportedLidsCount, ReportsComeLast, RowsLeftOutHaveALine, TheLastWaitsForTheFirst, TransitDecidesNothing, TwoMakeACycle, WaysAreAsked}
-use Rattle.route_audit.specs.WrongRules.{WaysAreLonger, a_row_left_out, one_reports, two_say, a_hole, a_hole_at_home, a_loop, a_nobodys_loop, a_routers_hole, a_routers_loop, a_third_table, adapters_row, another_adapter, another_row, by_adapters_lids}
-use Rattle.route_audit.specs.WrongRules.{from_each_switch, is_going, is_hole, no_lids, silent_of_nobody, silent_where, two_switches, two_with, with_other_ports, with_other_tables, with_rows, without_lids, without_ways}
-use Rattle.route_audit.proofs.LidLemmas.{filter_alike, or_last}
+use Rattle.audit_plan.specs.declared.ends.LidGuid.{LidGuid}
+use Rattle.route_audit.specs.WrongRules.{AggregationDecidesNothing, UnknownEntriesDecide, an_aggregations_hole, an_unknown_entry, to_each_adapter, with_unknown, EachStepHasItsLid, LidsGoOnRound, LostPairsAreAReason, ReasonsHold, all_three, both_ways, one_way, three_ways, HolesAreCounted, HolesHaveALine, LidsAreAsked, LoopsHaveALine, NobodysLoopsHaveALine, OtherLidsDecide, OtherPortsDecide, OtherTablesDecide, OthersHolesHaveALine, RowsLeftOutHaveALine, TransitDecidesNothing, WaysAreAsked, a_row_left_out, a_hole_at_home, a_loop, a_nobodys_loop, a_routers_hole, a_routers_loop, a_third_table, another_adapter, another_row, by_adapters_lids, from_each_switch, is_going, is_hole, no_lids, silent_of_nobody, silent_where, with_other_ports, with_other_tables, without_lids, without_ways}
+use Rattle.audit_net.specs.SmallNets.{a_hole, adapters_row, two_with, with_rows}
+use Rattle.lid_owners.proofs.LidLemmas.{filter_alike, or_last}
 use Rattle.route_audit.proofs.SafeLemmas.{reported_is_safe}
-
-pub ways_are_longer : WaysAreLonger
-ways_are_longer law = let none = law (two_switches 1 0) 1 0 refl refl 2 in cc
 
 pub holes_are_counted : HolesAreCounted
 holes_are_counted law = let none : ◌≡◌ {A = ℕ} 0 1 = law (record { from_hosts = true; to_host = true; to_switch = false; fate = fates.Hole } ∷ []) in cc
-
-pub first_ports_are_channels : FirstPortsAreChannels
-first_ports_are_channels law =
-    false≢true ((law (two_switches 1 1) (port 0 1)).1 (record { switch = refl; low = omega arith; high = omega arith; there = port 1 1; cable = refl; to_switch = refl }))
-
-pub other_lids_do_not_count : OtherLidsDoNotCount
-other_lids_do_not_count law = false≢true (law (two_switches 1 1) [] (port 0 1 ∷ port 1 1 ∷ []) refl).1
-
-pub two_make_a_cycle : TwoMakeACycle
-two_make_a_cycle law = false≢true (sym (law (two_switches 1 1) (1 ∷ []) refl (port 0 1 ∷ port 1 1 ∷ []) refl))
-
-pub the_last_waits_for_the_first : TheLastWaitsForTheFirst
-the_last_waits_for_the_first law = false≢true (law (two_switches 1 1) (1 ∷ []) (port 0 1 ∷ []) refl).1
 
 abbrev lid_of : Option Aim → ℕ
 lid_of (Some aim) = aim.lid
@@ -65,13 +44,6 @@ each_step_has_its_lid law =
     let closed = law three_ways all_three (port 0 1 ∷ port 1 1 ∷ port 2 1 ∷ []) 1 refl (omega arith) in
     let named : ◌≡◌ {A = ℕ} 1 closed.aim.lid = ap lid_of closed.is in
     false≢true (ap (λ (lid : ℕ). depends three_ways (lid ∷ []) (port 1 1) (port 2 1)) named ∙ closed.waits)
-
-pub loops_begin_where_reported : LoopsBeginWhereReported
-loops_begin_where_reported law =
-    let reported = law (two_switches 1 1) 1 0 (1 ∷ []) refl in
-    let same : 1 ∷ [] ≡ 0 ∷ reported.0 = reported.1 in
-    let first : ◌≡◌ {A = ℕ} 1 0 = cc in
-    false≢true (sym (ap (λ (n : ℕ). n == 1) first) ∙ refl)
 
 -- ---- LIDs that few rows name
 none_named : (rows : List Row) (bound first many : ℕ) → bound ≤ first → list_all (λ (row : Row). nat_lt row.lid bound) rows ≡ true
@@ -245,25 +217,3 @@ pub rows_left_out_have_a_line : RowsLeftOutHaveALine
 rows_left_out_have_a_line law =
     let line = law.unknown a_row_left_out 64 1 257 refl refl comes_to_tables ([], (refl, λ next same. let e : turns.Unknown ≡ turns.Goes next = same in cc)) in
     line.reported (unknown_is_silent line.there line.way line.comes)
-
--- ---- whose LIDs are
-abbrev is_257 : Option ℕ → Bool
-is_257 o = option_map_or (λ n. n == 257) o false
-
-pub reports_come_last : ReportsComeLast
-reports_come_last law = false≢true (ap is_257 (law.said two_say 1 257 refl))
-
-pub old_lids_do_not_count : OldLidsDoNotCount
-old_lids_do_not_count law = elim (law.free two_say 2 257 refl) [
-  | inl said ↦ let none : None ≡ Some 257 = said in cc
-  | inr free ↦ free.2 1 (lit< tt) refl
-]
-
-pub reported_lids_count : ReportedLidsCount
-reported_lids_count law = false≢true (law.some one_reports 3 513 (refl, refl, one_has_no_row))
-  where
-    one_has_no_row : (other : ℕ) → other < 65536 → end_of other (rows_of one_reports.dump.tables) ≡ Some 513 → ⊥
-    one_has_no_row other below is = elim (cases_Bool (1 == other)) [
-      | inl here ↦ let said : Some 257 ≡ Some 513 = rw here at is in false≢true (sym (ap is_257 said))
-      | inr apart ↦ let none : None ≡ Some 513 = rw apart at is in cc
-    ]

@@ -6,17 +6,17 @@ use Rattle.fabric_parts.specs.Cable.{port}
 use Rattle.fabric_parts.specs.declared.cable.PortRef.{PortRef}
 use Rattle.netdiscover_file.specs.Discovery.{DiscoveryState}
 use Rattle.topo_file.specs.Topology.{TopologyState}
-use Rattle.route_audit.specs.declared.following.Fate.TheVariants as fates
-use Rattle.route_audit.specs.declared.lids.Aim.{Aim}
+use Rattle.audit_net.specs.declared.following.Fate.TheVariants as fates
+use Rattle.lid_owners.specs.declared.lids.Aim.{Aim}
 use Rattle.route_audit.specs.declared.pairs.Pair.{Pair}
 use Rattle.route_audit.specs.declared.verdict.Verdict.{Verdict}
-use Rattle.route_audit.specs.Channels.{deadlock, leaves_by}
-use Rattle.route_audit.specs.Lids.{aims, is_others}
+use Rattle.credit_loops.specs.Channels.{deadlock, leaves_by}
+use Rattle.lid_owners.specs.Lids.{aims}
+use Rattle.route_audit.specs.Verdict.{is_others, verdict_by, verdict_is_safe, verdict_line}
 use Rattle.route_audit.specs.Lines.{files_by, lid_text, port_text, troubles_by}
-use Rattle.route_audit.specs.Net.{NetState}
-use Rattle.route_audit.specs.Plan.{plan_found, plan_of}
+use Rattle.audit_net.specs.Net.{NetState}
+use Rattle.audit_plan.specs.Plan.{plan_found, plan_of}
 use Rattle.route_audit.specs.Pairs.{between_hosts, count_of, in_transit, pairs_by, to_aggregation, to_switches}
-use Rattle.route_audit.specs.Verdict.{verdict_by, verdict_is_safe, verdict_line}
 
 -- what is found: the lines, and whether the routes are safe
 pub record AuditState : Type 0 where

@@ -1,60 +1,20 @@
--- What entries, ports and lines are, in examples.
+-- What lines are, in examples.
 use Rattle.std.specs.Prelude.{ℕ, ◌≡◌, Bool, true, false, not, List, [], ◌∷◌, ◌++◌, codes, Some, None}
-use Rattle.dump_file.specs.declared.destination.Destination.{Destination}
-use Rattle.dump_file.specs.declared.destination.Destination.TheVariants.{ChannelAdapter as AdapterKind, FurtherLid, Nobody, Router, Switch as SwitchKind}
+use Rattle.dump_file.specs.declared.destination.Destination.TheVariants.{Nobody}
 use Rattle.dump_file.specs.declared.table.Table.{Table}
 use Rattle.fabric_parts.specs.Cable.{port}
-use Rattle.fabric_parts.specs.declared.node_type.NodeType.TheVariants.{ChannelAdapter}
-use Rattle.topo_file.specs.declared.node.Node.{Node}
-use Rattle.route_audit.specs.declared.entry.Entry.TheVariants.{Out, Missing, Unreported}
-use Rattle.route_audit.specs.declared.lids.Aim.{Aim}
+use Rattle.lid_owners.specs.declared.lids.Aim.{Aim}
 use Rattle.route_audit.specs.declared.verdict.Verdict.{Verdict}
-use Rattle.route_audit.specs.Attached.{carries_host}
 use Rattle.route_audit.specs.Audit.{count_line, counts_by, deadlock_words, ring_line}
-use Rattle.route_audit.specs.Lids.{aim_of, is_lacking}
+use Rattle.lid_owners.specs.Lids.{aim_of}
 use Rattle.text_parts.specs.Parts.{guid_text}
 use Rattle.route_audit.specs.Lines.{leaves_out, no_lid_lines, no_port_line, no_switch_line, no_table_line, stray_line, trouble_line, troubles_by, unreported_line}
-use Rattle.route_audit.specs.Net.{NetState, entry, entry_in}
+use Rattle.audit_net.specs.Net.{NetState}
 use Rattle.route_audit.specs.Pairs.{pairs_by}
-use Rattle.route_audit.specs.Plan.{ends_of, port_of}
 use Rattle.route_audit.specs.Verdict.{verdict_line}
-use Rattle.route_audit.specs.WrongRules.{a_hole, a_routers_hole, a_routers_loop, a_row_left_out, a_row, a_switch, a_table, two_with}
-
--- ---- entries: 255 leads nowhere, as no row does, but for a top that is a multiple of 64
-abbrev topped : ℕ → Table
-topped top = record (a_table 16 1) { top = top }
-
-pub record EntriesAreReported : Type 0 where
-  pub there : entry_in 2 1 (a_table 16 254) ≡ Out 254
-  pub closed : entry_in 2 1 (a_table 16 255) ≡ Missing
-  pub without_row : entry_in 127 2 (topped 64) ≡ Missing
-  pub of_many_ports : entry_in 128 2 (topped 64) ≡ Unreported
-  pub closed_of_many : entry_in 128 1 (a_table 16 255) ≡ Missing
-  pub left_out : entry_in 2 192 (topped 192) ≡ Unreported
-  pub above_a_multiple : entry_in 2 193 (topped 193) ≡ Missing
-  pub below_the_top : entry_in 2 64 (topped 192) ≡ Missing
-  pub without_table : entry a_hole 1 2 ≡ Unreported
-  pub has_the_row : leaves_out 1 (topped 1) ≡ false
-
--- ---- ports by their GUIDs
-abbrev an_adapter : ℕ → ℕ → Node
-an_adapter guid ports = record { name = codes "k"; node_type = ChannelAdapter; guid = guid; ports = ports }
-
-abbrev a_few : List Node
-a_few = a_switch (codes "A") 16 ∷ an_adapter 256 2 ∷ an_adapter 512 1 ∷ []
-
-pub record PortsAreFound : Type 0 where
-  pub switch : port_of (ends_of a_few) 16 ≡ Some (port 0 0)
-  pub port_of_a_switch : port_of (ends_of a_few) 17 ≡ None
-  pub node : port_of (ends_of a_few) 256 ≡ None
-  pub first : port_of (ends_of a_few) 257 ≡ Some (port 1 1)
-  pub last : port_of (ends_of a_few) 258 ≡ Some (port 1 2)
-  pub past : port_of (ends_of a_few) 259 ≡ None
-  pub of_another : port_of (ends_of a_few) 513 ≡ Some (port 2 1)
-
--- ---- lines: two switches, the first with an adapter, and their entries for its LID
-abbrev with_entries : ℕ → ℕ → NetState
-with_entries first second = record { plan = a_hole.plan; dump = record { tables = a_table 16 first ∷ a_table 32 second ∷ [] } }
+use Rattle.audit_net.specs.SmallNets.{a_hole, a_table, with_entries}
+use Rattle.route_audit.specs.WrongRules.{a_routers_hole, a_routers_loop, a_row_left_out}
+use Rattle.audit_net.specs.Examples.{topped}
 
 -- the LID of the adapter's port
 abbrev an_aim : Aim
@@ -90,6 +50,7 @@ pub record DeadlocksAreReported : Type 0 where
 
 -- what the files lack of one another
 pub record LacksAreReported : Type 0 where
+  pub has_the_row : leaves_out 1 (topped 1) ≡ false
   pub table : no_table_line (astray 2) 1 ≡ codes "no-table B\n"
   pub has_table : no_table_line (astray 2) 0 ≡ []
   pub switch : no_switch_line a_hole (a_table 256 1) ≡ codes "no-switch " ++ guid_text 256 ++ codes "\n"
@@ -99,24 +60,6 @@ pub record LacksAreReported : Type 0 where
   pub untold : unreported_line a_row_left_out [] 64 ≡ codes "untold 64\n"
   pub told : unreported_line a_row_left_out (record an_aim { lid = 64 } ∷ []) 64 ≡ []
   pub has_lid : no_lid_lines a_hole (an_aim ∷ []) (record { first = port 0 1; second = port 2 1 }) ≡ []
-
--- ---- a LID that a row gives to a channel adapter, or to a switch, is no other kind of port
-abbrev says_of_b : (ℕ → Destination) → NetState
-says_of_b kind = two_with (a_row 2 2 (kind 32) ∷ []) (a_row 2 0 (kind 32) ∷ [])
-
-pub record KindsAreReported : Type 0 where
-  pub switch : (aim_of (says_of_b SwitchKind) 2).end ≡ Some (port 1 0)
-  pub further : (aim_of (says_of_b FurtherLid) 2).end ≡ Some (port 1 0)
-  pub adapter : (aim_of (says_of_b AdapterKind) 2).end ≡ None
-  pub router : (aim_of (says_of_b Router) 2).end ≡ None
-  pub lacking : is_lacking (says_of_b AdapterKind) (aim_of (says_of_b AdapterKind) 2) ≡ true
-  pub not_lacking : is_lacking (says_of_b SwitchKind) (aim_of (says_of_b SwitchKind) 2) ≡ false
-  pub router_lacking : is_lacking (says_of_b Router) (aim_of (says_of_b Router) 2) ≡ false
-
--- ---- an adapter is attached to the first switch, and none to the second
-pub record AttachedAreReported : Type 0 where
-  pub first : carries_host a_hole 0 ≡ true
-  pub second : carries_host a_hole 1 ≡ false
 
 -- ---- counts
 pub record CountsAreReported : Type 0 where

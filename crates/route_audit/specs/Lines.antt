@@ -12,12 +12,12 @@ use Rattle.text_parts.specs.Parts.{guid_text, port_name}
 use Rattle.topo_file.specs.Connectivity.{switches}
 use Rattle.topo_file.specs.Node.{is_switch, name_at}
 use Rattle.topo_file.specs.declared.node.Node.{Node}
-use Rattle.route_audit.specs.declared.following.Turn.{Turn}
-use Rattle.route_audit.specs.declared.following.Turn.TheVariants as turns
-use Rattle.route_audit.specs.declared.lids.Aim.{Aim}
-use Rattle.route_audit.specs.Following.{loop_from, turn}
-use Rattle.route_audit.specs.Lids.{has_lid, is_named}
-use Rattle.route_audit.specs.Net.{NetState, has_table, is_left_out, row_of, table_at}
+use Rattle.audit_net.specs.declared.following.Turn.{Turn}
+use Rattle.audit_net.specs.declared.following.Turn.TheVariants as turns
+use Rattle.lid_owners.specs.declared.lids.Aim.{Aim}
+use Rattle.audit_net.specs.Following.{loop_from, turn}
+use Rattle.lid_owners.specs.Lids.{has_lid, is_named}
+use Rattle.audit_net.specs.Net.{NetState, has_table, is_left_out, row_of, table_at}
 
 -- ---- words of lines
 abbrev pub name_text : NetState → ℕ → List ℕ
@@ -93,6 +93,10 @@ files_by net all =
     ++ flat_map no_port_line all ++ flat_map (no_lid_lines net all) net.plan.cables ++ unreported_lines net all
 
 -- ---- what a switch does with a LID
+-- what such a line begins with
+abbrev pub words_at : List ℕ → NetState → ℕ → ℕ → Option PortRef → List ℕ
+words_at word net place lid end = word ++ name_text net place ++ codes " " ++ lid_text net lid end
+
 -- `hole A 24 (h3/1)`, `nowhere D 3 (h2/1) port 4`, `wrong C 1 (h1/1) h2/1`
 abbrev pub hole_line : NetState → ℕ → ℕ → Option PortRef → List ℕ
 hole_line net place lid end = codes "hole " ++ name_text net place ++ codes " " ++ lid_text net lid end ++ 10 ∷ []

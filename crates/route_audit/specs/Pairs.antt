@@ -4,15 +4,15 @@ use Rattle.std.specs.List.{list_all}
 use Rattle.topo_file.specs.Connectivity.{switches}
 use Rattle.topo_file.specs.Node.{is_switch_at}
 use Rattle.fabric_parts.specs.declared.cable.PortRef.{PortRef}
-use Rattle.route_audit.specs.declared.following.Fate.{Fate}
-use Rattle.route_audit.specs.declared.following.Fate.TheVariants as fates
-use Rattle.route_audit.specs.declared.lids.Aim.{Aim}
+use Rattle.audit_net.specs.declared.following.Fate.{Fate}
+use Rattle.audit_net.specs.declared.following.Fate.TheVariants as fates
+use Rattle.lid_owners.specs.declared.lids.Aim.{Aim}
 use Rattle.route_audit.specs.declared.pairs.Pair.{Pair}
-use Rattle.route_audit.specs.Attached.{carries_host}
-use Rattle.route_audit.specs.Following.{fate}
-use Rattle.route_audit.specs.Lids.{aims}
-use Rattle.route_audit.specs.Net.{NetState}
-use Rattle.route_audit.specs.Plan.{is_host}
+use Rattle.audit_net.specs.Attached.{carries_host}
+use Rattle.audit_net.specs.Following.{fate}
+use Rattle.lid_owners.specs.Lids.{aims}
+use Rattle.audit_net.specs.Net.{NetState}
+use Rattle.audit_plan.specs.Plan.{is_host}
 
 -- ---- whether both are the same
 abbrev pub is_fate : Fate → Fate → Bool

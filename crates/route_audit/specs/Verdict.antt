@@ -4,17 +4,19 @@ use Rattle.std.specs.List.{list_all, list_any}
 use Rattle.dump_file.specs.declared.table.Table.{Table}
 use Rattle.fabric_parts.specs.declared.cable.PortRef.{PortRef}
 use Rattle.topo_file.specs.Connectivity.{switches}
-use Rattle.route_audit.specs.declared.lids.Aim.{Aim}
+use Rattle.lid_owners.specs.declared.lids.Aim.{Aim}
 use Rattle.route_audit.specs.declared.verdict.Verdict.{Verdict}
-use Rattle.route_audit.specs.Lids.{have_lids, is_lacking, is_others}
-use Rattle.route_audit.specs.declared.following.Turn.{Turn}
-use Rattle.route_audit.specs.declared.following.Turn.TheVariants as turns
-use Rattle.route_audit.specs.Following.{turn}
+use Rattle.lid_owners.specs.Lids.{have_lids, is_lacking}
+use Rattle.audit_net.specs.declared.following.Turn.{Turn}
+use Rattle.audit_net.specs.declared.following.Turn.TheVariants as turns
+use Rattle.audit_net.specs.Following.{turn}
 use Rattle.route_audit.specs.Lines.{has_switch}
-use Rattle.route_audit.specs.Net.{NetState, has_table}
-use Rattle.route_audit.specs.declared.following.Fate.TheVariants as fates
+use Rattle.audit_net.specs.Net.{NetState, has_table}
+use Rattle.audit_net.specs.declared.following.Fate.TheVariants as fates
 use Rattle.route_audit.specs.declared.pairs.Pair.{Pair}
 use Rattle.route_audit.specs.Pairs.{all_reached, between_hosts, is_fate, pairs_by}
+use Rattle.std.specs.Option.{option_map_or}
+use Rattle.topo_file.specs.Node.{is_switch_at}
 
 -- ---- the dump and the fabric name the same switches and ports of adapters
 -- each switch has a table, and there is one
@@ -56,6 +58,14 @@ some_lost pairs = list_any is_lost pairs
 
 abbrev pub some_unknown : List Pair → Bool
 some_unknown pairs = list_any (λ pair. is_fate fates.Unknown pair.fate) pairs
+
+-- its end port is a switch's
+abbrev pub is_switchs : NetState → Aim → Bool
+is_switchs net aim = option_map_or (λ end. is_switch_at net.plan.nodes end.node) aim.end false
+
+-- it is another LID: of an adapter's port, of a port that the fabric lacks, or of nobody
+abbrev pub is_others : NetState → Aim → Bool
+is_others net aim = not (is_switchs net aim)
 
 -- ---- the verdict, by the credit loop that was found
 abbrev pub verdict_by : NetState → List Aim → Option (List PortRef) → Verdict

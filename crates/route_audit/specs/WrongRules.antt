@@ -1,152 +1,35 @@
 -- Wrong rules for what is reported, and the law that each breaks.
-use Rattle.std.specs.Prelude.{ℕ, ◌==◌, nat_lt, ◌&&◌, Bool, true, false, not, List, [], ◌∷◌, ◌++◌, codes, count_by, filter, flat_map, is_some, length, find, get_or, if◌then◌else◌, Option, Some, None, option_map}
+use Rattle.std.specs.Prelude.{ℕ, ◌&&◌, Bool, true, false, not, List, [], ◌∷◌, ◌++◌, codes, count_by, filter, is_some, find, get_or, if◌then◌else◌, Option, None}
 use Rattle.std.specs.List.{list_all, list_any}
-use Rattle.std.specs.Option.{option_map_or, option_or}
-use Rattle.dump_file.specs.declared.destination.Destination.{Destination}
+use Rattle.std.specs.Option.{option_map_or}
 use Rattle.dump_file.specs.declared.destination.Destination.TheVariants as destinations
 use Rattle.dump_file.specs.declared.row.Row.{Row}
 use Rattle.dump_file.specs.declared.table.Table.{Table}
-use Rattle.dump_file.specs.Row.{end_of}
-use Rattle.dump_file.specs.Table.{rows_of}
 use Rattle.fabric_parts.specs.Cable.{port}
-use Rattle.fabric_parts.specs.declared.cable.Cable.{Cable}
 use Rattle.fabric_parts.specs.declared.cable.PortRef.{PortRef}
-use Rattle.fabric_parts.specs.declared.node_type.NodeType.TheVariants.{ChannelAdapter, Switch}
-use Rattle.netdiscover_file.specs.declared.ends.FarEnd.{FarEnd}
-use Rattle.netdiscover_file.specs.declared.kind.NodeKind.{NodeKind}
-use Rattle.netdiscover_file.specs.declared.kind.NodeKind.TheVariants as kinds
-use Rattle.netdiscover_file.specs.declared.node.Node.{Node as FoundNode}
-use Rattle.netdiscover_file.specs.declared.port.PortLine.{PortLine}
-use Rattle.netdiscover_file.specs.Agreement.{far_line}
-use Rattle.netdiscover_file.specs.Discovery.{DiscoveryState}
+use Rattle.fabric_parts.specs.declared.node_type.NodeType.TheVariants.{ChannelAdapter}
 use Rattle.topo_file.specs.Node.{is_switch_at}
 use Rattle.topo_file.specs.Topology.{TopologyState}
 use Rattle.topo_file.specs.declared.node.Node.{Node}
-use Rattle.route_audit.specs.declared.ends.LidGuid.{LidGuid}
-use Rattle.route_audit.specs.declared.following.Fate.{Fate}
-use Rattle.route_audit.specs.declared.following.Fate.TheVariants as fates
-use Rattle.route_audit.specs.declared.following.Turn.{Turn}
-use Rattle.route_audit.specs.declared.following.Turn.TheVariants as turns
-use Rattle.route_audit.specs.declared.lids.Aim.{Aim}
+use Rattle.audit_net.specs.declared.following.Fate.{Fate}
+use Rattle.audit_net.specs.declared.following.Fate.TheVariants as fates
+use Rattle.audit_net.specs.declared.following.Turn.{Turn}
+use Rattle.audit_net.specs.declared.following.Turn.TheVariants as turns
+use Rattle.lid_owners.specs.declared.lids.Aim.{Aim}
 use Rattle.route_audit.specs.declared.pairs.Pair.{Pair}
 use Rattle.route_audit.specs.declared.verdict.Verdict.{Verdict}
 use Rattle.route_audit.specs.Audit.{closing, credit_loop, lids_of}
-use Rattle.route_audit.specs.Channels.{channels, deadlock, leaves_by}
-use Rattle.route_audit.specs.Following.{end_within, loop_from, turn}
-use Rattle.route_audit.specs.Laws.{AddUp, MissesNone, NamesReasons, ReportsChannels, ReportsClosing, ReportsCycles, ReportsEndless, ReportsLoops, ReportsSafe, ReportsTroubles, RowsComeFirst, TakesTheCables, TakesTheLids}
-use Rattle.route_audit.specs.Lids.{aims, is_lacking}
+use Rattle.credit_loops.specs.Channels.{deadlock, leaves_by}
+use Rattle.audit_net.specs.Following.{turn}
+use Rattle.route_audit.specs.Laws.{AddUp, NamesReasons, ReportsClosing, ReportsSafe, ReportsTroubles}
+use Rattle.lid_owners.specs.Lids.{aims, is_lacking}
 use Rattle.route_audit.specs.Lines.{stray_line, trouble_line}
-use Rattle.route_audit.specs.Net.{NetState}
+use Rattle.audit_net.specs.Net.{NetState}
 use Rattle.route_audit.specs.Pairs.{all_reached, is_fate, pairs_by}
-use Rattle.route_audit.specs.Plan.{PlanState, joins_switch, line_lid, plan_found, plan_of, switch_lid}
+use Rattle.audit_plan.specs.Plan.{plan_of}
 use Rattle.route_audit.specs.Verdict.{have_tables, is_known, is_unknown, verdict_by, verdict_is_safe, with_reason}
-
--- ---- two ports of one node have no cable
-abbrev pub between_nodes : PortLine → PortLine → List Cable
-between_nodes line other = if nat_lt line.port.node other.port.node then record { first = line.port; second = other.port } ∷ [] else []
-
-abbrev pub cables_between_nodes : DiscoveryState → List Cable
-cables_between_nodes found = flat_map (λ line. option_map_or (between_nodes line) (far_line found.nodes found.ports line.far) []) found.ports
-
-abbrev pub without_plugs : DiscoveryState → PlanState
-without_plugs found = record (plan_found found) { cables = filter (joins_switch found.nodes) (cables_between_nodes found) }
-
-abbrev pub ANodeMayBeJoinedToItself : Type 0
-ANodeMayBeJoinedToItself = TakesTheCables without_plugs → ⊥
-
--- ---- no cable stands apart
-abbrev pub with_all_cables : DiscoveryState → PlanState
-with_all_cables found = record (plan_found found) { cables = (plan_found found).cables ++ (plan_found found).apart; apart = [] }
-
-abbrev pub AdaptersAreJoinedApart : Type 0
-AdaptersAreJoinedApart = TakesTheCables with_all_cables → ⊥
-
--- a switch with a cable between its two ports, and two adapters with a cable between them
-abbrev pub found_at : NodeKind → ℕ → FoundNode
-found_at kind guid = record { id = record { kind = kind; guid = guid }; ports = 2; name = []; lid = None; port_guid = None; line = 1 }
-
-abbrev pub leads : ℕ → ℕ → Option ℕ → FarEnd → PortLine
-leads place number guid far = record { port = port place number; guid = guid; lid = guid; far = far; line = 1 }
-
-abbrev pub far_at : NodeKind → ℕ → ℕ → Option ℕ → FarEnd
-far_at kind guid number own = record { node = record { kind = kind; guid = guid }; port = number; guid = own }
-
-abbrev pub a_plug : DiscoveryState
-a_plug = record {
-  nodes = found_at kinds.Switch 16 ∷ [];
-  ports = leads 0 1 None (far_at kinds.Switch 16 2 None) ∷ leads 0 2 None (far_at kinds.Switch 16 1 None) ∷ [];
-  initiator = None;
-}
-
-abbrev pub two_adapters : DiscoveryState
-two_adapters = record {
-  nodes = found_at kinds.ChannelAdapter 16 ∷ found_at kinds.ChannelAdapter 32 ∷ [];
-  ports = leads 0 1 (Some 17) (far_at kinds.ChannelAdapter 32 1 (Some 33)) ∷ leads 1 1 (Some 33) (far_at kinds.ChannelAdapter 16 1 (Some 17)) ∷ [];
-  initiator = None;
-}
-
--- ---- a LID counts that nobody was given
-abbrev pub any_lid : PortLine → List LidGuid
-any_lid line = option_map_or (λ guid. option_map_or (λ lid. (record { lid = lid; guid = guid }) ∷ []) line.lid []) line.guid []
-
-abbrev pub with_any_lids : DiscoveryState → List LidGuid
-with_any_lids found = flat_map switch_lid found.nodes ++ flat_map any_lid found.ports
-
-abbrev pub NobodyHasLid0 : Type 0
-NobodyHasLid0 = TakesTheLids with_any_lids → ⊥
-
-abbrev pub an_adapter_without_lid : DiscoveryState
-an_adapter_without_lid = record two_adapters { ports = record (leads 0 1 (Some 17) (far_at kinds.ChannelAdapter 32 1 (Some 33))) { lid = Some 0 } ∷ [] }
-
--- ---- of switches none counts
-abbrev pub without_switches : DiscoveryState → List LidGuid
-without_switches found = flat_map line_lid found.ports
-
-abbrev pub SwitchesHaveLids : Type 0
-SwitchesHaveLids = TakesTheLids without_switches → ⊥
-
-abbrev pub a_switch_with_lid : DiscoveryState
-a_switch_with_lid = record a_plug { nodes = record (found_at kinds.Switch 16) { lid = Some 5 } ∷ [] }
-
--- ---- two switches with a cable, and their entries for LID 1
-abbrev pub a_switch : List ℕ → ℕ → Node
-a_switch name guid = record { name = name; node_type = Switch; guid = guid; ports = 2 }
-
-abbrev pub a_table : ℕ → ℕ → Table
-a_table guid number =
-    record { line = 1; guid = guid; top = 1; rows = record { lid = 1; port = number; destination = destinations.ChannelAdapter 257 } ∷ [] }
-
-abbrev pub two_cabled : TopologyState
-two_cabled = record {
-  nodes = a_switch (codes "A") 16 ∷ a_switch (codes "B") 32 ∷ [];
-  cables = record { first = port 0 1; second = port 1 1 } ∷ [];
-  roots = [];
-  sm = port 0 2;
-}
-
-abbrev pub two_switches : ℕ → ℕ → NetState
-two_switches first second = record {
-  plan = plan_of two_cabled;
-  dump = record { tables = a_table 16 first ∷ a_table 32 second ∷ [] };
-}
-
--- ---- what does not end at the first switch never does
-abbrev pub end_at_once : NetState → ℕ → ℕ → Option Turn
-end_at_once net lid place = end_within net lid 1 place
-
-abbrev pub WaysAreLonger : Type 0
-WaysAreLonger = ReportsEndless end_at_once → ⊥
-
--- ---- a loop is reported without the switch where it is reported
-abbrev pub second_of : List ℕ → List ℕ
-second_of [] = []
-second_of (first ∷ rest) = rest
-
-abbrev pub from_the_next : NetState → ℕ → ℕ → Option (List ℕ)
-from_the_next net lid home = option_map second_of (loop_from net lid home)
-
-abbrev pub LoopsBeginWhereReported : Type 0
-LoopsBeginWhereReported = ReportsLoops from_the_next → ⊥
+use Rattle.audit_plan.specs.Examples.{a_switch}
+use Rattle.audit_net.specs.SmallNets.{a_plan, a_row, adapters_row, a_routers_row, with_rows, two_with, a_hole}
 
 -- ---- pairs that come to a hole are not counted
 abbrev pub count_but_holes : Fate → List Pair → ℕ
@@ -154,77 +37,6 @@ count_but_holes fate pairs = count_by (λ pair. is_fate fate pair.fate && not (i
 
 abbrev pub HolesAreCounted : Type 0
 HolesAreCounted = AddUp count_but_holes → ⊥
-
--- ---- the first port of a switch is no channel
-abbrev pub behind_the_first : NetState → List PortRef
-behind_the_first net = filter (λ at. nat_lt 1 at.port) (channels net)
-
-abbrev pub FirstPortsAreChannels : Type 0
-FirstPortsAreChannels = ReportsChannels behind_the_first → ⊥
-
--- ---- dependencies along another LID count too
-abbrev pub along_another : NetState → List ℕ → Option (List PortRef)
-along_another net lids = deadlock net (1 ∷ lids)
-
-abbrev pub OtherLidsDoNotCount : Type 0
-OtherLidsDoNotCount = ReportsCycles along_another → ⊥
-
--- ---- a cycle has more than two channels
-abbrev pub longer : Option (List PortRef) → Option (List PortRef)
-longer (Some ring) = if nat_lt 2 (length ring) then Some ring else None
-longer None = None
-
-abbrev pub of_three : NetState → List ℕ → Option (List PortRef)
-of_three net lids = longer (deadlock net lids)
-
-abbrev pub TwoMakeACycle : Type 0
-TwoMakeACycle = MissesNone of_three → ⊥
-
--- ---- the last channel of a cycle need not wait for the first: it is left out
-abbrev pub without_last : List PortRef → List PortRef
-without_last [] = []
-without_last (a ∷ []) = []
-without_last (a ∷ b ∷ rest) = a ∷ without_last (b ∷ rest)
-
-abbrev pub cut_short : Option (List PortRef) → Option (List PortRef)
-cut_short (Some ring) = Some (without_last ring)
-cut_short None = None
-
-abbrev pub not_round : NetState → List ℕ → Option (List PortRef)
-not_round net lids = cut_short (deadlock net lids)
-
-abbrev pub TheLastWaitsForTheFirst : Type 0
-TheLastWaitsForTheFirst = ReportsCycles not_round → ⊥
-
--- ---- an adapter at port 1 of the first of two switches, whose port 2 has a cable to port 1 of the second, and their rows
-abbrev pub a_plan : TopologyState
-a_plan = record {
-  nodes = a_switch (codes "A") 16 ∷ a_switch (codes "B") 32 ∷ record { name = codes "h"; node_type = ChannelAdapter; guid = 256; ports = 1 } ∷ [];
-  cables = record { first = port 0 1; second = port 2 1 } ∷ record { first = port 0 2; second = port 1 1 } ∷ [];
-  roots = [];
-  sm = port 2 1;
-}
-
-abbrev pub a_row : ℕ → ℕ → Destination → Row
-a_row lid number destination = record { lid = lid; port = number; destination = destination }
-
--- LID 1 is the adapter's
-abbrev pub adapters_row : ℕ → Row
-adapters_row number = a_row 1 number (destinations.ChannelAdapter 257)
-
--- LID 2 is a router's
-abbrev pub a_routers_row : ℕ → Row
-a_routers_row number = a_row 2 number (destinations.Router 999)
-
-abbrev pub with_rows : ℕ → List Row → Table
-with_rows guid rows = record { line = 1; guid = guid; top = 2; rows = rows }
-
-abbrev pub two_with : List Row → List Row → NetState
-two_with first second = record { plan = plan_of a_plan; dump = record { tables = with_rows 16 first ∷ with_rows 32 second ∷ [] } }
-
--- the second switch has no entry for the adapter's LID, and no packet to it comes there
-abbrev pub a_hole : NetState
-a_hole = two_with (adapters_row 1 ∷ []) (adapters_row 255 ∷ [])
 
 -- ---- a LID that leaves by a channel closes the loop, wherever it goes on from there
 abbrev pub leaving : NetState → List Aim → List PortRef → ℕ → Option Aim
@@ -441,41 +253,6 @@ a_nobodys_loop = two_with (a_row 2 2 destinations.NotReported ∷ []) (a_row 2 1
 
 abbrev pub NobodysLoopsHaveALine : Type 0
 NobodysLoopsHaveALine = ReportsTroubles silent_of_nobody → ⊥
-
--- ---- what is reported counts more than what a row says
-abbrev pub first_reported : NetState → ℕ → Option ℕ
-first_reported net lid = option_map (λ one. one.guid) (find (λ one. one.lid == lid) net.plan.lids)
-
-abbrev pub reported_first : NetState → ℕ → Option ℕ
-reported_first net lid = option_or (first_reported net lid) (end_of lid (rows_of net.dump.tables))
-
--- rows give LID 1 to the port of GUID 257, which reports LID 2; another reports LID 1
-abbrev pub two_say : NetState
-two_say = record a_hole {
-  plan = record a_hole.plan { lids = record { lid = 1; guid = 513 } ∷ record { lid = 2; guid = 257 } ∷ [] };
-}
-
-abbrev pub ReportsComeLast : Type 0
-ReportsComeLast = RowsComeFirst reported_first → ⊥
-
--- ---- what a port reports counts beside the LID that a row gives it
-abbrev pub also_reported : NetState → ℕ → Option ℕ
-also_reported net lid = option_or (end_of lid (rows_of net.dump.tables)) (first_reported net lid)
-
-abbrev pub OldLidsDoNotCount : Type 0
-OldLidsDoNotCount = RowsComeFirst also_reported → ⊥
-
--- ---- nothing that is reported counts
-abbrev pub by_rows_alone : NetState → ℕ → Option ℕ
-by_rows_alone net lid = end_of lid (rows_of net.dump.tables)
-
-abbrev pub one_reports : NetState
-one_reports = record a_hole {
-  plan = record a_hole.plan { lids = record { lid = 3; guid = 513 } ∷ [] };
-}
-
-abbrev pub ReportedLidsCount : Type 0
-ReportedLidsCount = RowsComeFirst by_rows_alone → ⊥
 
 -- ---- pairs that are not reached are no reason
 abbrev pub reasons_without_pairs : Verdict → List ℕ

@@ -4,19 +4,18 @@ ghost use Rattle.std.specs.Prelude.{◌≡◌, ◌<◌, ◌++◌, length, filter
 ghost use Rattle.route_audit.specs.Audit.{aggregation_line, audit, audit_discovery, audit_of, behind, closing, closing_word, closing_words, count_line, counts_by, credit_loop, deadlock_words};
 ghost use Rattle.route_audit.specs.Audit.{findings_by, findings_of, leaves_by_both, lids_of, lines_by, lost_part, other_part};
 ghost use Rattle.route_audit.specs.Audit.{port_word, reached_part, ring_line, switches_credit_loop};
-ghost use Rattle.route_audit.specs.Lids.{is_others};
+ghost use Rattle.route_audit.specs.Verdict.{is_others};
 
-use crate::channels::channel_at;
-use crate::findings::Findings;
-use crate::following::Fate;
-use crate::lids::Aim;
-use crate::net::Net;
-use crate::outcome::Audit;
-use crate::pairs::{Pair, between_hosts, count_of, in_transit, to_aggregation, to_switches};
-use crate::plan::Plan;
-use crate::verdict::push_verdict;
+use crate::lines::{push_files, push_lid, push_port, push_troubles};
+use crate::outcome::{Audit, Findings};
+use crate::pairs::{Pair, between_hosts, count_of, in_transit, pairs, to_aggregation, to_switches};
+use crate::verdict::{push_verdict, verdict_by};
+use audit_net::{Fate, Net};
+use audit_plan::Plan;
+use credit_loops::{channel_at, deadlock, leaves_by};
 use dump_file::Dump;
 use fabric_parts::PortRef;
+use lid_owners::{Aim, aims};
 use netdiscover_file::Discovery;
 use std::alloc::{AllocError, Global};
 use text_parts::push_decimal;
@@ -135,209 +134,212 @@ fn audited(alloc: Global, plan: &Plan, dump: &Dump) -> Result<Audit, AllocError>
     ensures { IfOk result (λ found. found ≡ audit_of (record { plan = plan.now; dump = dump.now })) }
 {
     let net = Net::new(alloc, plan, dump)?;
-    net.audited(alloc)
+    audited_net(&net, alloc)
 }
 
-impl<'a> Net<'a> {
-    fn is_others(&self, aim: &Aim) -> bool
-        ensures { result ≡ is_others self.now aim.now }
-    {
-        match aim.end {
-            Some(end) => !self.is_switch_at(end.node),
-            None => true,
-        }
+fn is_others(net: &Net<'_>, aim: &Aim) -> bool
+    ensures { result ≡ is_others net.now aim.now }
+{
+    match aim.end {
+        Some(end) => !net.is_switch_at(end.node),
+        None => true,
     }
+}
 
-    fn others(&self, alloc: Global, aims: &[Aim]) -> Result<Vec<Aim>, AllocError>
-        ensures { IfOk result (λ some. some.items ≡ filter (is_others self.now) aims.now) }
-    {
-        aims.iter()
-            .copied()
-            .filter(|aim| self.is_others(aim))
-            .collect(alloc)
+fn aims_of_others(net: &Net<'_>, alloc: Global, aims: &[Aim]) -> Result<Vec<Aim>, AllocError>
+    ensures { IfOk result (λ some. some.items ≡ filter (is_others net.now) aims.now) }
+{
+    aims.iter()
+        .copied()
+        .filter(|aim| is_others(net, aim))
+        .collect(alloc)
+}
+
+/// All LIDs but the switches' own.
+pub(crate) fn other_lids(net: &Net<'_>, alloc: Global, aims: &[Aim]) -> Result<Vec<u16>, AllocError>
+    ensures { IfOk result (λ lids. lids.items ≡ lids_of (filter (is_others net.now) aims.now)) }
+{
+    let some = aims_of_others(net, alloc, aims)?;
+    lids_of(alloc, &some)
+}
+
+fn credit_loop(
+    net: &Net<'_>,
+    alloc: Global,
+    aims: &[Aim],
+) -> Result<Option<Vec<PortRef>>, AllocError>
+    ensures { IfOk result (λ found. option_map (λ ring. ring.items) found ≡ credit_loop net.now aims.now) }
+{
+    let lids = other_lids(net, alloc, aims)?;
+    deadlock(net, alloc, &lids)
+}
+
+fn switches_credit_loop(
+    net: &Net<'_>,
+    alloc: Global,
+    aims: &[Aim],
+    of_others: bool,
+) -> Result<Option<Vec<PortRef>>, AllocError>
+    requires { of_others ≡ is_some (credit_loop net.now aims.now) }
+    ensures { IfOk result (λ found. option_map (λ ring. ring.items) found ≡ switches_credit_loop net.now aims.now) }
+{
+    if of_others {
+        return Ok(None);
     }
+    let lids = lids_of(alloc, aims)?;
+    deadlock(net, alloc, &lids)
+}
 
-    /// All LIDs but the switches' own.
-    pub(crate) fn other_lids(&self, alloc: Global, aims: &[Aim]) -> Result<Vec<u16>, AllocError>
-        ensures { IfOk result (λ lids. lids.items ≡ lids_of (filter (is_others self.now) aims.now)) }
-    {
-        let some = self.others(alloc, aims)?;
-        lids_of(alloc, &some)
+fn push_port_word(net: &Net<'_>, text: &mut Vec<u8>, port: PortRef) -> Result<(), AllocError>
+    ensures { OnOk result (text.new.items ≡ text.old.items ++ port_word net.now port) }
+{
+    text.extend_from_slice(b" ")?;
+    push_port(net, text, port)
+}
+
+/// Adds ports, each behind a blank.
+pub fn push_port_words(net: &Net<'_>, text: &mut Vec<u8>, ring: &[PortRef]) -> Result<(), AllocError>
+    ensures { OnOk result (text.new.items ≡ text.old.items ++ flat_map (port_word net.now) ring.now) }
+{
+    for port in ring {
+        push_port_word(net, text, *port)?;
     }
+    Ok(())
+}
 
-    fn credit_loop(&self, alloc: Global, aims: &[Aim]) -> Result<Option<Vec<PortRef>>, AllocError>
-        ensures { IfOk result (λ found. option_map (λ ring. ring.items) found ≡ credit_loop self.now aims.now) }
-    {
-        let lids = self.other_lids(alloc, aims)?;
-        self.deadlock(alloc, &lids)
-    }
+fn leaves_by_both(net: &Net<'_>, a: PortRef, b: PortRef, aim: &Aim) -> bool
+    ensures { result ≡ leaves_by_both net.now a b aim.now }
+{
+    let aim = *aim;
+    leaves_by(net, a, aim.lid) && leaves_by(net, b, aim.lid)
+}
 
-    fn switches_credit_loop(
-        &self,
-        alloc: Global,
-        aims: &[Aim],
-        of_others: bool,
-    ) -> Result<Option<Vec<PortRef>>, AllocError>
-        requires { of_others ≡ is_some (credit_loop self.now aims.now) }
-        ensures { IfOk result (λ found. option_map (λ ring. ring.items) found ≡ switches_credit_loop self.now aims.now) }
-    {
-        if of_others {
-            return Ok(None);
-        }
-        let lids = lids_of(alloc, aims)?;
-        self.deadlock(alloc, &lids)
-    }
+/// The LID by which a channel of a cycle waits for the one behind it.
+fn closing(net: &Net<'_>, aims: &[Aim], ring: &[PortRef], index: usize) -> Option<Aim>
+    requires { index < length ring.now }
+    ensures { result ≡ closing net.now aims.now ring.now index }
+{
+    let here = channel_at(ring, index);
+    let next = behind(ring, index);
+    aims.iter()
+        .copied()
+        .find(|aim| leaves_by_both(net, here, next, aim))
+}
 
-    fn push_port_word(&self, text: &mut Vec<u8>, port: PortRef) -> Result<(), AllocError>
-        ensures { OnOk result (text.new.items ≡ text.old.items ++ port_word self.now port) }
-    {
+fn push_closing_word(
+    net: &Net<'_>,
+    text: &mut Vec<u8>,
+    aims: &[Aim],
+    ring: &[PortRef],
+    index: usize,
+) -> Result<(), AllocError>
+    requires { index < length ring.now }
+    ensures { OnOk result (text.new.items ≡ text.old.items ++ closing_word net.now aims.now ring.now index) }
+{
+    if let Some(aim) = closing(net, aims, ring, index) {
         text.extend_from_slice(b" ")?;
-        self.push_port(text, port)
+        push_lid(net, text, aim.lid, aim.end)?;
     }
+    Ok(())
+}
 
-    fn push_port_words(&self, text: &mut Vec<u8>, ring: &[PortRef]) -> Result<(), AllocError>
-        ensures { OnOk result (text.new.items ≡ text.old.items ++ flat_map (port_word self.now) ring.now) }
-    {
-        for port in ring {
-            self.push_port_word(text, *port)?;
-        }
-        Ok(())
+fn push_closing_words(
+    net: &Net<'_>,
+    text: &mut Vec<u8>,
+    aims: &[Aim],
+    ring: &[PortRef],
+) -> Result<(), AllocError>
+    ensures { OnOk result (text.new.items ≡ text.old.items ++ closing_words net.now aims.now ring.now) }
+{
+    for index in 0..ring.len() {
+        push_closing_word(net, text, aims, ring, index)?;
     }
+    Ok(())
+}
 
-    fn leaves_by_both(&self, a: PortRef, b: PortRef, aim: &Aim) -> bool
-        ensures { result ≡ leaves_by_both self.now a b aim.now }
-    {
-        let aim = *aim;
-        self.leaves_by(a, aim.lid) && self.leaves_by(b, aim.lid)
+fn push_ring_line(
+    net: &Net<'_>,
+    text: &mut Vec<u8>,
+    words: &[u8],
+    aims: &[Aim],
+    ring: &Option<Vec<PortRef>>,
+) -> Result<(), AllocError>
+    ensures { OnOk result (text.new.items ≡ text.old.items ++ ring_line net.now words.now aims.now (option_map (λ ports. ports.items) ring.now)) }
+{
+    if let Some(ports) = ring {
+        text.extend_from_slice(words)?;
+        push_port_words(net, text, ports.as_slice())?;
+        text.extend_from_slice(b" by LIDs")?;
+        push_closing_words(net, text, aims, ports.as_slice())?;
+        text.push(b'\n')?;
     }
+    Ok(())
+}
 
-    /// The LID by which a channel of a cycle waits for the one behind it.
-    fn closing(&self, aims: &[Aim], ring: &[PortRef], index: usize) -> Option<Aim>
-        requires { index < length ring.now }
-        ensures { result ≡ closing self.now aims.now ring.now index }
-    {
-        let here = channel_at(ring, index);
-        let next = behind(ring, index);
-        aims.iter()
-            .copied()
-            .find(|aim| self.leaves_by_both(here, next, aim))
-    }
+#[tactic(auto, unfolding(crate::specs::Audit::lines_by))]
+fn push_lines(
+    net: &Net<'_>,
+    alloc: Global,
+    text: &mut Vec<u8>,
+    aims: &[Aim],
+    others: &Option<Vec<PortRef>>,
+    switches: &Option<Vec<PortRef>>,
+) -> Result<(), AllocError>
+    ensures { OnOk result (text.new.items
+        ≡ text.old.items ++ lines_by net.now aims.now (option_map (λ ports. ports.items) others.now) (option_map (λ ports. ports.items) switches.now)) }
+{
+    push_files(net, text, aims)?;
+    push_troubles(net, alloc, text, aims)?;
+    let some = aims_of_others(net, alloc, aims)?;
+    push_ring_line(net, text, b"deadlock", &some, others)?;
+    push_ring_line(net, text, b"deadlock switch-lids", aims, switches)
+}
 
-    fn push_closing_word(
-        &self,
-        text: &mut Vec<u8>,
-        aims: &[Aim],
-        ring: &[PortRef],
-        index: usize,
-    ) -> Result<(), AllocError>
-        requires { index < length ring.now }
-        ensures { OnOk result (text.new.items ≡ text.old.items ++ closing_word self.now aims.now ring.now index) }
-    {
-        if let Some(aim) = self.closing(aims, ring, index) {
-            text.extend_from_slice(b" ")?;
-            self.push_lid(text, aim.lid, aim.end)?;
-        }
-        Ok(())
-    }
+/// What is printed before the verdict, and what that rests on, by the cycles that were found.
+#[tactic(auto, unfolding(crate::specs::Audit::body_by))]
+fn findings_by(
+    net: &Net<'_>,
+    alloc: Global,
+    aims: &[Aim],
+    others: &Option<Vec<PortRef>>,
+    switches: &Option<Vec<PortRef>>,
+) -> Result<Findings, AllocError>
+    ensures { IfOk result (λ found. found
+        ≡ findings_by net.now aims.now (option_map (λ ports. ports.items) others.now) (option_map (λ ports. ports.items) switches.now)) }
+{
+    let mut text = Vec::new(alloc);
+    push_lines(net, alloc, &mut text, aims, others, switches)?;
+    let pairs = pairs(net, alloc, aims)?;
+    push_counts(
+        alloc,
+        &mut text,
+        &pairs,
+        others.is_some(),
+        switches.is_some(),
+    )?;
+    let verdict = verdict_by(net, alloc, aims, &pairs, others)?;
+    Ok(Findings { text, verdict })
+}
 
-    fn push_closing_words(
-        &self,
-        text: &mut Vec<u8>,
-        aims: &[Aim],
-        ring: &[PortRef],
-    ) -> Result<(), AllocError>
-        ensures { OnOk result (text.new.items ≡ text.old.items ++ closing_words self.now aims.now ring.now) }
-    {
-        for index in 0..ring.len() {
-            self.push_closing_word(text, aims, ring, index)?;
-        }
-        Ok(())
-    }
+/// What is printed before the verdict, and what that rests on. It can only run out of memory.
+#[tactic(auto, unfolding(crate::specs::Audit::findings_of))]
+pub fn findings(net: &Net<'_>, alloc: Global) -> Result<Findings, AllocError>
+    ensures { IfOk result (λ found. found ≡ findings_of net.now) }
+{
+    let aims = aims(net, alloc)?;
+    let others = credit_loop(net, alloc, &aims)?;
+    let switches = switches_credit_loop(net, alloc, &aims, others.is_some())?;
+    let found = findings_by(net, alloc, &aims, &others, &switches)?;
+    Ok(found)
+}
 
-    fn push_ring_line(
-        &self,
-        text: &mut Vec<u8>,
-        words: &[u8],
-        aims: &[Aim],
-        ring: &Option<Vec<PortRef>>,
-    ) -> Result<(), AllocError>
-        ensures { OnOk result (text.new.items ≡ text.old.items ++ ring_line self.now words.now aims.now (option_map (λ ports. ports.items) ring.now)) }
-    {
-        if let Some(ports) = ring {
-            text.extend_from_slice(words)?;
-            self.push_port_words(text, ports.as_slice())?;
-            text.extend_from_slice(b" by LIDs")?;
-            self.push_closing_words(text, aims, ports.as_slice())?;
-            text.push(b'\n')?;
-        }
-        Ok(())
-    }
-
-    #[tactic(auto, unfolding(crate::specs::Audit::lines_by))]
-    fn push_lines(
-        &self,
-        alloc: Global,
-        text: &mut Vec<u8>,
-        aims: &[Aim],
-        others: &Option<Vec<PortRef>>,
-        switches: &Option<Vec<PortRef>>,
-    ) -> Result<(), AllocError>
-        ensures { OnOk result (text.new.items
-            ≡ text.old.items ++ lines_by self.now aims.now (option_map (λ ports. ports.items) others.now) (option_map (λ ports. ports.items) switches.now)) }
-    {
-        self.push_files(text, aims)?;
-        self.push_troubles(alloc, text, aims)?;
-        let some = self.others(alloc, aims)?;
-        self.push_ring_line(text, b"deadlock", &some, others)?;
-        self.push_ring_line(text, b"deadlock switch-lids", aims, switches)
-    }
-
-    /// What is printed before the verdict, and what that rests on, by the cycles that were found.
-    #[tactic(auto, unfolding(crate::specs::Audit::body_by))]
-    fn findings_by(
-        &self,
-        alloc: Global,
-        aims: &[Aim],
-        others: &Option<Vec<PortRef>>,
-        switches: &Option<Vec<PortRef>>,
-    ) -> Result<Findings, AllocError>
-        ensures { IfOk result (λ found. found
-            ≡ findings_by self.now aims.now (option_map (λ ports. ports.items) others.now) (option_map (λ ports. ports.items) switches.now)) }
-    {
-        let mut text = Vec::new(alloc);
-        self.push_lines(alloc, &mut text, aims, others, switches)?;
-        let pairs = self.pairs(alloc, aims)?;
-        push_counts(
-            alloc,
-            &mut text,
-            &pairs,
-            others.is_some(),
-            switches.is_some(),
-        )?;
-        let verdict = self.verdict(alloc, aims, &pairs, others)?;
-        Ok(Findings { text, verdict })
-    }
-
-    /// What is printed before the verdict, and what that rests on. It can only run out of memory.
-    #[tactic(auto, unfolding(crate::specs::Audit::findings_of))]
-    pub fn findings(&self, alloc: Global) -> Result<Findings, AllocError>
-        ensures { IfOk result (λ found. found ≡ findings_of self.now) }
-    {
-        let aims = self.aims(alloc)?;
-        let others = self.credit_loop(alloc, &aims)?;
-        let switches = self.switches_credit_loop(alloc, &aims, others.is_some())?;
-        let found = self.findings_by(alloc, &aims, &others, &switches)?;
-        Ok(found)
-    }
-
-    #[tactic(auto, unfolding(crate::specs::Audit::audit_of, crate::specs::Audit::findings_of, crate::specs::Audit::text_by))]
-    fn audited(&self, alloc: Global) -> Result<Audit, AllocError>
-        ensures { IfOk result (λ found. found ≡ audit_of self.now) }
-    {
-        let Findings { mut text, verdict } = self.findings(alloc)?;
-        push_verdict(alloc, &mut text, verdict)?;
-        Ok(Audit::of(text, verdict.is_safe()))
-    }
+#[tactic(auto, unfolding(crate::specs::Audit::audit_of, crate::specs::Audit::findings_of, crate::specs::Audit::text_by))]
+fn audited_net(net: &Net<'_>, alloc: Global) -> Result<Audit, AllocError>
+    ensures { IfOk result (λ found. found ≡ audit_of net.now) }
+{
+    let Findings { mut text, verdict } = findings(net, alloc)?;
+    push_verdict(alloc, &mut text, verdict)?;
+    Ok(Audit::of(text, verdict.is_safe()))
 }
 
 /// Judges the routes that a dump shows over a topology. It can only run out of memory.

@@ -2,12 +2,11 @@
 
 ghost use Rattle.std.specs.Prelude.{◌≡◌, ◌++◌, true, filter, IfOk, OnOk};
 ghost use Rattle.route_audit.specs.Pairs.{all_reached, between_hosts, count_of, in_transit, is_fate, pair_at, pairs_at, pairs_by, to_aggregation, to_switches};
-ghost use Rattle.route_audit.specs.Attached.{carries_host};
+ghost use Rattle.audit_net.specs.Attached.{carries_host};
 ghost use Rattle.route_audit.specs.Verdict.{is_lost, some_lost, some_unknown};
 
-use crate::following::Fate;
-use crate::lids::Aim;
-use crate::net::Net;
+use audit_net::{Fate, Net};
+use lid_owners::Aim;
 use std::alloc::{AllocError, Global};
 
 /// A switch and a LID of an end port.
@@ -23,54 +22,52 @@ pub(crate) struct Pair {
     pub(crate) fate: Fate,
 }
 
-impl<'a> Net<'a> {
-    fn push_pair(
-        &self,
-        pairs: &mut Vec<Pair>,
-        place: usize,
-        from_hosts: bool,
-        aim: &Aim,
-    ) -> Result<(), AllocError>
-        requires { from_hosts ≡ carries_host self.now place }
-        ensures { OnOk result (pairs.new.items ≡ pairs.old.items ++ pair_at self.now place aim.now) }
-    {
-        let aim = *aim;
-        if let Some(end) = aim.end {
-            pairs.push(Pair {
-                from_hosts,
-                to_host: self.is_host(end.node),
-                to_switch: self.is_switch_at(end.node),
-                fate: self.fate(aim.lid, end, place),
-            })?;
-        }
-        Ok(())
+fn push_pair(
+    net: &Net<'_>,
+    pairs: &mut Vec<Pair>,
+    place: usize,
+    from_hosts: bool,
+    aim: &Aim,
+) -> Result<(), AllocError>
+    requires { from_hosts ≡ carries_host net.now place }
+    ensures { OnOk result (pairs.new.items ≡ pairs.old.items ++ pair_at net.now place aim.now) }
+{
+    let aim = *aim;
+    if let Some(end) = aim.end {
+        pairs.push(Pair {
+            from_hosts,
+            to_host: net.is_host(end.node),
+            to_switch: net.is_switch_at(end.node),
+            fate: net.fate(aim.lid, end, place),
+        })?;
     }
+    Ok(())
+}
 
-    fn push_pairs(
-        &self,
-        pairs: &mut Vec<Pair>,
-        aims: &[Aim],
-        place: usize,
-    ) -> Result<(), AllocError>
-        ensures { OnOk result (pairs.new.items ≡ pairs.old.items ++ pairs_at self.now aims.now place) }
-    {
-        let from_hosts = self.carries_host(place);
-        for aim in aims {
-            self.push_pair(pairs, place, from_hosts, aim)?;
-        }
-        Ok(())
+fn push_pairs(
+    net: &Net<'_>,
+    pairs: &mut Vec<Pair>,
+    aims: &[Aim],
+    place: usize,
+) -> Result<(), AllocError>
+    ensures { OnOk result (pairs.new.items ≡ pairs.old.items ++ pairs_at net.now aims.now place) }
+{
+    let from_hosts = net.carries_host(place);
+    for aim in aims {
+        push_pair(net, pairs, place, from_hosts, aim)?;
     }
+    Ok(())
+}
 
-    /// All pairs.
-    pub(crate) fn pairs(&self, alloc: Global, aims: &[Aim]) -> Result<Vec<Pair>, AllocError>
-        ensures { IfOk result (λ pairs. pairs.items ≡ pairs_by self.now aims.now) }
-    {
-        let mut pairs = Vec::new(alloc);
-        for place in self.switches() {
-            self.push_pairs(&mut pairs, aims, *place)?;
-        }
-        Ok(pairs)
+/// All pairs.
+pub(crate) fn pairs(net: &Net<'_>, alloc: Global, aims: &[Aim]) -> Result<Vec<Pair>, AllocError>
+    ensures { IfOk result (λ pairs. pairs.items ≡ pairs_by net.now aims.now) }
+{
+    let mut pairs = Vec::new(alloc);
+    for place in net.switches() {
+        push_pairs(net, &mut pairs, aims, *place)?;
     }
+    Ok(pairs)
 }
 
 fn is_fate(a: Fate, b: Fate) -> bool

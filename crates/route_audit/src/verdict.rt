@@ -2,19 +2,19 @@
 
 ghost use Rattle.std.specs.Prelude.{◌≡◌, ◌&&◌, ◌++◌, not, IfOk, OnOk, option_map};
 ghost use Rattle.std.specs.List.{list_all, list_any};
-ghost use Rattle.route_audit.specs.Lids.{have_lids, is_lacking};
+ghost use Rattle.lid_owners.specs.Lids.{have_lids, is_lacking};
 ghost use Rattle.route_audit.specs.Pairs.{pairs_by};
-ghost use Rattle.route_audit.specs.Net.{has_table};
+ghost use Rattle.audit_net.specs.Net.{has_table};
 ghost use Rattle.route_audit.specs.Verdict.{have_tables, is_known, is_unknown, knows_all, knows_entries, knows_next, name_the_same, reasons, safe_words, verdict_by, verdict_is_safe, verdict_line, with_reason};
 ghost use Rattle.topo_file.specs.Connectivity.{switches};
 
-use crate::following::Turn;
-use crate::lids::Aim;
+use crate::auditing::other_lids;
 use crate::lines::has_switch;
-use crate::net::Net;
 use crate::pairs::{Pair, all_reached, between_hosts, some_lost, some_unknown};
+use audit_net::{Net, Turn};
 use dump_file::Table;
 use fabric_parts::PortRef;
+use lid_owners::{Aim, have_lids, is_lacking};
 use std::alloc::{AllocError, Global};
 
 /// What the verdict rests on.
@@ -117,101 +117,96 @@ pub(crate) fn push_verdict(
     text.extend_from_slice(b", as if all packets used one virtual lane; multicast is not judged\n")
 }
 
-impl<'a> Net<'a> {
-    fn all_have_lids(&self, aims: &[Aim]) -> bool
-        ensures { result ≡ list_all (have_lids self.now aims.now) self.now.plan.cables }
-    {
-        self.cables()
-            .iter()
-            .all(|cable| self.have_lids(aims, *cable))
-    }
+fn all_have_lids(net: &Net<'_>, aims: &[Aim]) -> bool
+    ensures { result ≡ list_all (have_lids net.now aims.now) net.now.plan.cables }
+{
+    net.cables()
+        .iter()
+        .all(|cable| have_lids(net, aims, *cable))
+}
 
-    fn have_tables(&self) -> bool
-        ensures { result ≡ have_tables self.now }
-    {
-        !self.dump().tables().is_empty() && self.all_have_tables()
-    }
+fn have_tables(net: &Net<'_>) -> bool
+    ensures { result ≡ have_tables net.now }
+{
+    !net.dump().tables().is_empty() && all_have_tables(net)
+}
 
-    fn all_have_tables(&self) -> bool
-        ensures { result ≡ list_all (has_table self.now) (switches self.now.plan.nodes) }
-    {
-        self.switches()
-            .iter()
-            .all(|place| self.table_at(*place).is_some())
-    }
+fn all_have_tables(net: &Net<'_>) -> bool
+    ensures { result ≡ list_all (has_table net.now) (switches net.now.plan.nodes) }
+{
+    net.switches()
+        .iter()
+        .all(|place| net.table_at(*place).is_some())
+}
 
-    fn is_known(&self, table: &Table) -> bool
-        ensures { result ≡ is_known self.now table.now }
-    {
-        has_switch(table.guid, self.nodes())
-    }
+fn is_known(net: &Net<'_>, table: &Table) -> bool
+    ensures { result ≡ is_known net.now table.now }
+{
+    has_switch(table.guid, net.nodes())
+}
 
-    fn all_are_known(&self) -> bool
-        ensures { result ≡ list_all (is_known self.now) self.now.dump.tables }
-    {
-        self.dump()
-            .tables()
-            .iter()
-            .all(|table| self.is_known(table))
-    }
+fn all_are_known(net: &Net<'_>) -> bool
+    ensures { result ≡ list_all (is_known net.now) net.now.dump.tables }
+{
+    net.dump().tables().iter().all(|table| is_known(net, table))
+}
 
-    fn some_is_lacking(&self, aims: &[Aim]) -> bool
-        ensures { result ≡ list_any (is_lacking self.now) aims.now }
-    {
-        aims.iter().any(|aim| self.is_lacking(aim))
-    }
+fn some_is_lacking(net: &Net<'_>, aims: &[Aim]) -> bool
+    ensures { result ≡ list_any (is_lacking net.now) aims.now }
+{
+    aims.iter().any(|aim| is_lacking(net, aim))
+}
 
-    fn name_the_same(&self, aims: &[Aim]) -> bool
-        ensures { result ≡ name_the_same self.now aims.now }
-    {
-        self.have_tables() && self.all_are_known() && !self.some_is_lacking(aims)
-    }
+fn name_the_same(net: &Net<'_>, aims: &[Aim]) -> bool
+    ensures { result ≡ name_the_same net.now aims.now }
+{
+    have_tables(net) && all_are_known(net) && !some_is_lacking(net, aims)
+}
 
-    /// Whether the LID comes to no switch from this one whose entry is unknown.
-    fn knows_next(&self, place: usize, lid: u16) -> bool
-        ensures { result ≡ knows_next self.now place lid }
-    {
-        match self.turn(lid, place) {
-            Turn::Goes(next) => !is_unknown(self.turn(lid, next)),
-            _ => true,
-        }
+/// Whether the LID comes to no switch from this one whose entry is unknown.
+fn knows_next(net: &Net<'_>, place: usize, lid: u16) -> bool
+    ensures { result ≡ knows_next net.now place lid }
+{
+    match net.turn(lid, place) {
+        Turn::Goes(next) => !is_unknown(net.turn(lid, next)),
+        _ => true,
     }
+}
 
-    fn knows_all(&self, lids: &[u16], place: usize) -> bool
-        ensures { result ≡ knows_all self.now lids.now place }
-    {
-        lids.iter().all(|lid| self.knows_next(place, *lid))
-    }
+fn knows_all(net: &Net<'_>, lids: &[u16], place: usize) -> bool
+    ensures { result ≡ knows_all net.now lids.now place }
+{
+    lids.iter().all(|lid| knows_next(net, place, *lid))
+}
 
-    fn knows_entries(&self, lids: &[u16]) -> bool
-        ensures { result ≡ knows_entries self.now lids.now }
-    {
-        self.switches()
-            .iter()
-            .all(|place| self.knows_all(lids, *place))
-    }
+fn knows_entries(net: &Net<'_>, lids: &[u16]) -> bool
+    ensures { result ≡ knows_entries net.now lids.now }
+{
+    net.switches()
+        .iter()
+        .all(|place| knows_all(net, lids, *place))
+}
 
-    /// The verdict, by the credit loop that was found.
-    pub(crate) fn verdict(
-        &self,
-        alloc: Global,
-        aims: &[Aim],
-        pairs: &[Pair],
-        ring: &Option<Vec<PortRef>>,
-    ) -> Result<Verdict, AllocError>
-        requires { pairs.now ≡ pairs_by self.now aims.now }
-        ensures { IfOk result (λ verdict. verdict ≡ verdict_by self.now aims.now (option_map (λ ports. ports.items) ring.now)) }
-    {
-        let deciding = between_hosts(alloc, pairs)?;
-        let lids = self.other_lids(alloc, aims)?;
-        Ok(Verdict {
-            has_lids: self.all_have_lids(aims),
-            is_reached: all_reached(&deciding),
-            is_free: ring.is_none(),
-            is_same: self.name_the_same(aims),
-            is_known: self.knows_entries(&lids),
-            loses: some_lost(&deciding),
-            lacks_entries: some_unknown(&deciding),
-        })
-    }
+/// The verdict, by the credit loop that was found.
+pub(crate) fn verdict_by(
+    net: &Net<'_>,
+    alloc: Global,
+    aims: &[Aim],
+    pairs: &[Pair],
+    ring: &Option<Vec<PortRef>>,
+) -> Result<Verdict, AllocError>
+    requires { pairs.now ≡ pairs_by net.now aims.now }
+    ensures { IfOk result (λ verdict. verdict ≡ verdict_by net.now aims.now (option_map (λ ports. ports.items) ring.now)) }
+{
+    let deciding = between_hosts(alloc, pairs)?;
+    let lids = other_lids(net, alloc, aims)?;
+    Ok(Verdict {
+        has_lids: all_have_lids(net, aims),
+        is_reached: all_reached(&deciding),
+        is_free: ring.is_none(),
+        is_same: name_the_same(net, aims),
+        is_known: knows_entries(net, &lids),
+        loses: some_lost(&deciding),
+        lacks_entries: some_unknown(&deciding),
+    })
 }

@@ -1,55 +1,15 @@
 //! Wrong rules for what is reported, and the law that each breaks, so that a reader sees that the laws say something. Each
 //! function does nothing: its contract says that with this rule the law is false.
 
-ghost use Rattle.route_audit.specs.WrongRules.{ANodeMayBeJoinedToItself, AdaptersAreJoinedApart, AggregationDecidesNothing, EachStepHasItsLid, LidsGoOnRound};
-ghost use Rattle.route_audit.specs.WrongRules.{FirstPortsAreChannels, HolesAreCounted, HolesHaveALine, LidsAreAsked, LoopsBeginWhereReported, LoopsHaveALine, LostPairsAreAReason, ReasonsHold};
-ghost use Rattle.route_audit.specs.WrongRules.{NobodysLoopsHaveALine, OtherLidsDecide, OtherLidsDoNotCount, OtherPortsDecide, OtherTablesDecide, OthersHolesHaveALine};
-ghost use Rattle.route_audit.specs.WrongRules.{NobodyHasLid0, OldLidsDoNotCount, ReportedLidsCount, ReportsComeLast, RowsLeftOutHaveALine, SwitchesHaveLids};
-ghost use Rattle.route_audit.specs.WrongRules.{TheLastWaitsForTheFirst, TransitDecidesNothing, TwoMakeACycle, UnknownEntriesDecide, WaysAreAsked, WaysAreLonger};
-
-/// Where ports of one node have no cable, the two ends of a loopback plug have none.
-pub fn a_node_may_be_joined_to_itself()
-    ensures { ANodeMayBeJoinedToItself }
-{}
-
-/// Where no cable stands apart, one between two adapters is among those of switches.
-pub fn adapters_are_joined_apart()
-    ensures { AdaptersAreJoinedApart }
-{}
-
-/// Where what does not end at the first switch is reported to be endless, it may end at the second.
-pub fn ways_are_longer()
-    ensures { WaysAreLonger }
-{}
-
-/// Where a loop is reported without the switch where it is reported, it does not begin there.
-pub fn loops_begin_where_reported()
-    ensures { LoopsBeginWhereReported }
-{}
+ghost use Rattle.route_audit.specs.WrongRules.{AggregationDecidesNothing, EachStepHasItsLid, LidsGoOnRound};
+ghost use Rattle.route_audit.specs.WrongRules.{HolesAreCounted, HolesHaveALine, LidsAreAsked, LoopsHaveALine, LostPairsAreAReason, ReasonsHold};
+ghost use Rattle.route_audit.specs.WrongRules.{NobodysLoopsHaveALine, OtherLidsDecide, OtherPortsDecide, OtherTablesDecide, OthersHolesHaveALine};
+ghost use Rattle.route_audit.specs.WrongRules.{RowsLeftOutHaveALine};
+ghost use Rattle.route_audit.specs.WrongRules.{TransitDecidesNothing, UnknownEntriesDecide, WaysAreAsked};
 
 /// Where pairs that come to a hole are not counted, the parts of a line are not all.
 pub fn holes_are_counted()
     ensures { HolesAreCounted }
-{}
-
-/// Where the first port of a switch is no channel, one is left out.
-pub fn first_ports_are_channels()
-    ensures { FirstPortsAreChannels }
-{}
-
-/// Where dependencies along another LID count too, channels are reported that do not wait for one another along these.
-pub fn other_lids_do_not_count()
-    ensures { OtherLidsDoNotCount }
-{}
-
-/// Where cycles of two channels are not reported, one is missed.
-pub fn two_make_a_cycle()
-    ensures { TwoMakeACycle }
-{}
-
-/// Where the last channel is left out, the one before it does not wait for the first.
-pub fn the_last_waits_for_the_first()
-    ensures { TheLastWaitsForTheFirst }
 {}
 
 /// If a LID closes a loop that leaves by its channel, it may go another way from there.
@@ -125,31 +85,6 @@ pub fn others_holes_have_a_line()
 /// If a loop of a LID that is nobody's has no line, packets go round and none reports it.
 pub fn nobodys_loops_have_a_line()
     ensures { NobodysLoopsHaveALine }
-{}
-
-/// Where LID 0 is a port's, a port that no subnet manager gave a LID has one.
-pub fn nobody_has_lid_0()
-    ensures { NobodyHasLid0 }
-{}
-
-/// Where ports of switches have no LID, a header that reports one is not heard.
-pub fn switches_have_lids()
-    ensures { SwitchesHaveLids }
-{}
-
-/// Where what a port reports counts first, a row that gives the LID to another port is not heard.
-pub fn reports_come_last()
-    ensures { ReportsComeLast }
-{}
-
-/// Where what a port reports counts beside what rows say, a port that got another LID since has two.
-pub fn old_lids_do_not_count()
-    ensures { OldLidsDoNotCount }
-{}
-
-/// Where rows alone count, a LID that has no row is nobody's, though a port reports it.
-pub fn reported_lids_count()
-    ensures { ReportedLidsCount }
 {}
 
 /// Where pairs that are not reached are no reason, a verdict that is not safe has none.

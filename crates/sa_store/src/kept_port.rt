@@ -1,6 +1,6 @@
 //! What is kept for a port.
 
-ghost use Rattle.std.specs.Prelude.{◌≡◌, ◌-◌, ◌++◌, false, length, map, position, replicate, IfOk, OnOk, OnErr};
+ghost use Rattle.std.specs.Prelude.{◌≡◌, ◌<◌, ◌^◌, ◌-◌, ◌++◌, false, length, map, position, replicate, IfOk, OnOk, OnErr};
 ghost use Rattle.std.specs.List.{list_any};
 ghost use Rattle.mad_layout.specs.Layout.{Fits};
 ghost use Rattle.sa_records.specs.NodeRecord.{node_record, node_record_bytes};
@@ -160,51 +160,49 @@ fn node_record_of(port: &SubnetPort) -> NodeRecord
     ensures fits { Fits (node_record result) }
 {
     let node_string = NodeDescription::of_text(port.node_name.as_slice()).node_string;
-    let node_type = port.node_type.code();
-    node_record(
-        port.lid,
-        node_type,
-        port.num_ports,
-        port.node_guid,
-        port.guid,
-        port.number,
-        node_string,
-    )
+    node_record(port, port.node_type.code(), node_string)
 }
 
-/// The record of these facts; all others are the same for every port.
-fn node_record(
-    lid: u16,
-    node_type: u8,
-    num_ports: u8,
-    node_guid: u64,
-    port_guid: u64,
-    local_port_num: u8,
-    node_string: [u8; 64],
-) -> NodeRecord
-    ensures value { (port : SubnetPort) → port.lid ≡ lid → node_type_code port.node_type ≡ node_type
-        → port.num_ports ≡ num_ports → port.node_guid ≡ node_guid → port.guid ≡ port_guid → port.number ≡ local_port_num
-        → port.node_name ++ replicate (64 - length port.node_name) 0 ≡ node_string → result ≡ node_record_of port }
+/// The record of a port with these codes of its node; all other facts are the same for every port.
+fn node_record(port: &SubnetPort, node_type: u8, node_string: [u8; 64]) -> NodeRecord
+    ensures value { node_type_code port.now.node_type ≡ node_type
+        → port.now.node_name ++ replicate (64 - length port.now.node_name) 0 ≡ node_string → result ≡ node_record_of port.now }
     ensures fits { Fits (node_record result) }
 {
     known_bytes(&node_string);
+    known_numbers(
+        port.lid,
+        port.num_ports,
+        port.number,
+        port.node_guid,
+        port.guid,
+    );
     NodeRecord {
-        lid,
+        lid: port.lid,
         base_version: 1,
         class_version: 1,
         node_type,
-        num_ports,
-        system_image_guid: node_guid,
-        node_guid,
-        port_guid,
+        num_ports: port.num_ports,
+        system_image_guid: port.node_guid,
+        node_guid: port.node_guid,
+        port_guid: port.guid,
         partition_cap: PARTITIONS as u16,
         device_id: 0,
         revision: 0,
-        local_port_num,
+        local_port_num: port.number,
         vendor_id: 0,
         node_string,
     }
 }
+
+/// Says that the numbers of a port fit their fields. It does nothing.
+fn known_numbers(lid: u16, num_ports: u8, number: u8, node_guid: u64, guid: u64)
+    ensures lid { lid < 2 ^ 16 }
+    ensures num_ports { num_ports < 2 ^ 8 }
+    ensures number { number < 2 ^ 8 }
+    ensures node_guid { node_guid < 2 ^ 64 }
+    ensures guid { guid < 2 ^ 64 }
+{}
 
 /// The bytes of a record.
 fn bytes_of(shown: &NodeRecord) -> [u8; NODE_RECORD_BYTES]

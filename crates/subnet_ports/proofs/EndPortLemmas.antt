@@ -4,11 +4,11 @@ use Rattle.std.proofs.Common.{fold, count_by, All, refl, inl, inr, ◌∙◌, sy
 use Rattle.std.specs.List.{list_any, IsDistinct, AllByRecursion, range_with_len, slice_index_or}
 use Rattle.std.specs.List.Sorted.{IsPermutation}
 use Rattle.std.proofs.lemmas.Bool.{both_ways, and_from, not-true, or_left, or_right, eq-eqb, cases_Bool, cases_lt, and_parts, eqb-true, leb-true}
-use Rattle.std.proofs.lemmas.Bool.{leb-false, ltb-true, lt-ltb, le-ltb}
+use Rattle.std.proofs.lemmas.Bool.{ltb-true, lt-ltb, le-ltb}
 use Rattle.std.proofs.lemmas.Bool.Decides.{nat_tests}
-use Rattle.std.proofs.lemmas.List.Elements.{All-nil, All-cons, All-head, All-tail, All-weaker, All-map, All-from_recursion, recursion_from_All}
+use Rattle.std.proofs.lemmas.List.Elements.{All-head, All-tail, All-weaker, All-map, All-from_recursion, recursion_from_All}
 use Rattle.std.proofs.lemmas.List.Sorted.{IsPermutation-refl, IsPermutation-trans, IsPermutation-middle, IsPermutation-append_left}
-use Rattle.std.proofs.lemmas.List.Sorted.{IsPermutation-insert, All-permutation, sum_by-IsPermutation}
+use Rattle.std.proofs.lemmas.List.Sorted.{All-permutation, sum_by-IsPermutation}
 use Rattle.std.proofs.lemmas.Map.Keys.{IsDistinct-IsPermutation}
 use Rattle.step_results.proofs.TestLemmas.{same_either_way}
 use Rattle.step_results.proofs.RisingLemmas.{counted}
@@ -27,8 +27,8 @@ use Rattle.subnet_model.specs.Source.{same_lid}
 use Rattle.subnet_ports.specs.declared.end_ports.EndPlace.{EndPlace}
 use Rattle.subnet_ports.specs.EndPorts.{AreEndPorts, IsEndPort, is_end_port}
 use Rattle.subnet_model.specs.Configured.{same_guid}
-use Rattle.subnet_ports.specs.Ports.{end_ports, keyed, ports_of, end_placed, end_places, type_of, with_port, with_end_place}
-use Rattle.subnet_ports.proofs.PortLemmas.{insert_in_order}
+use Rattle.subnet_ports.specs.Ports.{end_ports, keyed, ports_of, end_placed, end_places, type_of, with_port, with_end_place, Rise}
+use Rattle.subnet_ports.proofs.PlacedLemmas.{rises_with, with_port_moves}
 use Rattle.subnet_ports.proofs.EndPlaceLemmas.{IsEndPlace, all_are_end_places, any_so, one_guid, place_of, end_place_there, end_places_are_distinct}
 use Rattle.step_results.proofs.ElementLemmas.{each_weaker}
 
@@ -193,11 +193,6 @@ same_ports : (partitions : List Partition) (nodes : List Node) (all : List EndPo
 same_ports partitions nodes all [] = refl
 same_ports partitions nodes all (end_place ∷ some) = ap (λ (rest : List SubnetPort). known partitions nodes all end_place ∷ rest) (same_ports partitions nodes all some)
 
-with_port_moves : (ports : List SubnetPort) (port : SubnetPort) → IsPermutation (port ∷ ports) (with_port ports port)
-with_port_moves ports port =
-    subst (λ (q : List SubnetPort). IsPermutation (port ∷ ports) q) (insert_in_order ports port)
-    (IsPermutation-insert ports _ port)
-
 order_moves : (nodes : List Node) (all : List EndPort) (some : List (EndPlace × List ℕ)) (ports : List SubnetPort)
     → IsPermutation (ports ++ map (as_port nodes all) some) (fold (with_end_place nodes all) ports some)
 order_moves nodes all [] ports = subst (λ (q : List SubnetPort). IsPermutation q ports) (sym (append-nil ports)) (IsPermutation-refl ports)
@@ -210,26 +205,7 @@ order_moves nodes all (one ∷ some) ports =
     (IsPermutation-append_left rest (port ∷ ports) (with_port ports port) (with_port_moves ports port)))
     (order_moves nodes all some (with_port ports port))
 
-abbrev Rises : List SubnetPort → Type 0
-Rises [] = Unit {0}
-Rises (port ∷ ports) = All (λ b. port.lid ≤ b.lid) ports × Rises ports
-
-rises_with : (ports : List SubnetPort) (port : SubnetPort) → Rises ports → Rises (with_port ports port)
-rises_with [] port h = (All-nil (λ b. port.lid ≤ b.lid), tt)
-rises_with (first ∷ rest) port h = elim (cases_Bool (nat_le first.lid port.lid)) [
-  | inl below ↦ rw below (
-    All-permutation (λ b. first.lid ≤ b.lid) (port ∷ rest) (with_port rest port) (with_port_moves rest port)
-        (All-cons (λ b. first.lid ≤ b.lid) port rest (leb-true first.lid port.lid below) h.0),
-    rises_with rest port h.1,
-  )
-  | inr above ↦ let less : port.lid < first.lid = leb-false first.lid port.lid above in
-      rw above (
-        All-cons (λ b. port.lid ≤ b.lid) first rest (omega arith) (All-weaker (λ b. first.lid ≤ b.lid) (λ b. port.lid ≤ b.lid) (λ b k. omega arith) rest h.0),
-        h,
-      )
-]
-
-rises_all : (nodes : List Node) (all : List EndPort) (some : List (EndPlace × List ℕ)) (ports : List SubnetPort) → Rises ports → Rises (fold (with_end_place nodes all) ports some)
+rises_all : (nodes : List Node) (all : List EndPort) (some : List (EndPlace × List ℕ)) (ports : List SubnetPort) → Rise ports → Rise (fold (with_end_place nodes all) ports some)
 rises_all nodes all [] ports h = h
 rises_all nodes all (one ∷ some) ports h = rises_all nodes all some (with_port ports (as_port nodes all one)) (rises_with ports (as_port nodes all one) h)
 
@@ -247,7 +223,7 @@ lower_by : (m n : ℕ) → m ≤ n → (m == n) ≡ false → nat_lt m n ≡ tru
 lower_by m n h k = grind (arith, nat_tests)
 
 -- in order, and each LID behind those below it: so they count from the first
-numbered : (first : ℕ) (ports : List SubnetPort) → Rises ports → IsDistinct same_lid ports → All (λ port. port.lid ≡ first + lower ports port) ports
+numbered : (first : ℕ) (ports : List SubnetPort) → Rise ports → IsDistinct same_lid ports → All (λ port. port.lid ≡ first + lower ports port) ports
     → map (λ port. port.lid) ports ≡ range_with_len first (length ports)
 unfolding IsDistinct
 numbered first [] up own h = refl

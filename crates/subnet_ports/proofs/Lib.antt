@@ -1,4 +1,5 @@
 pub mod EndPlaceLemmas
+pub mod PlacedLemmas
 pub mod PortLemmas
 pub mod EndPortLemmas
 pub mod FabricPortLemmas
@@ -6,3 +7,4 @@ pub mod GraphPortLemmas
 pub mod LidLemmas
 pub mod OwnEndLemmas
 pub mod ConfiguredLemmas
+pub mod GuidOrderLemmas

@@ -1,8 +1,8 @@
 -- The end ports of a topology: how many there are, their order, and the keys beside them.
-use Rattle.std.proofs.Common.{◌≡◌, ℕ, ◌+◌, ◌<◌, ◌≤◌, List, [], ◌∷◌, ◌++◌, length, take, get_or, insert, map, fold, nat_le, Option, Some, None, refl}
-use Rattle.std.proofs.Common.{inl, inr, ◌∙◌, ap, append-nil, length-append, lit≤, suc, arith, Iter, Global, Bor}
+use Rattle.std.proofs.Common.{◌≡◌, ℕ, ◌+◌, ◌<◌, ◌≤◌, List, [], ◌∷◌, ◌++◌, length, take, get_or, map, fold, Option, Some, None, refl}
+use Rattle.std.proofs.Common.{inl, inr, ◌∙◌, ap, append-nil, length-append, lit≤, arith, Iter, Global, Bor}
 use Rattle.std.specs.Iterator.{AlwaysYields}
-use Rattle.std.specs.List.{prefix_len, flat_map, enumerate_from, range_with_len, zip}
+use Rattle.std.specs.List.{flat_map, enumerate_from, range_with_len, zip}
 use Rattle.std.specs.Vec.Iter.{into_iter_steps}
 use Rattle.std.specs.declared.iter.Zip.{Zip}
 use Rattle.std.specs.declared.vec.IntoIter.{IntoIter}
@@ -26,19 +26,7 @@ use Rattle.subnet_ports.specs.declared.end_ports.EndPlace.{EndPlace}
 use Rattle.partition_file.specs.declared.partition.Partition.{Partition}
 use Rattle.partition_file.specs.Members.{keys_in}
 use Rattle.pkey_rules.specs.declared.end_port.EndPort.{EndPort}
-use Rattle.subnet_ports.specs.Ports.{adapter_end_places, end_ports, keyed, end_place_if_cabled, end_places, end_places_at, end_places_of_type, with_port, with_end_place}
-
--- behind the ports of lesser LIDs is the port's place
-pub insert_in_order : (ports : List SubnetPort) (port : SubnetPort)
-    → insert ports (prefix_len (λ other. nat_le other.lid port.lid) ports) port ≡ with_port ports port
-insert_in_order [] port = refl
-insert_in_order (first ∷ rest) port = elim (cases_Bool (nat_le first.lid port.lid)) [
-  | inl before ↦
-      let n = prefix_len (λ other. nat_le other.lid port.lid) rest in
-      let e : 1 + n ≡ suc n = omega arith in
-      rw before (rw e (ap (λ ports. first ∷ ports) (insert_in_order rest port)))
-  | inr after ↦ rw after refl
-]
+use Rattle.subnet_ports.specs.Ports.{adapter_end_places, end_ports, keyed, end_place_if_cabled, end_places, end_places_at, end_places_of_type, with_end_place}
 
 -- one more port of an adapter
 pub adapter_end_places_more : (plan : TopologyState) (place : ℕ) (node : Node) (n : ℕ)

@@ -1,5 +1,6 @@
 -- The end ports of a subnet, as a topology has them, with the keys that its partitions give them.
 use Rattle.std.specs.Prelude.{ℕ, Bool, true, false, List, [], ◌∷◌, map, fold, slice_get, nat_le, if◌then◌else◌}
+use Rattle.std.specs.Prelude.{◌≤◌, All}
 use Rattle.std.specs.List.{flat_map, enumerate_from, range_with_len}
 use Rattle.std.specs.Option.{option_map_or}
 use Rattle.partition_file.specs.declared.partition.Partition.{Partition}
@@ -82,6 +83,11 @@ abbrev pub with_port : List SubnetPort → SubnetPort → List SubnetPort
 with_port [] port = port ∷ []
 with_port (first ∷ rest) port =
     if nat_le first.lid port.lid then first ∷ with_port rest port else port ∷ first ∷ rest
+
+-- no port has a lesser LID than one before it
+abbrev pub Rise : List SubnetPort → Type 0
+Rise [] = Unit {0}
+Rise (port ∷ ports) = All (λ other. port.lid ≤ other.lid) ports × Rise ports
 
 -- each end port beside the keys that the partitions give it
 abbrev pub keyed : List Partition → List EndPlace → List (EndPlace × List ℕ)

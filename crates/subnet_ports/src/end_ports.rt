@@ -6,15 +6,16 @@ ghost use Rattle.topo_file.specs.Node.{HasGuids, port_guid, ports_at};
 ghost use Rattle.fabric_parts.specs.declared.limits.TheConstants.{LARGE_SWITCHES, LARGE_ADAPTER_PORTS};
 ghost use Rattle.partition_file.specs.Members.{AreSoundHeadings};
 ghost use Rattle.subnet_ports.specs.EndPorts.{AreEndPorts};
-ghost use Rattle.subnet_ports.specs.Ports.{switch_end_place, adapter_end_place, end_place_if_cabled, adapter_end_places, end_places_of_type, end_places, end_ports, type_of, guid_at, end_placed, with_port, with_end_place, in_order, configuration_of};
+ghost use Rattle.subnet_ports.specs.Ports.{switch_end_place, adapter_end_place, end_place_if_cabled, adapter_end_places, end_places_of_type, end_places, end_ports, type_of, guid_at, end_placed, with_port, with_end_place, in_order, configuration_of, Rise};
 ghost use Rattle.subnet_model.specs.Configured.{IsConfigured};
 ghost use Rattle.subnet_model.specs.EndPorts.{lid_of};
 
+use crate::guid_order::GuidOrder;
 use fabric_parts::{NodeType, PortRef};
 use partition_file::{Partitions, members};
 use pkey_rules::{EndPort, KeyTable, PARTITIONS};
 use std::alloc::{AllocError, Global};
-use subnet_model::{Configuration, NodeName, SubnetPort, lid_of};
+use subnet_model::{Configuration, NodeName, SubnetPort};
 use topo_file::{LargeTopology, Node, Topology, name_at, ports_at};
 
 /// Where an end port stands: the place of its node in the topology, and its number there.
@@ -172,9 +173,10 @@ fn in_order(
     requires { length all.now ≤ LARGE_SWITCHES + LARGE_ADAPTER_PORTS }
     ensures { IfOk result (λ ports. ports.items ≡ in_order nodes.now all.now (zip end_places.now keys.items)) }
 {
+    let order = GuidOrder::of(alloc, all)?;
     let mut ports = Vec::new(alloc);
     for (end_place, held) in end_places.iter().zip(keys) {
-        let port = end_placed(nodes, lid_of(all, &end_place.port), end_place, held);
+        let port = end_placed(nodes, order.lid_of(&end_place.port), end_place, held);
         insert_port(&mut ports, port)?;
     }
     Ok(ports)
@@ -182,19 +184,23 @@ fn in_order(
 
 /// Puts a port behind those of lesser LIDs.
 fn insert_port(ports: &mut Vec<SubnetPort>, port: SubnetPort) -> Result<(), AllocError>
-    ensures { OnOk result (ports.new.items ≡ with_port ports.old.items port) }
+    requires { Rise ports.old.items }
+    ensures placed { OnOk result (ports.new.items ≡ with_port ports.old.items port) }
+    ensures rise { OnOk result (Rise ports.new.items) }
 {
-    let place = place_for(ports, port.lid);
+    let place = place_for(ports, &port);
     ports.insert(place, port)?;
     Ok(())
 }
 
-/// How many ports stand before the first of a greater LID.
-fn place_for(ports: &[SubnetPort], lid: u16) -> usize
-    ensures value { result ≡ prefix_len (λ other. nat_le other.lid lid) ports.now }
+/// How many ports stand before the first of a greater LID than this one's.
+fn place_for(ports: &[SubnetPort], port: &SubnetPort) -> usize
+    requires { Rise ports.now }
+    ensures value { result ≡ prefix_len (λ other. nat_le other.lid port.now.lid) ports.now }
     ensures within { result ≤ length ports.now }
 {
-    ports.iter().take_while(|other| other.lid <= lid).count()
+    let lid = port.lid;
+    ports.partition_point(|other| other.lid <= lid)
 }
 
 fn end_placed(

@@ -8,6 +8,7 @@
 #![tactic(auto)]
 
 mod end_ports;
+mod guid_order;
 mod laws;
 
 pub use crate::end_ports::{configuration_of, guid_at, large_configuration_of};

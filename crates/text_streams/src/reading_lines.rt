@@ -86,7 +86,7 @@ fn take_line(waiting: &mut Vec<u8>, line: &mut Vec<u8>) -> Result<bool, AllocErr
 }
 
 /// Drops so many bytes at the front.
-fn drop_front(bytes: &mut Vec<u8>, count: usize)
+pub(crate) fn drop_front(bytes: &mut Vec<u8>, count: usize)
     requires { count ≤ length bytes.old.items }
     ensures { bytes.new.items ≡ drop count bytes.old.items }
 {

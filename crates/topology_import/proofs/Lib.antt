@@ -4,5 +4,4 @@ pub mod PairLemmas
 pub mod NameLemmas
 pub mod TextLemmas
 pub mod LawLemmas
-pub mod WrongLemmas
 pub mod ExampleLemmas

@@ -11,7 +11,6 @@ pub mod Agreement
 pub mod PortPairs
 pub mod Import
 pub mod Laws
-pub mod WrongRules
 pub mod Examples
 pub use Rattle.topo_file.specs.Topology
 pub use Rattle.netdiscover_file.specs.Discovery

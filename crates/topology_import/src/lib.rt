@@ -14,7 +14,6 @@ mod examples;
 mod fault;
 mod import;
 mod index;
-mod laws;
 mod names;
 mod nodes;
 mod planned;
@@ -24,3 +23,4 @@ mod text;
 
 pub use crate::fault::{ImportCause, ImportFault};
 pub use crate::import::topology_text;
+pub use crate::planned::Planned;

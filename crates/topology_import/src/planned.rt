@@ -42,7 +42,7 @@ impl Name {
 
 /// A node of the topology.
 #[derive(Drop)]
-pub(crate) struct Planned {
+pub struct Planned {
     pub(crate) name: Name,
     pub(crate) node_type: NodeType,
     pub(crate) guid: u64,

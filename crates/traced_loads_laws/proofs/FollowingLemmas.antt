@@ -23,11 +23,11 @@ use Rattle.packet_trace.specs.declared.turn.Turn.TheVariants.{Again, DropsInboun
 use Rattle.packet_trace.proofs.DeliveryLemmas.{in_one, nothing_in}
 use Rattle.port_model.specs.AdapterState.{AdapterState}
 use Rattle.port_model.specs.Packets.{accepts_packet}
-use Rattle.route_audit.specs.Channels.{leaves_by}
-use Rattle.route_audit.specs.Following.{turn}
-use Rattle.route_audit.specs.declared.following.Turn.TheVariants as turns
-use Rattle.route_audit.specs.Laws.{ComesBy}
-use Rattle.route_audit.specs.Net.{NetState}
+use Rattle.credit_loops.specs.Channels.{leaves_by}
+use Rattle.audit_net.specs.Following.{turn}
+use Rattle.audit_net.specs.declared.following.Turn.TheVariants as turns
+use Rattle.audit_net.specs.Laws.{ComesBy}
+use Rattle.audit_net.specs.Net.{NetState}
 use Rattle.smp_wire.specs.FabricState.{FabricState, adapter_port, is_switch, is_switch_at}
 use Rattle.smp_wire.specs.declared.node.Node.{Node}
 use Rattle.smp_wire.specs.declared.node.Node.TheVariants.{Switch, Adapter}

@@ -16,7 +16,7 @@ use Rattle.packet_trace.specs.Steps.{steps_of}
 use Rattle.packet_trace.specs.Trace.{step, turn_at}
 use Rattle.packet_trace.specs.declared.turn.Step.{Step}
 use Rattle.packet_trace.specs.declared.turn.Turn.TheVariants.{Accepts, GoesOut}
-use Rattle.route_audit.specs.Net.{row_of}
+use Rattle.audit_net.specs.Net.{row_of}
 use Rattle.smp_wire.specs.FabricState.{is_switch_at}
 use Rattle.smp_wire.specs.declared.node.Node.TheVariants.{Switch}
 use Rattle.switch_model.specs.Fate.{fate}

@@ -12,7 +12,7 @@ use Rattle.own_route_laws.specs.Shown.{Shows}
 use Rattle.packet_trace.specs.Steps.{steps_of}
 use Rattle.packet_trace.specs.Trace.{step}
 use Rattle.packet_trace.specs.declared.turn.Turn.TheVariants.{Accepts}
-use Rattle.route_audit.specs.Net.{NetState}
+use Rattle.audit_net.specs.Net.{NetState}
 use Rattle.smp_wire.specs.FabricState.{FabricState, is_switch_at}
 use Rattle.smp_wire.specs.declared.node.Node.TheVariants.{Switch}
 use Rattle.subnet_fabric.specs.BringUp.{IsBroughtUpBy}

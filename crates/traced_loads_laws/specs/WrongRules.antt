@@ -9,8 +9,8 @@ use Rattle.dump_file.specs.Dump.{DumpState}
 use Rattle.dump_file.specs.declared.destination.Destination.TheVariants.{NotReported}
 use Rattle.fabric_parts.specs.declared.cable.PortRef.{PortRef}
 use Rattle.fabric_parts.specs.declared.node_type.NodeType.TheVariants as node_type
-use Rattle.route_audit.specs.Channels.{is_channel}
-use Rattle.route_audit.specs.Net.{NetState}
+use Rattle.credit_loops.specs.Channels.{is_channel}
+use Rattle.audit_net.specs.Net.{NetState}
 use Rattle.smp_wire.specs.FabricState.{FabricState}
 use Rattle.smp_wire.specs.declared.node.Node.TheVariants.{Switch}
 use Rattle.switch_model.specs.SwitchState.{SwitchState}

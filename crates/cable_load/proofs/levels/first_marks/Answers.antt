@@ -1,6 +1,6 @@
 use Rattle.std.proofs.Common.{sym}
 use Rattle.cable_load.specs.Levels.{carries}
-use Rattle.route_audit.proofs.ChannelLemmas.{map_range_more}
+use Rattle.audit_plan.proofs.RangeLemmas.{map_range_more}
 use Rattle.cable_load.proofs.levels.first_marks.Goals as goal
 
 pub loop-place-preserved : goal.loop-place-preserved

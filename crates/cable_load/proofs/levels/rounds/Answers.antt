@@ -1,7 +1,7 @@
 use Rattle.std.proofs.Common.{◌≡◌, ◌∙◌, arith, ap, sym, ℕ, List, Bool, length, map}
 use Rattle.std.specs.List.{range_with_len}
 use Rattle.cable_load.specs.Levels.{is_next, marks_of}
-use Rattle.route_audit.proofs.ChannelLemmas.{map_range_more}
+use Rattle.audit_plan.proofs.RangeLemmas.{map_range_more}
 use Rattle.cable_load.proofs.LevelLemmas.{next_marks_are}
 use Rattle.cable_load.proofs.levels.rounds.Goals as goal
 

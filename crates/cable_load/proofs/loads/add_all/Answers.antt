@@ -1,6 +1,6 @@
 use Rattle.std.proofs.Common.{◌≡◌, ◌∙◌, ap, refl, List, flat_map, subst}
 use Rattle.std.proofs.lemmas.List.{take_all}
-use Rattle.route_audit.specs.declared.lids.Aim.{Aim}
+use Rattle.lid_owners.specs.declared.lids.Aim.{Aim}
 use Rattle.cable_load.specs.Counts.{counts_of}
 use Rattle.cable_load.specs.Sources.{pairs_to}
 use Rattle.cable_load.specs.Talk.{may_talk}

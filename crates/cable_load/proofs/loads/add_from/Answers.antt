@@ -1,6 +1,6 @@
 use Rattle.std.proofs.Common.{◌≡◌, ◌∙◌, ap, subst, sym, ℕ, List, arith}
 use Rattle.std.proofs.lemmas.Bool.Decides.{nat_tests}
-use Rattle.route_audit.specs.Following.{fate}
+use Rattle.audit_net.specs.Following.{fate}
 use Rattle.cable_load.specs.Counts.{counts_of}
 use Rattle.cable_load.specs.Sources.{Pair}
 use Rattle.cable_load.specs.Talk.{may_talk}

@@ -1,5 +1,5 @@
 use Rattle.std.proofs.Common.{◌≡◌, map, take, List}
-use Rattle.route_audit.specs.Net.{NetState}
+use Rattle.audit_net.specs.Net.{NetState}
 use Rattle.cable_load.specs.Loads.{loaded}
 use Rattle.cable_load.specs.Sources.{Pair}
 use Rattle.cable_load.specs.Walk.{AreSums}

@@ -1,6 +1,6 @@
 use Rattle.std.proofs.Common.{[]}
 use Rattle.cable_load.specs.Sources.{host_behind}
-use Rattle.route_audit.proofs.ChannelLemmas.{flat_onto}
+use Rattle.audit_plan.proofs.RangeLemmas.{flat_onto}
 use Rattle.cable_load.proofs.sources.attached.Goals as goal
 
 pub loop-before-preserved : goal.loop-before-preserved

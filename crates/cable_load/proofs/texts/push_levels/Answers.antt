@@ -1,7 +1,7 @@
 use Rattle.std.proofs.Common.{◌≡◌, ◌∙◌, ◌++◌, arith, ap, ℕ, flat_map}
 use Rattle.std.specs.List.{range_with_len}
 use Rattle.cable_load.specs.Text.{level_text}
-use Rattle.route_audit.proofs.ChannelLemmas.{flat_onto}
+use Rattle.audit_plan.proofs.RangeLemmas.{flat_onto}
 use Rattle.cable_load.proofs.texts.push_levels.Goals as goal
 
 pub loop-level-preserved : goal.loop-level-preserved

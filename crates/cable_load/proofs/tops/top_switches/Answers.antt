@@ -1,6 +1,6 @@
 use Rattle.std.proofs.Common.{◌∙◌, ap}
 use Rattle.dump_file.specs.Dump.{DumpState}
-use Rattle.route_audit.specs.Net.{NetState}
+use Rattle.audit_net.specs.Net.{NetState}
 use Rattle.cable_load.specs.Tops.{tops_of}
 use Rattle.cable_load.proofs.tops.top_switches.Goals as goal
 

@@ -1,9 +1,9 @@
 use Rattle.std.proofs.Common.{ℕ, List, ◌≡◌, ◌∙◌, ◌<◌, length, ap, subst, sym, true, false, arith}
-use Rattle.route_audit.specs.declared.entry.Entry.TheVariants.{Out}
-use Rattle.route_audit.specs.declared.following.Turn.TheVariants as turns
-use Rattle.route_audit.specs.Channels.{is_out}
-use Rattle.route_audit.specs.Following.{turn, turn_by}
-use Rattle.route_audit.specs.Net.{entry}
+use Rattle.audit_net.specs.declared.entry.Entry.TheVariants.{Out}
+use Rattle.audit_net.specs.declared.following.Turn.TheVariants as turns
+use Rattle.credit_loops.specs.Channels.{is_out}
+use Rattle.audit_net.specs.Following.{turn, turn_by}
+use Rattle.audit_net.specs.Net.{entry}
 use Rattle.cable_load.specs.Walk.{is_stamped}
 use Rattle.cable_load.proofs.SumLemmas.{ends_added, ends_back, ends_closed, is_added, is_free, is_taken, no_out, no_out_stays, walks_on}
 use Rattle.cable_load.proofs.walk.add_way.Goals as goal

@@ -4,7 +4,16 @@ use Rattle.fabric_cli.proofs.serving.answered_of_dump.Goals as goal
 
 pub returns-in-Ok-clause-exact : goal.returns-in-Ok-clause-exact
 returns-in-Ok-clause-exact g c =
-    let found = rw (c.as_slice.ensures.value, c.as_slice-in-Ok.ensures.value) at c.viewed-made.ensures.exact in
-    of_two (g.F.Files.reported c.args.files.now) c.args.view c.args.fabric.now c.args.dump.now c.in-Ok.plan.items c.in-Ok.tables.items c.written_view.result
-    (g.O.Output.is_sure c.args.out.now) (g.O.Output.contents c.args.out.now) (g.O.Output.contents c.written_view.new.out) c.in-Ok.ensures.bytes
-    (c.written_view.ensures.exact (ended (viewed c.args.view c.in-Ok.plan.items c.in-Ok.tables.items)) found)
+    let read = c.in-Ok.read in
+    let tables = c.in-Ok.ensures.dump in
+    let found = rw c.as_slice.ensures.value at (c.viewed-made.ensures.exact tables.bytes tables.holds) in
+    of_two (g.F.Files.reported c.args.files.now) c.args.view c.args.fabric.now c.args.dump.now read.fabric.items tables.bytes c.written_view.result
+    (g.O.Output.is_sure c.args.out.now) (g.O.Output.contents c.args.out.now) (g.O.Output.contents c.written_view.new.out) c.in-Ok.ensures.fabric tables.are_known
+    (c.written_view.ensures.exact (ended (viewed c.args.view read.fabric.items tables.bytes)) found)
+
+pub returns-in-Ok-clause-any_files : goal.returns-in-Ok-clause-any_files
+returns-in-Ok-clause-any_files g c reported =
+    let read = c.in-Ok.read in
+    let tables = c.in-Ok.ensures.dump in
+    let found = rw c.as_slice.ensures.value at (c.viewed-made.ensures.exact tables.bytes tables.holds) in
+    (read.fabric.items, tables.bytes, c.written_view.ensures.exact (ended (viewed c.args.view read.fabric.items tables.bytes)) found)

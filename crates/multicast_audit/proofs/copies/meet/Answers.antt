@@ -1,4 +1,4 @@
-use Rattle.route_audit.proofs.LidLemmas.{marked_more}
+use Rattle.lid_owners.proofs.LidLemmas.{marked_more}
 use Rattle.multicast_audit.proofs.copies.meet.Goals as goal
 
 pub returns-clause-marked : goal.returns-clause-marked

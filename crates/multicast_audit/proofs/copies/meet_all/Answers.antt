@@ -1,5 +1,5 @@
 use Rattle.std.proofs.Common.{ℕ, List, Bool, ◌==◌, ◌||◌, ◌≡◌, ◌∙◌, ap, false, sym}
-use Rattle.route_audit.specs.Marks.{is_marked}
+use Rattle.audit_net.specs.Marked.{is_marked}
 use Rattle.multicast_audit.proofs.MeetLemmas.{all_met, one_met}
 use Rattle.multicast_audit.proofs.copies.meet_all.Goals as goal
 

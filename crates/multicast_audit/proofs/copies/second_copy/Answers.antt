@@ -3,7 +3,7 @@ use Rattle.std.specs.List.{list_any}
 use Rattle.std.proofs.Math.Seq.{take-append_seam}
 use Rattle.fabric_parts.specs.declared.cable.PortRef.{PortRef}
 use Rattle.topo_file.specs.declared.node.Node.{Node}
-use Rattle.route_audit.specs.Marks.{is_marked}
+use Rattle.audit_net.specs.Marked.{is_marked}
 use Rattle.multicast_audit.specs.Copies.{again, hop, node_behind, second_copy}
 use Rattle.multicast_audit.proofs.MeetLemmas.{IsFollowed, followed_again, followed_all, followed_first, followed_on, followed_out, none_there}
 use Rattle.multicast_audit.proofs.copies.second_copy.Goals as goal

@@ -2,7 +2,7 @@ use Rattle.std.proofs.Common.{◌≡◌, ◌∙◌, ◌||◌, ◌<◌, ◌+◌, 
 use Rattle.fabric_parts.specs.Cable.{port}
 use Rattle.topo_file.specs.Node.{ports_at}
 use Rattle.topo_file.specs.declared.node.Node.{Node}
-use Rattle.route_audit.proofs.AttachedLemmas.{next_left, some_left}
+use Rattle.audit_net.proofs.AttachedLemmas.{next_left, some_left}
 use Rattle.multicast_audit.specs.Copies.{leads_to_end}
 use Rattle.multicast_audit.proofs.copies.takes_packets.Goals as goal
 

@@ -1,6 +1,6 @@
 use Rattle.std.proofs.Common.{◌≡◌}
 use Rattle.topo_file.specs.Node.{ports_at}
-use Rattle.route_audit.proofs.AttachedLemmas.{some_left}
+use Rattle.audit_net.proofs.AttachedLemmas.{some_left}
 use Rattle.multicast_audit.specs.Copies.{leads_to_end, takes_packets}
 use Rattle.multicast_audit.proofs.copies.takes_packets.Given as goal
 

@@ -1,6 +1,6 @@
 use Rattle.std.proofs.Common.{ℕ, List, ◌==◌, ◌||◌, ◌≤◌, ◌<◌, ◌≡◌, ◌∙◌, ap, get_or, length, subst}
 use Rattle.mft_file.specs.declared.row.MaskRow.{MaskRow}
-use Rattle.route_audit.specs.Marks.{is_marked}
+use Rattle.audit_net.specs.Marked.{is_marked}
 use Rattle.multicast_audit.proofs.MarkLemmas.{all_marked_of, marked_next}
 use Rattle.multicast_audit.proofs.masks.mark_rows.Goals as goal
 

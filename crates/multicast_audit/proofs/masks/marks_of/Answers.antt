@@ -1,7 +1,7 @@
 use Rattle.std.proofs.Common.{ℕ, List, Bool, ◌≡◌, ◌∙◌, ◌+◌, ◌++◌, ◌||◌, ap, drop, length, subst, sym, take}
 use Rattle.std.proofs.Math.Seq.{take-append_seam}
 use Rattle.mft_file.specs.declared.table.MaskTable.{MaskTable}
-use Rattle.route_audit.specs.Marks.{is_marked}
+use Rattle.audit_net.specs.Marked.{is_marked}
 use Rattle.multicast_audit.specs.Masks.{has_row}
 use Rattle.multicast_audit.proofs.MarkLemmas.{AreMarkedFrom, all_marked_from, marked_after, none_marked}
 use Rattle.multicast_audit.proofs.masks.marks_of.Goals as goal

@@ -1,7 +1,7 @@
 use Rattle.std.proofs.Common.{List, Bool, ◌∙◌, ap}
 use Rattle.std.specs.List.{range_with_len}
-use Rattle.route_audit.specs.Marks.{is_marked}
-use Rattle.route_audit.proofs.LidLemmas.{filter_alike}
+use Rattle.audit_net.specs.Marked.{is_marked}
+use Rattle.lid_owners.proofs.LidLemmas.{filter_alike}
 use Rattle.multicast_audit.specs.Masks.{is_used, mlids_of}
 use Rattle.multicast_audit.proofs.masks.mlids_of.Goals as goal
 

@@ -3,7 +3,7 @@ use Rattle.std.specs.List.{range_with_len}
 use Rattle.fabric_parts.specs.declared.cable.PortRef.{PortRef}
 use Rattle.topo_file.specs.declared.node.Node.{Node}
 use Rattle.topo_file.specs.Node.{ports_at}
-use Rattle.route_audit.proofs.ChannelLemmas.{flat_onto}
+use Rattle.audit_plan.proofs.RangeLemmas.{flat_onto}
 use Rattle.multicast_audit.specs.Scanning.{out_behind}
 use Rattle.multicast_audit.proofs.WayLemmas.{all_outs_behind}
 use Rattle.multicast_audit.proofs.ways.push_outs.Goals as goal

@@ -1,5 +1,5 @@
 use Rattle.std.proofs.Common.{[]}
-use Rattle.route_audit.proofs.ChannelLemmas.{flat_onto}
+use Rattle.audit_plan.proofs.RangeLemmas.{flat_onto}
 use Rattle.own_loads.specs.OwnDump.{own_table_at}
 use Rattle.own_loads.proofs.own_dump.tables_of.Goals as goal
 

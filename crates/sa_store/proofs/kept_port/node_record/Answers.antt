@@ -7,4 +7,4 @@ returns-clause-fits c =
     let long : length c.args.node_string ≡ 64 = search rules in
     let wide : 8 * length c.args.node_string ≡ 512 = omega (arith, long) in
     let name = rw (ap (λ (n : ℕ). 2 ^ n) wide) at (number_below c.args.node_string c.known_bytes.ensures) in
-    (c.ranges.lid.fits, (lit< tt, (lit< tt, (c.ranges.node_type.fits, (c.ranges.num_ports.fits, (c.ranges.node_guid.fits, (c.ranges.node_guid.fits, (c.ranges.port_guid.fits, (lit< tt, (lit< tt, (lit< tt, (c.ranges.local_port_num.fits, (lit< tt, (name, tt))))))))))))))
+    (c.known_numbers.ensures.lid, (lit< tt, (lit< tt, (c.ranges.node_type.fits, (c.known_numbers.ensures.num_ports, (c.known_numbers.ensures.node_guid, (c.known_numbers.ensures.node_guid, (c.known_numbers.ensures.guid, (lit< tt, (lit< tt, (lit< tt, (c.known_numbers.ensures.number, (lit< tt, (name, tt))))))))))))))

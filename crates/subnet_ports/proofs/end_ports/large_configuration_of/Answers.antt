@@ -1,4 +1,4 @@
-use Rattle.std.proofs.Common.{◌≡◌, ◌≤◌, ◌+◌, List, length, map, refl, sym, subst, ap, ◌∙◌, arith}
+use Rattle.std.proofs.Common.{◌≡◌, ◌≤◌, ◌+◌, List, length, map, refl, sym, subst, ap, ◌∙◌}
 use Rattle.fabric_parts.specs.declared.limits.TheConstants.{LARGE_ADAPTER_PORTS, LARGE_SWITCHES}
 use Rattle.partition_file.specs.declared.heading.Heading.{Heading}
 use Rattle.partition_file.specs.Members.{AreSoundHeadings, heading_of}

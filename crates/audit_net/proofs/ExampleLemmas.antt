@@ -1,0 +1,22 @@
+-- Entries, and what comes of packets, computed.
+use Rattle.std.proofs.Common.{refl}
+use Rattle.audit_net.specs.Examples.{AttachedAreReported, EntriesAreReported, TurnsAreReported}
+
+pub entries_are_reported : EntriesAreReported
+entries_are_reported = record {
+  there = refl;
+  closed = refl;
+  without_row = refl;
+  of_many_ports = refl;
+  closed_of_many = refl;
+  left_out = refl;
+  above_a_multiple = refl;
+  below_the_top = refl;
+  without_table = refl;
+}
+
+pub attached_are_reported : AttachedAreReported
+attached_are_reported = record { first = refl; second = refl }
+
+pub turns_are_reported : TurnsAreReported
+turns_are_reported = record { there = refl; on = refl; at_the_switch = refl; closed = refl; without_cable = refl; not_shown = refl }

@@ -1,0 +1,39 @@
+-- What entries are, and what comes of packets at a switch, in examples.
+use Rattle.std.specs.Prelude.{ℕ, ◌≡◌, true, false}
+use Rattle.dump_file.specs.declared.table.Table.{Table}
+use Rattle.audit_net.specs.declared.entry.Entry.TheVariants.{Out, Missing, Unreported}
+use Rattle.audit_net.specs.Attached.{carries_host}
+use Rattle.audit_net.specs.Net.{entry, entry_in}
+use Rattle.audit_net.specs.SmallNets.{a_hole, a_table, with_entries}
+use Rattle.fabric_parts.specs.Cable.{port}
+use Rattle.audit_net.specs.declared.following.Turn.TheVariants as turns
+use Rattle.audit_net.specs.Following.{turn}
+
+-- ---- entries: 255 leads nowhere, as no row does, but for a top that is a multiple of 64
+abbrev pub topped : ℕ → Table
+topped top = record (a_table 16 1) { top = top }
+
+pub record EntriesAreReported : Type 0 where
+  pub there : entry_in 2 1 (a_table 16 254) ≡ Out 254
+  pub closed : entry_in 2 1 (a_table 16 255) ≡ Missing
+  pub without_row : entry_in 127 2 (topped 64) ≡ Missing
+  pub of_many_ports : entry_in 128 2 (topped 64) ≡ Unreported
+  pub closed_of_many : entry_in 128 1 (a_table 16 255) ≡ Missing
+  pub left_out : entry_in 2 192 (topped 192) ≡ Unreported
+  pub above_a_multiple : entry_in 2 193 (topped 193) ≡ Missing
+  pub below_the_top : entry_in 2 64 (topped 192) ≡ Missing
+  pub without_table : entry a_hole 1 2 ≡ Unreported
+
+-- ---- an adapter is attached to the first switch, and none to the second
+pub record AttachedAreReported : Type 0 where
+  pub first : carries_host a_hole 0 ≡ true
+  pub second : carries_host a_hole 1 ≡ false
+
+-- ---- what comes of a packet to the adapter at a switch, by the entries of both switches
+pub record TurnsAreReported : Type 0 where
+  pub there : turn (with_entries 1 1) 1 0 ≡ turns.Arrives (port 2 1)
+  pub on : turn (with_entries 2 1) 1 0 ≡ turns.Goes 1
+  pub at_the_switch : turn (with_entries 0 1) 1 0 ≡ turns.Arrives (port 0 0)
+  pub closed : turn (with_entries 1 255) 1 1 ≡ turns.Hole
+  pub without_cable : turn (with_entries 1 254) 1 1 ≡ turns.Nowhere 254
+  pub not_shown : turn a_hole 1 2 ≡ turns.Unknown

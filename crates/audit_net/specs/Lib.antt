@@ -1,0 +1,10 @@
+pub mod FarEnds
+pub mod Net
+pub mod Lookup
+pub mod Following
+pub mod Attached
+pub mod Marked
+pub mod Laws
+pub mod SmallNets
+pub mod WrongRules
+pub mod Examples

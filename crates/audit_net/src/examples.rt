@@ -1,0 +1,18 @@
+//! What entries are, and what comes of packets, computed. Each function does nothing: its contract is the example.
+
+ghost use Rattle.audit_net.specs.Examples.{EntriesAreReported, AttachedAreReported, TurnsAreReported};
+
+/// The entries of a table.
+pub fn entries_are_reported()
+    ensures { EntriesAreReported }
+{}
+
+/// Which switches an adapter is attached to.
+pub fn attached_are_reported()
+    ensures { AttachedAreReported }
+{}
+
+/// What comes of packets at a switch.
+pub fn turns_are_reported()
+    ensures { TurnsAreReported }
+{}

@@ -1,0 +1,14 @@
+//! Wrong rules for what comes of a packet, and the law that each breaks, so that a reader sees that the laws say something. Each
+//! function does nothing: its contract says that with this rule the law is false.
+
+ghost use Rattle.audit_net.specs.WrongRules.{WaysAreLonger, LoopsBeginWhereReported};
+
+/// Where what does not end at the first switch is reported to be endless, it may end at the second.
+pub fn ways_are_longer()
+    ensures { WaysAreLonger }
+{}
+
+/// Where a loop is reported without the switch where it is reported, it does not begin there.
+pub fn loops_begin_where_reported()
+    ensures { LoopsBeginWhereReported }
+{}

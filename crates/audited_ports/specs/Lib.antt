@@ -1,0 +1,6 @@
+pub mod Held
+pub mod Ends
+pub mod OpenSm
+pub mod Gathered
+pub mod Names
+pub mod Strangers

@@ -1,0 +1,19 @@
+-- What wrong rules report of two switches.
+use Rattle.std.proofs.Common.{refl, sym, [], ◌∷◌, arith}
+use Rattle.std.proofs.lemmas.Bool.{false≢true}
+use Rattle.fabric_parts.specs.Cable.{port}
+use Rattle.credit_loops.specs.WrongRules.{FirstPortsAreChannels, OtherLidsDoNotCount, TheLastWaitsForTheFirst, TwoMakeACycle}
+use Rattle.audit_net.specs.SmallNets.{two_switches}
+
+pub first_ports_are_channels : FirstPortsAreChannels
+first_ports_are_channels law =
+    false≢true ((law (two_switches 1 1) (port 0 1)).1 (record { switch = refl; low = omega arith; high = omega arith; there = port 1 1; cable = refl; to_switch = refl }))
+
+pub other_lids_do_not_count : OtherLidsDoNotCount
+other_lids_do_not_count law = false≢true (law (two_switches 1 1) [] (port 0 1 ∷ port 1 1 ∷ []) refl).1
+
+pub two_make_a_cycle : TwoMakeACycle
+two_make_a_cycle law = false≢true (sym (law (two_switches 1 1) (1 ∷ []) refl (port 0 1 ∷ port 1 1 ∷ []) refl))
+
+pub the_last_waits_for_the_first : TheLastWaitsForTheFirst
+the_last_waits_for_the_first law = false≢true (law (two_switches 1 1) (1 ∷ []) (port 0 1 ∷ []) refl).1

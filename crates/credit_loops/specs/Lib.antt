@@ -1,0 +1,6 @@
+pub mod Cycle
+pub mod Marks
+pub mod Channels
+pub mod Waits
+pub mod Laws
+pub mod WrongRules

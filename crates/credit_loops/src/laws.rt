@@ -1,0 +1,18 @@
+//! Laws of channels and their cycles. The functions do nothing; their clauses are the theorems.
+
+ghost use Rattle.credit_loops.specs.Laws.{ChannelsAreReported, ReportedLoopsWait, NoCycleIsMissed};
+
+/// Channels are the ports of switches that have a cable to a switch.
+pub fn channels_are_reported()
+    ensures { ChannelsAreReported }
+{}
+
+/// A credit loop that is printed is a cycle of channels in the dependency graph.
+pub fn reported_loops_wait()
+    ensures { ReportedLoopsWait }
+{}
+
+/// If none is printed there is none, however long.
+pub fn no_cycle_is_missed()
+    ensures { NoCycleIsMissed }
+{}

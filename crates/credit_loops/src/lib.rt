@@ -1,0 +1,14 @@
+//! The channel dependency graph of a fabric, and its cycles: credit loops.
+//!
+//! A channel is a port of a switch that has a cable to a switch. Which channels there are, and which waits for which along some LIDs, is
+//! stated in `specs/Channels.antt`; which cycle is found, in `specs/Cycle.antt`. [`deadlock`] finds one. `src/laws.rt` says that each cycle
+//! that is found is one, and that none is missed.
+#![tactic(auto)]
+
+mod channels;
+pub mod cycle;
+mod laws;
+mod wrong_rules;
+
+pub use crate::channels::{all_channels, channel_at, deadlock, is_channel, leaves_by};
+pub use crate::laws::{channels_are_reported, no_cycle_is_missed, reported_loops_wait};

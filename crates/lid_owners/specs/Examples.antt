@@ -1,0 +1,21 @@
+-- Whose a LID is, in examples.
+use Rattle.std.specs.Prelude.{ℕ, ◌≡◌, true, false, [], ◌∷◌, Some, None}
+use Rattle.dump_file.specs.declared.destination.Destination.{Destination}
+use Rattle.dump_file.specs.declared.destination.Destination.TheVariants.{ChannelAdapter as AdapterKind, FurtherLid, Router, Switch as SwitchKind}
+use Rattle.fabric_parts.specs.Cable.{port}
+use Rattle.lid_owners.specs.Lids.{aim_of, is_lacking}
+use Rattle.audit_net.specs.Net.{NetState}
+use Rattle.audit_net.specs.SmallNets.{a_row, two_with}
+
+-- ---- a LID that a row gives to a channel adapter, or to a switch, is no other kind of port
+abbrev says_of_b : (ℕ → Destination) → NetState
+says_of_b kind = two_with (a_row 2 2 (kind 32) ∷ []) (a_row 2 0 (kind 32) ∷ [])
+
+pub record KindsAreReported : Type 0 where
+  pub switch : (aim_of (says_of_b SwitchKind) 2).end ≡ Some (port 1 0)
+  pub further : (aim_of (says_of_b FurtherLid) 2).end ≡ Some (port 1 0)
+  pub adapter : (aim_of (says_of_b AdapterKind) 2).end ≡ None
+  pub router : (aim_of (says_of_b Router) 2).end ≡ None
+  pub lacking : is_lacking (says_of_b AdapterKind) (aim_of (says_of_b AdapterKind) 2) ≡ true
+  pub not_lacking : is_lacking (says_of_b SwitchKind) (aim_of (says_of_b SwitchKind) 2) ≡ false
+  pub router_lacking : is_lacking (says_of_b Router) (aim_of (says_of_b Router) 2) ≡ false

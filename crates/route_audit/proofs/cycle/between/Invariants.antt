@@ -1,5 +1,0 @@
-use Rattle.route_audit.specs.Marks.{KeepsCycles}
-use Rattle.route_audit.proofs.cycle.between.Given as goal
-
-abbrev pub invariant-loop : goal.invariant-loop
-invariant-loop l = KeepsCycles l.graph l.marks.items

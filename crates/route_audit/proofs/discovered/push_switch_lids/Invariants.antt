@@ -1,6 +1,0 @@
-use Rattle.std.proofs.Common.{◌≡◌, ◌++◌, flat_map, take}
-use Rattle.route_audit.specs.Plan.{switch_lid}
-use Rattle.route_audit.proofs.discovered.push_switch_lids.Given as goal
-
-abbrev pub invariant-loop-node : goal.invariant-loop-node
-invariant-loop-node l = l.lids.items ≡ l.fn.lids.items ++ flat_map switch_lid (take l.node-index l.fn.nodes)

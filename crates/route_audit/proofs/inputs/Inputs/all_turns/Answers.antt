@@ -1,8 +1,0 @@
-use Rattle.std.proofs.Common.{sym}
-use Rattle.route_audit.specs.Lookup.{turns_at}
-use Rattle.route_audit.proofs.ChannelLemmas.{map_range_more}
-use Rattle.route_audit.proofs.inputs.Inputs.all_turns.Goals as goal
-
-pub loop-place-preserved : goal.loop-place-preserved
-loop-place-preserved c =
-    rw (c.in_ok-push.ensures.items, c.of.ensures, c.in_ok-turns.ensures, c.loop-place.invariant) (sym (map_range_more (turns_at c.args.self.now) c.loop-place.place))

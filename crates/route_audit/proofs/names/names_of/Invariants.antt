@@ -1,6 +1,0 @@
-use Rattle.std.proofs.Common.{take}
-use Rattle.route_audit.specs.Names.{KnowsNames}
-use Rattle.route_audit.proofs.names.names_of.Given as goal
-
-abbrev pub invariant-loop-node : goal.invariant-loop-node
-invariant-loop-node l = KnowsNames l.names (take l.node-index l.nodes)

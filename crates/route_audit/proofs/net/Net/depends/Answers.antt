@@ -1,8 +1,0 @@
-use Rattle.std.proofs.Common.{sym, ◌∙◌}
-use Rattle.route_audit.proofs.WaitLemmas.{depends_here}
-use Rattle.route_audit.proofs.net.Net.depends.Goals as goal
-
-pub returns-then-leads_to : goal.returns-then-leads_to
-returns-then-leads_to c =
-    depends_here c.args.self.now c.args.lids.now c.args.first c.args.second c.is_taken.result (sym c.leads_to.ensures ∙ c.if-leads_to.true)
-    (c.is_taken.ensures.value ∙ c.requires c.args.first.port c.args.second.port c.is_taken.ensures.number c.is_taken.ensures.next)

@@ -1,5 +1,0 @@
-use Rattle.route_audit.proofs.WrongLemmas.{loops_begin_where_reported}
-use Rattle.route_audit.proofs.wrong_rules.loops_begin_where_reported.Goals as goal
-
-pub returns : goal.returns
-returns c = loops_begin_where_reported

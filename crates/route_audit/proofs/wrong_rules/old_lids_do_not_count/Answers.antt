@@ -1,5 +1,0 @@
-use Rattle.route_audit.proofs.WrongLemmas.{old_lids_do_not_count}
-use Rattle.route_audit.proofs.wrong_rules.old_lids_do_not_count.Goals as goal
-
-pub returns : goal.returns
-returns c = old_lids_do_not_count

@@ -1,5 +1,0 @@
-use Rattle.route_audit.proofs.WrongLemmas.{the_last_waits_for_the_first}
-use Rattle.route_audit.proofs.wrong_rules.the_last_waits_for_the_first.Goals as goal
-
-pub returns : goal.returns
-returns c = the_last_waits_for_the_first
