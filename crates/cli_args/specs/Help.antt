@@ -11,7 +11,7 @@ abbrev pub program_name : List ℕ
 program_name = codes "fabric"
 
 abbrev pub program_version : List ℕ
-program_version = codes "0.1.0"
+program_version = codes "1.0.0"
 
 abbrev pub about_program : List ℕ
 about_program = codes "An InfiniBand subnet manager over a simulated fabric"

@@ -692,7 +692,7 @@ fn fabric_command<'a>(alloc: Global) -> Result<Command<'a>, AllocError>
     let cables = with_cables(alloc, runs)?;
     let audits = with_audits(alloc, cables);
     let command = with_command(audits, explain_command(alloc))?.bin_name("fabric")?;
-    Ok(command.version("0.1.0").about(ABOUT).after_help(STATUSES))
+    Ok(command.version("1.0.0").about(ABOUT).after_help(STATUSES))
 }
 
 /// What parses the arguments, by the program's commands, or refuses them.
