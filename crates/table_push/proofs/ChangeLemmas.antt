@@ -298,6 +298,71 @@ arms fabric stood left result path asked guid number change bytes held wanted st
     subst (Leaves result left fabric)
     (info_alike fabric path asked guid number at good here (stepped change asks_for) (armed change) (is_armed change here.info)) leaves
 
+on_none : (guid number : ℕ) (f : PortInfo → PortInfo) → ((info : PortInfo) → f info ≡ info) → (of_guid of_number : ℕ) (info : PortInfo)
+    → on_port guid number f of_guid of_number info ≡ info
+on_none guid number f each of_guid of_number info = by ((guid == of_guid) && (number == of_number))
+  where
+    by : (b : Bool) → (if b then f info else info) ≡ info
+    by true = each info
+    by false = refl
+
+-- what a port shows that is changed already, it holds
+unshown : (lid : Option ℕ) (enforcement : Option Bool) (shown : ℕ) (info : PortInfo)
+    → change_of lid enforcement (shown_at shown info) ≡ shown_at shown info → change_of lid enforcement info ≡ info
+unshown None None shown info same = refl
+unshown None (Some on) shown info same = λ i. record info {
+  partition_enforcement_inbound = ap (λ (one : PortInfo). one.partition_enforcement_inbound) same i;
+  partition_enforcement_outbound = ap (λ (one : PortInfo). one.partition_enforcement_outbound) same i;
+}
+unshown (Some lid) None shown info same = λ i. record info {
+  gid_prefix = ap (λ (one : PortInfo). one.gid_prefix) same i;
+  lid = ap (λ (one : PortInfo). one.lid) same i;
+  lmc = ap (λ (one : PortInfo). one.lmc) same i;
+  master_sm_lid = ap (λ (one : PortInfo). one.master_sm_lid) same i;
+}
+unshown (Some lid) (Some on) shown info same = λ i. record info {
+  gid_prefix = ap (λ (one : PortInfo). one.gid_prefix) same i;
+  lid = ap (λ (one : PortInfo). one.lid) same i;
+  lmc = ap (λ (one : PortInfo). one.lmc) same i;
+  master_sm_lid = ap (λ (one : PortInfo). one.master_sm_lid) same i;
+  partition_enforcement_inbound = ap (λ (one : PortInfo). one.partition_enforcement_inbound) same i;
+  partition_enforcement_outbound = ap (λ (one : PortInfo). one.partition_enforcement_outbound) same i;
+}
+
+armed_same : (change : PortChange) (info : PortInfo) → first_state change.active info.port_state ≡ NoChange
+    → with_lid_and_enforcement change info ≡ info → armed change info ≡ info
+armed_same change info none same = by (change.active && (info.port_state == 2)) refl
+  where
+    by : (b : Bool) → (change.active && (info.port_state == 2)) ≡ b → with_lid_and_enforcement change (if b then with_state Armed info else info) ≡ info
+    by true is =
+        let armed : ◌≡◌ {A = PortState} Armed NoChange = subst (λ (b : Bool). (if b then Armed else NoChange) ≡ NoChange) is none in absurd (cc)
+    by false is = same
+
+-- a port that holds all of it is not set
+pub arms_none : (fabric : FabricState) (stood : Option FabricState) (path : List ℕ) (asked guid number : ℕ) (change : PortChange) (bytes : List ℕ)
+    (held wanted : PortInfo) (state : PortState) → IsGood fabric → stood ≡ Some fabric → (takes : TakesChange fabric path asked guid number change)
+    → IsRead fabric path asked guid number takes.leads.at bytes held → wanted ≡ with_lid_and_enforcement change held
+    → Fits (port_info wanted) → state ≡ first_state change.active held.port_state → Holds bytes (port_info held)
+    → state ≡ NoChange → put_all bytes (port_info wanted) ≡ bytes
+    → Leaves {X = Unit {0}} (Ok tt) stood fabric (with_infos (on_port guid number (armed change)) fabric)
+arms_none fabric stood path asked guid number change bytes held wanted state good stands takes read wanted_is fits state_is holds none stay =
+    let at = takes.leads.at in
+    let here = read.here in
+    let are : bytes ≡ port_info_bytes wanted =
+    sym stay ∙ ap (λ (some : List ℕ). put_all some (port_info wanted)) read.bytes_are ∙ info_over held wanted read.fits fits in
+    let same : wanted ≡ held = sym (info_from bytes held wanted fits are holds) in
+    let asks_none : first_state change.active here.info.port_state ≡ NoChange =
+    ap (λ (info : PortInfo). first_state change.active info.port_state) (sym read.held_is) ∙ sym state_is ∙ none in
+    let shown : with_lid_and_enforcement change (shown_at at.port here.info) ≡ shown_at at.port here.info =
+    ap (with_lid_and_enforcement change) (sym read.held_is) ∙ sym wanted_is ∙ same ∙ read.held_is in
+    let stays = armed_same change here.info asks_none (unshown change.lid change.enforcement at.port here.info shown) in
+    record {
+      done = refl;
+      stands = begins_as stood fabric (with_infos (on_port guid number (armed change)) fabric) stands good
+          (info_alike fabric path asked guid number at good here (armed change) (λ info. info) stays
+          ∙ parts_stay info_part (on_port guid number (λ info. info)) fabric (on_none guid number (λ info. info) (λ info. refl)));
+    }
+
 -- ---- the second round
 -- a port that is to become Active, and nothing else
 abbrev pub becomes : PortChange
@@ -319,14 +384,6 @@ pub activates : (result : Result (Unit {0}) PushFault) (left : Option FabricStat
 activates result left fabric guid number change active leaves =
     subst (λ (b : Bool). Leaves result left fabric (with_infos (on_port guid number (λ info. if b then with_state Active info else info)) fabric))
     (sym active) leaves
-
-on_none : (guid number : ℕ) (f : PortInfo → PortInfo) → ((info : PortInfo) → f info ≡ info) → (of_guid of_number : ℕ) (info : PortInfo)
-    → on_port guid number f of_guid of_number info ≡ info
-on_none guid number f each of_guid of_number info = by ((guid == of_guid) && (number == of_number))
-  where
-    by : (b : Bool) → (if b then f info else info) ≡ info
-    by true = each info
-    by false = refl
 
 -- one that is not to become Active
 pub activates_none : (stood : Option FabricState) (fabric : FabricState) (guid number : ℕ) (change : PortChange) → change.active ≡ false → stood ≡ Some fabric

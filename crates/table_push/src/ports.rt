@@ -1,8 +1,9 @@
 //! PortInfo of all ports.
 
-ghost use Rattle.std.specs.Prelude.{ℕ, ◌≡◌, ◌≤◌, ◌<◌, ◌==◌, ◌+◌, ◌%◌, ◌^◌, List, length, Some, Ok, IfOk};
+ghost use Rattle.std.specs.Prelude.{ℕ, ◌≡◌, ◌≤◌, ◌<◌, ◌==◌, ◌+◌, ◌%◌, ◌^◌, true, List, length, Some, Ok, IfOk};
 ghost use Rattle.std.specs.Option.{ForSome};
 ghost use Rattle.attr_tables.specs.PortInfo.{port_info};
+ghost use Rattle.attr_tables.specs.declared.port_state.PortState.TheVariants.{NoChange};
 ghost use Rattle.attr_tables.specs.declared.smp_attribute.SmpAttribute.TheVariants as attribute;
 ghost use Rattle.mad_layout.specs.Layout.{Fits, put_all};
 ghost use Rattle.smp_wire.specs.Get.{gives_along};
@@ -303,8 +304,8 @@ fn round_at<W: SmpWire>(
     }
 }
 
-/// Changes PortInfo of a port in all but that it becomes Active; one that is to become Active becomes Armed. Returns what the
-/// port takes.
+/// Changes PortInfo of a port in all but that it becomes Active; one that is to become Active becomes Armed. A port that holds
+/// all of that is not set. Returns what the port takes.
 fn arm<W: SmpWire>(
     wire: &mut W,
     transaction_id: &mut u64,
@@ -324,8 +325,27 @@ fn arm<W: SmpWire>(
     let held = PortInfo::read(&bytes);
     let info = change.with_lid_and_enforcement(&held);
     let state = first_state(change.active, held.port_state);
+    if is_held(state, &info, &bytes) {
+        return Ok(Taken::AsSet);
+    }
     let wanted = in_state(state, &info);
     set_info(wire, transaction_id, path, asked, &bytes, &wanted)
+}
+
+/// Whether a port that holds these bytes has nothing to be set: no state is asked for, and they have all of `info`.
+fn is_held(state: PortState, info: &PortInfo, held: &[u8; 64]) -> bool
+    requires { Fits (port_info info.now) }
+    ensures state { result ≡ true → state ≡ NoChange }
+    ensures bytes { result ≡ true → put_all held.now (port_info info.now) ≡ held.now }
+{
+    match state {
+        PortState::NoChange => {
+            let mut wanted = *held;
+            info.put_over(&mut wanted);
+            wanted == *held
+        }
+        _ => false,
+    }
 }
 
 /// Makes a port Active that is to be, unless it is. One that has come back to Initialize becomes Armed before.
