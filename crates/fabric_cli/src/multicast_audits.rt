@@ -1,8 +1,9 @@
-//! The audit of LFTs and MFTs: its output.
+//! The audit of LFTs and MFTs: its files, and its output.
 
-ghost use Rattle.std.specs.Prelude.{ℕ, ◌≡◌, List, IfErr};
+ghost use Rattle.std.specs.Prelude.{ℕ, ◌≡◌, List, [], ◌∷◌, Some, IfErr, IfOk, IfSome, OnOk};
 ghost use Rattle.dump_file.specs.Dump.{dump_of};
-ghost use Rattle.fabric_cli.specs.Faults.{IsOfRun};
+ghost use Rattle.fabric_cli.specs.Faults.{IsOfFiles, IsOfRun, NamesUnread};
+ghost use Rattle.fabric_cli.specs.Files.{ForBytes, OpensAll, OpensInOrder};
 ghost use Rattle.fabric_cli.specs.Serving.{dump_ending, ended, found_multicast_by, found_multicast_with, mfts_stop, multicast_by, multicast_from, multicast_over, multicast_viewed, multicast_with, EndsIn};
 ghost use Rattle.fabric_parts.specs.declared.limits.Limits.TheVariants.{Large};
 ghost use Rattle.mft_file.specs.Mfts.{mfts_of};
@@ -11,14 +12,52 @@ ghost use Rattle.step_results.specs.TextGives.{TextGives};
 ghost use Rattle.topo_file.specs.Topology.{topology_within};
 
 use crate::faults::{ForeignCause, Stop};
+use crate::files::Files;
 use crate::outputs::{DumpOutput, discovery_stop, dump_stop, topology_stop};
+use crate::reading::{read_dump, read_file};
 use dump_file::{Dump, DumpFault};
 use fabric_parts::Limits;
 use mft_file::MftFault;
 use multicast_audit::{audit_multicast, audit_multicast_found};
 use netdiscover_file::{Discovery, is_discovery};
 use std::alloc::Global;
+use text_streams::TextSize;
 use topo_file::LargeTopology;
+
+/// What was read of the files.
+#[derive(Drop)]
+pub struct MulticastTexts {
+    /// The topology, or what `ibnetdiscover` printed.
+    pub fabric: Vec<u8>,
+    /// What `dump_fts` printed, or its first fault.
+    pub dump: Result<Dump, DumpFault>,
+    /// What `dump_fts -M` printed.
+    pub mfts: Vec<u8>,
+}
+
+/// What three named files have: each is opened once, and may be big. The text of the dump is not kept.
+pub fn read_multicast_files<'a, F: Files>(
+    alloc: Global,
+    files: &mut F,
+    fabric: &'a str,
+    dump: &'a str,
+    mfts: &'a str,
+) -> Result<MulticastTexts, Stop<'a>>
+    ensures order { OpensInOrder (F.opened files.old) (F.opened files.new) (fabric.entry.now ∷ dump.entry.now ∷ mfts.entry.now ∷ []) }
+    ensures all { OnOk result (OpensAll (F.opened files.old) (F.opened files.new) (fabric.entry.now ∷ dump.entry.now ∷ mfts.entry.now ∷ [])) }
+    ensures fabric { IfOk result (λ read. IfSome (F.reported files.old) (λ file. file fabric.entry.now ≡ Some read.fabric.items)) }
+    ensures dump { IfOk result (λ read. ForBytes (F.reported files.old) dump.entry.now
+        (λ tables. TextGives (λ dump. dump) read.dump (dump_of tables))) }
+    ensures mfts { IfOk result (λ read. IfSome (F.reported files.old) (λ file. file mfts.entry.now ≡ Some read.mfts.items)) }
+    ensures fault { IfErr result IsOfFiles }
+    ensures unread { IfErr result (NamesUnread (F.reported files.old) (F.reads files.old)
+        (F.opened files.old) (F.opened files.new) (fabric.entry.now ∷ dump.entry.now ∷ mfts.entry.now ∷ [])) }
+{
+    let fabric = read_file(alloc, files, fabric, TextSize::Big)?;
+    let dump = read_dump(alloc, files, dump)?;
+    let mfts = read_file(alloc, files, mfts, TextSize::Big)?;
+    Ok(MulticastTexts { fabric, dump, mfts })
+}
 
 fn mfts_stop<'a>(fault: MftFault) -> Stop<'a>
     ensures reported { result ≡ mfts_stop fault }

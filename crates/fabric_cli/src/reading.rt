@@ -74,7 +74,7 @@ pub fn read_fabric_and_dump<'a, F: Files>(
 }
 
 /// What `dump_fts` printed into a named file, or its first fault. The file is opened once. It may be big, and is not kept.
-fn read_dump<'a, F: Files>(
+pub fn read_dump<'a, F: Files>(
     alloc: Global,
     files: &mut F,
     name: &'a str,
@@ -94,41 +94,6 @@ fn read_dump<'a, F: Files>(
         Ok(None) => Err(Stop::Unread(name)),
         Err(fault) => Ok(Err(fault)),
     }
-}
-
-/// What was read of a fabric, of a dump of its LFTs, and of one of its MFTs.
-#[derive(Drop)]
-pub struct FabricAndDumps {
-    /// The bytes of the first file.
-    pub fabric: Vec<u8>,
-    /// What the second reports, or its first fault.
-    pub dump: Result<Dump, DumpFault>,
-    /// The bytes of the third file.
-    pub mfts: Vec<u8>,
-}
-
-/// The same, and the bytes of a third file: each is opened once, and may be big.
-pub fn read_fabric_and_dumps<'a, F: Files>(
-    alloc: Global,
-    files: &mut F,
-    fabric: &'a str,
-    dump: &'a str,
-    mfts: &'a str,
-) -> Result<FabricAndDumps, Stop<'a>>
-    ensures order { OpensInOrder (F.opened files.old) (F.opened files.new) (fabric.entry.now ∷ dump.entry.now ∷ mfts.entry.now ∷ []) }
-    ensures all { OnOk result (OpensAll (F.opened files.old) (F.opened files.new) (fabric.entry.now ∷ dump.entry.now ∷ mfts.entry.now ∷ [])) }
-    ensures fabric { IfOk result (λ read. IfSome (F.reported files.old) (λ file. file fabric.entry.now ≡ Some read.fabric.items)) }
-    ensures dump { IfOk result (λ read. ForBytes (F.reported files.old) dump.entry.now
-        (λ tables. TextGives (λ dump. dump) read.dump (dump_of tables))) }
-    ensures mfts { IfOk result (λ read. IfSome (F.reported files.old) (λ file. file mfts.entry.now ≡ Some read.mfts.items)) }
-    ensures fault { IfErr result IsOfFiles }
-    ensures unread { IfErr result (NamesUnread (F.reported files.old) (F.reads files.old)
-        (F.opened files.old) (F.opened files.new) (fabric.entry.now ∷ dump.entry.now ∷ mfts.entry.now ∷ [])) }
-{
-    let fabric = read_file(alloc, files, fabric, TextSize::Big)?;
-    let dump = read_dump(alloc, files, dump)?;
-    let mfts = read_file(alloc, files, mfts, TextSize::Big)?;
-    Ok(FabricAndDumps { fabric, dump, mfts })
 }
 
 /// The bytes of a named file of at most this size, which is opened once.

@@ -16,9 +16,9 @@ use crate::answering::{Answer, answered_of_texts, written, written_view};
 use crate::faults::{MEMORY_LINE, REFUSED, Stop};
 use crate::files::Files;
 use crate::key_audits::{KeysFiles, keys_audited, read_keys_files, written_keys};
-use crate::multicast_audits::multicast_viewed;
+use crate::multicast_audits::{multicast_viewed, read_multicast_files};
 use crate::outputs::{imported, text_or_stop, viewed};
-use crate::reading::{read_fabric_and_dump, read_fabric_and_dumps, read_file};
+use crate::reading::{read_fabric_and_dump, read_file};
 use crate::texts::read_texts;
 use cli_args::{Asked, Call, Clap, DumpView, Parser, given_words, read_words};
 use code_texts::explained;
@@ -252,7 +252,7 @@ fn answered_of_mfts<'a, F: Files, O: Output>(
     ensures unread { IfErr result (NamesUnread (F.reported files.old) (F.reads files.old)
         (F.opened files.old) (F.opened files.new) (fabric.entry.now ∷ dump.entry.now ∷ mfts.entry.now ∷ [])) }
 {
-    match read_fabric_and_dumps(alloc, files, fabric, dump, mfts) {
+    match read_multicast_files(alloc, files, fabric, dump, mfts) {
         Ok(read) => {
             let (fabric, mfts) = (read.fabric.as_slice(), read.mfts.as_slice());
             written_view(out, multicast_viewed(alloc, fabric, &read.dump, mfts))

@@ -198,7 +198,11 @@ fn push_port_word(net: &Net<'_>, text: &mut Vec<u8>, port: PortRef) -> Result<()
 }
 
 /// Adds ports, each behind a blank.
-pub fn push_port_words(net: &Net<'_>, text: &mut Vec<u8>, ring: &[PortRef]) -> Result<(), AllocError>
+pub fn push_port_words(
+    net: &Net<'_>,
+    text: &mut Vec<u8>,
+    ring: &[PortRef],
+) -> Result<(), AllocError>
     ensures { OnOk result (text.new.items ≡ text.old.items ++ flat_map (port_word net.now) ring.now) }
 {
     for port in ring {

@@ -16,6 +16,9 @@ pub returns-in-Ok-clause-any_files : goal.returns-in-Ok-clause-any_files
 returns-in-Ok-clause-any_files g c reported =
     let read = c.in-Ok.read in
     let tables = c.in-Ok.ensures.dump in
-    let found = rw (c.as_slice.ensures.value, c.as_slice-2.ensures.value) at (c.multicast_viewed.ensures.exact tables.bytes tables.holds) in
-    (read.fabric.items, tables.bytes, read.mfts.items,
-    c.written_view.ensures.exact (ended (multicast_viewed read.fabric.items tables.bytes read.mfts.items)) found)
+    let found = rw (c.as_slice.ensures.value, c.as_slice-2.ensures.value) at (c.multicast_viewed.ensures.exact tables.bytes tables.holds) in (
+      read.fabric.items,
+      tables.bytes,
+      read.mfts.items,
+      c.written_view.ensures.exact (ended (multicast_viewed read.fabric.items tables.bytes read.mfts.items)) found,
+    )

@@ -1,6 +1,6 @@
 use Rattle.std.proofs.lemmas.Result.{err_from_is_err_and}
 use Rattle.fabric_cli.proofs.FilesLemmas.{one_open, opens_first, opens_more, opens_whole, unread_after, unread_first}
-use Rattle.fabric_cli.proofs.reading.read_fabric_and_dumps.Goals as goal
+use Rattle.fabric_cli.proofs.multicast_audits.read_multicast_files.Goals as goal
 
 pub returns-in_err-fabric-clause-order : goal.returns-in_err-fabric-clause-order
 returns-in_err-fabric-clause-order g c = opens_first _ _ _ _ c.read_file.ensures.opened
