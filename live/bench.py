@@ -20,7 +20,7 @@ def missing(*programs):
     """What has to be installed for these programs, in words; nothing if all are there."""
     absent = [name for name in programs if not shutil.which(name, path=f"{os.environ['PATH']}:/usr/sbin")]
     packages = " ".join(PACKAGES[name] for name in absent)
-    return f"there is no {', no '.join(absent)}; on Debian: apt-get install --no-install-recommends {packages}" if absent else ""
+    return f"there is no {', no '.join(absent)}; on Debian: apt-get update && apt-get install --no-install-recommends {packages}" if absent else ""
 
 
 class Bench:
@@ -57,7 +57,7 @@ class Bench:
         if port:
             folder = self.folder / "ports" / port
             if not (folder / "socket").exists():
-                raise Failed(f"{port} is no port of a CA that has a cable")
+                raise Failed(f"{port} is no port of a CA that has a cable, or has no such P_Key; `fabric keys TOPO PARTS` lists ports and their P_Keys")
             changed |= {"LD_PRELOAD": str(self.folder / "umad_shim.so"), "LIVE_PORT": str(folder)}
         return changed
 

@@ -121,6 +121,7 @@ class Client:
         self.port, self.order, self.link = port, order, link
         self.process = struct.unpack("iii", link.getsockopt(socket.SOL_SOCKET, socket.SO_PEERCRED, 12))[0]
         self.agents = {}
+        self.warnings = set()
         self.queue = collections.deque()
         try:
             link.setsockopt(socket.SOL_SOCKET, 32, 8 << 20)  # SO_SNDBUFFORCE, for a large table
@@ -129,6 +130,12 @@ class Client:
 
     def __str__(self):
         return f"{self.port.name}: process {self.process}"
+
+    def warn(self, text):
+        """Says once of this program why it waits for what does not come."""
+        if text not in self.warnings:
+            self.warnings.add(text)
+            say(f"{self} {text}")
 
 
 class Bridge:
@@ -337,6 +344,7 @@ class Bridge:
         if agent.qp == 0 and client.port.is_manager:
             self.exchange(Request(agent, mad, tid, None, timeout, 0), lid)
             return
+        self.warn_of(client, mad, lid, index, qp)
         repaired = self.repairs.outward(client.port, mad) if self.repairs else mad
         if isinstance(repaired, tuple):
             self.answer(Request(agent, mad, tid, None, timeout, 0), repaired[0], lid, index)
@@ -346,6 +354,16 @@ class Bridge:
             self.wait(Request(agent, repaired, tid, line, timeout, retries))
         if line:
             self.put(line)
+
+    def warn_of(self, client, mad, lid, index, qp):
+        """Says if nothing can answer: an SMP is sent at another port than the SM's, or no P_Key of that port matches."""
+        if client.port.is_manager or index >= len(client.order):
+            return
+        key = client.order[index]
+        if qp == 0:
+            client.warn(f"sends an SMP, which its port refuses (AR2): only at the SM port, {self.names[1]}, are SMPs answered")
+        elif mad[1] == SA and lid == 1 and not any(are_matching(key, held) for held in self.ports[self.names[1]].keys):
+            client.warn(f"asks the SA by P_Key 0x{key:04x}, which matches none of the SM port's: there is no answer")
 
     def send_on(self, client, lid, index, message, window):
         """The segments of a message that the receiver allows."""
@@ -543,6 +561,11 @@ class Bridge:
             file.close()
         print(f"{self.checked} SA responses checked, {self.wrong} wrong", flush=True)
         return 0 if is_well and not self.wrong else 1
+
+
+def are_matching(one, other):
+    """Whether two P_Keys name one partition, and one of them is a full member's."""
+    return one & 0x7FFF == other & 0x7FFF != 0 and bool((one | other) & 0x8000)
 
 
 def summary(mad):

@@ -105,18 +105,18 @@ pub(crate) const NO_SUCH_CODE: &str = "error: there is no such code
 For the list of all codes, try 'fabric explain'.
 ";
 
-pub(crate) const NO_SUCH_NUMBER: &str = "error: DLID or PKEY is not a number of 16 bits
+pub(crate) const NO_SUCH_NUMBER: &str = "error: DLID or PKEY is not a number of 16 bits: decimal, or 0x and hexadecimal digits
 
 For more information, try 'fabric trace --help'.
 ";
 
 pub(crate) const NO_SUCH_IMPORT: &str =
-    "error: the GUID of --sm is not a number of 64 bits, or ROOTS is not `auto`
+    "error: --sm takes a GUID as `0x101`, and --roots takes only `auto`
 
 For more information, try 'fabric import --help'.
 ";
 
-pub(crate) const NO_SUCH_KEYS_GUID: &str = "error: GUID is not a number of 64 bits
+pub(crate) const NO_SUCH_KEYS_GUID: &str = "error: --sm takes a GUID as `0x101`
 
 For more information, try 'fabric audit-keys --help'.
 ";
@@ -394,7 +394,7 @@ if
     are left out on both sides),
   - there is no credit loop along all LIDs except the switches' own,
   - the dump and FABRIC have the same switches and CA ports,
-  - where a switch sends such a LID to another switch, the entry there is known.
+  - if a switch sends such a LID to another switch, the entry there is known.
 Otherwise the status is 1, and nothing is written on standard error. Credit loops are judged as if all
 packets used one virtual lane. Without --mft multicast is not judged. Routers count as CAs. Behind a LID
 stands its port, if one is known.

@@ -6,7 +6,8 @@ ND1: ibnetdiscover prints no such line
 A line is empty, a comment, `WORD=VALUE`, the header of a node, a line of one of its ports, or a
 heading of a chassis, as ibnetdiscover prints them, also with its options -f, -g and -m. Other lines
 are refused, such as those that its options -l, -p and -s print. So is what it writes on standard
-error, as `ibwarn: ..`: keep that apart, by `ibnetdiscover >discovered 2>errors`.
+error, as `ibwarn: ..`: keep that apart, by `ibnetdiscover >discovered 2>errors`. `import` and
+`audit-keys` take neither a topology nor a dump here.
 
 For this input the program prints `fault ND1 netdiscover line 4`, since port 1 of A leads to no
 node:
@@ -148,7 +149,8 @@ ND6: the SM port is not named, or not in the fabric
 
 The option `--sm GUID`, or else the comment `Initiated from node NODE port PORT` that ibnetdiscover
 prints, has the GUID of the SM port. A CA has a port of that GUID, with a cable to a switch or a CA.
-Line 0 is reported. `sminfo` prints the GUID of the port at which the subnet manager runs.
+Line 0 is reported. `sminfo` prints the GUID of the port at which the subnet manager runs. The GUID of
+a node may be no port's. If ibnetdiscover ran at a switch, give `--sm`.
 
 For this input the program prints `fault ND6 netdiscover line 0`, since nothing names a port:
 

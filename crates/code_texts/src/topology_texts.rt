@@ -6,9 +6,13 @@ TF1: the line is malformed
 A line is empty, or one of `switch NAME GUID PORTS`, `adapter NAME GUID PORTS`, `cable PORT PORT`,
 `root NAME` and `sm PORT`, with exactly these fields; a comment may follow. NAME is 1 to 32 letters,
 digits, `_`, `-` and `.`. GUID is 1 to 2^64-1. PORTS is 1 to 8 for a CA (`adapter`); for a switch 1 to
-36, and 1 to 254 in `import`, `audit`, `shares` and `diff`, which simulate nothing. PORT is
-`NAME/NUMBER`. Numbers are decimal, or `0x` and hexadecimal digits. Outside comments only printable
-ASCII, blanks and tabs are allowed; a CR is allowed only before LF or a comment.
+36, and 1 to 254 in `import`, `audit`, `load --dump`, `audit-keys`, `shares` and `diff`, which simulate
+nothing. PORT is `NAME/NUMBER`. Numbers are decimal, or `0x` and hexadecimal digits. Outside comments
+only printable ASCII, blanks and tabs are allowed; a CR is allowed only before LF or a comment.
+
+`audit` and `load --dump` take a file without a line `Switch`, `Ca` or `Rt` for a topology: see whether
+the two files are exchanged. For other commands `fabric import` makes a topology of what ibnetdiscover
+printed.
 
 For this topology the program prints `fault TF1 topology line 1`:
 
@@ -137,7 +141,8 @@ Corrected:
 pub const TF7: &str = "\
 TF7: the cable connects neither two different switches nor a switch and a CA
 
-A CA is cabled to a switch, never to a CA, and a switch is not cabled to itself.
+A CA is cabled to a switch, never to a CA, and a switch is not cabled to itself. ibnetdiscover may print
+such cables: `fabric import` and `fabric audit-keys` refuse that fabric, and `fabric audit` takes it.
 
 For this topology the program prints `fault TF7 topology line 3`:
 
@@ -202,7 +207,8 @@ pub const TF10: &str = "\
 TF10: the node exceeds the limit on switches or on CA ports
 
 A fabric has at most 64 switches, and at most 256 ports of CAs, cabled or not. `import`, `audit`,
-`shares` and `diff` simulate nothing: there the limits are 5,000 switches and 44,000 ports of CAs. The
+`load --dump`, `audit-keys`, `shares` and `diff` simulate nothing: there the limits are 5,000 switches
+and 44,000 ports of CAs. Of what ibnetdiscover printed `audit` and `load --dump` take any number. The
 line of the first node over a limit is reported.
 
 For this topology, in which `...` is the lines between, the program prints
