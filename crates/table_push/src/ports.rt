@@ -340,9 +340,9 @@ fn is_held(state: PortState, info: &PortInfo, held: &[u8; 64]) -> bool
 {
     match state {
         PortState::NoChange => {
-            let mut wanted = *held;
-            info.put_over(&mut wanted);
-            wanted == *held
+            let mut after = *held;
+            info.put_over(&mut after);
+            after == *held
         }
         _ => false,
     }
