@@ -12,7 +12,7 @@ pub const LAST_UNICAST_LID: u16 = 0xbfff;
 /// The least LID of a multicast group.
 pub const FIRST_MULTICAST_LID: u16 = 0xc000;
 
-/// The permissive LID: directed-route packets have it where no LID is meant.
+/// The permissive LID: directed-route packets have it if no LID is meant.
 pub const PERMISSIVE_LID: u16 = 0xffff;
 
 /// The first half of the GIDs of all ports of a subnet of ours: the link-local prefix, which PortInfo shows.

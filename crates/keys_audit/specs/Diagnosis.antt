@@ -62,7 +62,7 @@ limited_line nodes port = manager_words ++ port_text nodes port ++ limited_words
 unfoldable pub manager_line : List Node → AuditedPort → List ℕ
 manager_line nodes port = if is_cut_off port then limited_line nodes port.port else []
 
--- ---- all of them, where tables differ from the file; `others` says whether they follow another file
+-- ---- all of them, if tables differ from the file; `others` says whether they follow another file
 unfoldable pub opensms_line : List AuditedPort → List ℕ
 opensms_line ports = line_if (all_as_opensm ports) (codes "OpenSM reads this file so: if several words name a port, it takes the last")
 

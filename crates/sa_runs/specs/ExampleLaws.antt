@@ -45,7 +45,7 @@ ShorterTable =
     ∷ [])
     ∷ []
 
--- after it no table is open: an ACK that would abort one is not answered
+-- after it no transfer is in progress: an ACK that would abort one is not answered
 abbrev pub Closed : Type 0
 Closed =
     heard (ask 0x121 (nodes_wanted 5) ∷ []) (send_mad 0x121 (ack 5 2 1)) ≡ []

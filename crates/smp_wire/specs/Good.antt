@@ -102,7 +102,7 @@ port_info_at (Adapter ports) number = option_map (λ port. port.info) (adapter_p
 abbrev pub info_at : FabricState → PortRef → Option PortInfo
 info_at fabric at = option_and_then (λ node. port_info_at node at.port) (slice_get fabric.nodes at.node)
 
--- a port is Down exactly where it has no cable
+-- a port is Down if and only if it has no cable
 abbrev pub ShowsLinks : FabricState → Type 0
 ShowsLinks fabric =
     (at : PortRef) (info : PortInfo) → is_port fabric.nodes at ≡ true → info_at fabric at ≡ Some info
@@ -112,7 +112,7 @@ ShowsLinks fabric =
 abbrev pub is_up : PortInfo → Bool
 is_up info = nat_le (port_state_code Initialize) info.port_state && nat_le info.port_state (port_state_code Active)
 
--- ---- that switches are joined: a cable may be taken away later, so this stands apart
+-- ---- that switches are joined: a property of its own, since a cable may be taken away later
 -- a walk out of these ports leads from one node to the other
 abbrev pub leads : FabricState → ℕ → List ℕ → ℕ → Bool
 leads fabric a numbers b =

@@ -88,7 +88,7 @@ pub record StepsTo (inventory : InventoryState) (routes next : RoutesState) (old
   pub stands : Stands inventory next new left
 
 -- the subnet after it: who is in it stays; the routes stay unless a cable is to be cut or mended, and cables are in place as the
--- definition says; what is remembered is the definition's; where no port has the command's GUID, or that port refuses to send, or
+-- definition says; what is remembered is the definition's; if no port has the command's GUID, or that port refuses to send, or
 -- the command is to a cable and changes none, all stays
 pub record IsNext (old : SubnetState) (command : Command) (new : SubnetState) : Type 0 where
   pub inventory : new.inventory ≡ old.inventory

@@ -141,7 +141,7 @@ no_reply_at : (p : ℕ) (own : SubnetPort) (key : ℕ) (mads : List (List ℕ)) 
 no_reply_at p own key [] other = refl
 no_reply_at p own key (mad ∷ mads) other = rw other (no_reply_at p own key mads other)
 
--- ---- an administrator that keeps ports apart
+-- ---- an SA that keeps ports apart
 -- where what p sees stays the same, what is alike to it stays so
 moved : {S V : Type 0} {is_sound : S → Bool} {sees : ℕ → S → V} (p : ℕ) (s t after : S) → Alike is_sound sees p s t → is_sound after ≡ true → sees p after ≡ sees p s
     → Alike is_sound sees p after t

@@ -33,7 +33,7 @@ reaches_joined has_joined command port =
     ((has_joined port.guid && not (port.guid == command.port_guid)) || (port.lid == command.dlid))
     && (not (is_switch_type port.node_type) && accepts command.p_key port.keys)
 
--- whom it reaches where no port has joined a group
+-- whom it reaches if no port has joined a group
 abbrev pub reaches : SendCommand → SubnetPort → Bool
 reaches command port = reaches_joined (λ guid. false) command port
 

@@ -56,7 +56,7 @@ reply_to own key mad = record {
   what = Received (record { slid = manager_lid; dlid = own.lid; p_key = key; destination_qp = general_services_qp; payload = mad });
 }
 
--- where no key of the subnet manager's port matches the packet's, it does not come to subnet administration
+-- if no key of the subnet manager's port matches the packet's, it does not come to subnet administration
 abbrev pub replied : {S : Type 0} → SubnetPort → Option ℕ → S → List (List ℕ) × S → List PortEvent × S
 replied own (Some key) state answered = (map (reply_to own key) answered.0, answered.1)
 replied own None state answered = ([], state)

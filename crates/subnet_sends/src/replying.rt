@@ -17,7 +17,7 @@ use std::alloc::{AllocError, Global};
 use subnet_model::SubnetPort;
 
 /// The key under which the subnet manager's port answers what travels under this key: the one of its own that matches. None
-/// where it has none, and does not accept the packet.
+/// if it has none, and does not accept the packet.
 pub fn manager_key(ports: &[SubnetPort], key: PKey) -> Option<PKey>
     ensures { result ≡ manager_key ports.now key }
 {

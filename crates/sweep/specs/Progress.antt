@@ -23,7 +23,7 @@ abbrev pub StandsAt : List Found → ℕ → Found → Type 0
 StandsAt found k one = slice_get found k ≡ Some one
 
 -- what is known of the first ports of a switch: the switches behind them were found, one hop further away at most; and
--- where that is further than an SMP goes, so were the switches at the other ends of their cables, near enough
+-- if that is further than an SMP goes, so were the switches at the other ends of their cables, near enough
 pub record IsKnownBehind (fabric : FabricState) (found : List Found) (one : Found) (count : ℕ) : Type 0 where
   pub found_behind : (number : ℕ) (there : PortRef) → 1 ≤ number → number ≤ count
       → far_end fabric.cables (port one.node number) ≡ Some there → is_switch_at fabric.nodes there.node ≡ true

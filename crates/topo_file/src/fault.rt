@@ -10,7 +10,7 @@ use thiserror::Error;
 #[derive(Clone, Copy, Debug, PartialEq, Eq, Error)]
 pub enum TopologyCause {
     /// The line has a bad character, an unknown first word, too few or too many words, or a word
-    /// that is misspelt or out of its range.
+    /// that is malformed or out of its range.
     #[error("the line is malformed")]
     Malformed,
     /// A node of this name is declared already, or is a root already.

@@ -28,7 +28,7 @@ if_end_port ends None = Err UnknownManager
 abbrev pub manager_of : DiscoveryState → Option ℕ → Result ℕ ImportCause
 manager_of discovery manager = if_end_port (ends discovery) (asked_for manager discovery.initiator)
 
--- ---- a text is given only where what a reader of it gives is the topology that was meant
+-- ---- a text is given only if what a reader of it gives is the topology that was meant
 abbrev pub judged : DiscoveryState → List PortLine → List Planned → List CableMeant → ℕ → List ℕ → Result TopologyState (AtLine TopologyCause)
     → Result (List ℕ) (AtLine ImportCause)
 judged discovery ends nodes cables manager text (Ok plan) =

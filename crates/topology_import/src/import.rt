@@ -147,7 +147,7 @@ fn text_read(
     read_back(alloc, &wanted, text)
 }
 
-/// The topology text of a discovery, with the subnet manager on the port of that GUID or, where none is given, on the one at
+/// The topology text of a discovery, with the subnet manager on the port of that GUID or, if none is given, on the one at
 /// which the discovery was made; or the first fault, with its line.
 ///
 /// `specs/Import.antt` says which. Besides, an allocation can fail.

@@ -132,7 +132,7 @@ const EDITS: [(&'static [(usize, u8)], usize, u8, u8); 8] = [
     ),
 ];
 
-/// And where an edit changes nothing, it finds the fabric by SMPs that are numbered from 1 to 22.
+/// And if an edit changes nothing, it finds the fabric by SMPs that are numbered from 1 to 22.
 #[test]
 fn a_sweep_takes_no_wrong_reply(rt: HostRuntime) -> Result<(), Fail> {
     for (of, place, value, smps) in EDITS {
