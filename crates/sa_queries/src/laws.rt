@@ -53,7 +53,7 @@ pub fn paths_lead_to_near()
     ensures { PathsLeadToNear }
 {}
 
-/// Two ports of a configured subnet share a base or they do not: a path between them is visible exactly under a key that
+/// Two ports of a configured subnet share a base or they do not: a path between them is visible if and only if it is under a key that
 /// the first holds of a base that they share, a node if and only if it is the port's own or they share some base, and
 /// services of a base if and only if they share it.
 pub fn sharing_is_one_thing()

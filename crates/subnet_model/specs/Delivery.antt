@@ -26,8 +26,8 @@ refusal_of sender command =
     then Some ReservedDlid
     else None
 
--- a packet reaches the adapter port of its destination LID, and another than its sender that has joined a multicast
--- group of that LID, if that port holds a key that matches the packet's
+-- a packet reaches a port of an adapter that holds a key which matches the packet's, if the port has the destination LID, or has
+-- joined a multicast group of that LID and is not the sender
 abbrev pub reaches_joined : (ℕ → Bool) → SendCommand → SubnetPort → Bool
 reaches_joined has_joined command port =
     ((has_joined port.guid && not (port.guid == command.port_guid)) || (port.lid == command.dlid))

@@ -53,10 +53,10 @@ module _ {S V : Type 0} (configuration : ConfigurationState) (administrator : Ad
     pub unseen : IsUnseen
     pub alike : IsServedAlike
 
--- A step keeps a port to itself, if some states are alike to that port: a command of a port that is far from it
--- brings it no event, and leaves a state that is alike to whatever was alike before; a near one brings it the same
--- events in states that are alike, and leaves states that are alike. The start is alike to itself; of a list of events
--- those are its own that are its own in the parts.
+-- A step keeps a port to itself, where `alike` says which states are alike to that port. A command of a port far from it brings it
+-- no event, and leaves a state that is alike to each that was alike before. A command of a port near it brings it the same events
+-- in states that are alike, and leaves states that are alike. The start is alike to itself. Of two lists of events together its own
+-- events are those of the first and then those of the second.
 pub record Isolates {S C E : Type 0} (start : S) (step : S → C → List E × S) (alike : S → S → Type 0)
     (is_near : C → Bool) (own_events : List E → List E) : Type 0 where
   pub far : (s t : S) (c : C) → is_near c ≡ false → alike s t
