@@ -1,7 +1,7 @@
 -- LIDs, by which the ports of a subnet are named.
 use Rattle.std.specs.Prelude.{ℕ, Bool, ◌==◌, ◌||◌, ◌&&◌, nat_le, nat_lt}
 
--- the subnet manager's port has this one
+-- the SM port has this one
 abbrev pub manager_lid : ℕ
 manager_lid = 1
 

@@ -3,7 +3,7 @@
 ghost use Rattle.std.specs.Prelude.{◌≡◌};
 ghost use Rattle.fabric_parts.specs.Lid.{is_multicast, is_reserved};
 
-/// The LID of the subnet manager's port in every subnet of ours.
+/// The LID of the SM port in every subnet of ours.
 pub const MANAGER_LID: u16 = 1;
 
 /// The greatest LID that a port may have; those above it are for multicast groups.

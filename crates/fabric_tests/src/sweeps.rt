@@ -16,7 +16,7 @@ fn fault_behind(alloc: Global, left: u64) -> Result<Option<SweepFault>, Fail> {
 }
 
 /// SMPs of a sweep: from each switch's ports PortInfo, from what is behind those with a cable NodeInfo, from
-/// each node NodeDescription, and the subnet manager's port before all.
+/// each node NodeDescription, and the SM port before all.
 const SMPS: u64 = 22;
 
 #[test]

@@ -35,7 +35,7 @@ abbrev pub Goes : FabricState → Visit → List Visit → Visit → Type 0
 Goes fabric here [] last = here ≡ last
 Goes fabric here (next ∷ later) last = Passes fabric here next × Goes fabric next later last
 
--- whose agent it is given to there: that of the port by which it came, and of the subnet manager's port
+-- whose agent it is given to there: that of the port by which it came, and of the SM port
 -- if it never left the node
 abbrev pub agent_port : PortRef → Visit → PortRef
 agent_port manager here = if here.entered == 0 then manager else record { node = here.node; port = here.entered }

@@ -42,7 +42,7 @@ is_as_opensm None opensms = true
 abbrev pub all_as_opensm : List AuditedPort → Bool
 all_as_opensm ports = list_all (λ port. is_as_opensm port.table port.opensms) ports
 
--- ---- the subnet manager's port is no full member of the default partition
+-- ---- the SM port is no full member of the default partition
 abbrev pub is_limited : Option HeldKeys → Bool
 is_limited (Some table) = not (is_full_member (membership_of default_base table.keys))
 is_limited None = false

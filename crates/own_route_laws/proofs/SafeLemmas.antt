@@ -80,7 +80,7 @@ far_port nodes (cable ∷ cables) at there all is =
         (ends (is_same_port cable.first at) (and_parts (is_port nodes cable.first) _ both.0))
     by false other both later = later both.1 (rw other at is)
 
--- the subnet manager's port has a cable, to a switch
+-- the SM port has a cable, to a switch
 pub some_carries : SomeSwitchCarriesAHost
 some_carries plan dump sound =
     let far = far_of plan.cables plan.sm sound.manager_cabled in

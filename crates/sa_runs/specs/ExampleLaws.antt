@@ -18,7 +18,7 @@ pub record WhoHearsAGroup : Type 0 where
       ≡ []
 
 -- ---- what asking brings
--- all segments of a table within the command, under the key of the subnet manager's port that matches
+-- all segments of a table within the command, under the key of the SM port that matches
 abbrev pub WholeTable : Type 0
 WholeTable =
     heard [] (ask 0x111 (nodes_wanted 4))

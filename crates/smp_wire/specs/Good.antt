@@ -88,7 +88,7 @@ pub record IsGood (fabric : FabricState) : Type 0 where
   pub cables : list_all (is_right fabric.nodes) (all_cables fabric) ≡ true
   -- no port has two cables, one that is cut or not
   pub once : IsDistinct is_same_port (flat_map ends_of (all_cables fabric))
-  -- the subnet manager's port is a port of an adapter, and has a cable
+  -- the SM port is a port of an adapter, and has a cable
   pub manager_port : is_port fabric.nodes fabric.manager ≡ true
   pub manager_adapter : is_switch_at fabric.nodes fabric.manager.node ≡ false
   pub manager_cabled : is_cabled fabric.cables fabric.manager ≡ true

@@ -31,7 +31,7 @@ use Rattle.subnet_sends.specs.declared.event.Event.{Event}
 use Rattle.updn_routes.specs.Subnet.{RoutesState}
 
 -- ---- one request: the MADs that answer it, and what the port that asked receives
--- under the key by which the subnet manager's port answers; without one nothing comes of it
+-- under the key by which the SM port answers; without one nothing comes of it
 abbrev pub AnswersUnder : Option ℕ → SubnetPort → Answered → Administration → Answer → Administration → Type 0
 AnswersUnder (Some key) own answered old given new =
     (given.mads.items ≡ answered.0) × (map event_of given.events.items ≡ map (reply_to own key) answered.0) × (new ≡ answered.1)

@@ -424,7 +424,7 @@ received_slids ports p has_joined command sender found held = elim (cases_Bool (
     arrived : List PortEvent
     arrived = received_by (reaches_joined has_joined command) ports sender command
 
--- the subnet manager's port is near whomever it answers
+-- the SM port is near whomever it answers
 shares_with_manager : (ports : List SubnetPort) (own : SubnetPort) (key answering : ℕ) (manager : SubnetPort) → find (λ port. port.lid == 1) ports ≡ Some manager
     → find (λ held. matches held key) manager.keys ≡ Some answering → holds key own.keys ≡ true → shares_with ports own manager.guid ≡ true
 shares_with_manager ports own key answering manager there matching held =

@@ -38,11 +38,11 @@ abbrev pub reaches : SendCommand → SubnetPort → Bool
 reaches command port = reaches_joined (λ guid. false) command port
 
 -- ---- subnet administration
--- what is sent to the subnet manager's port, and to the queue pair of general services, is for it
+-- what is sent to the SM port, and to the queue pair of general services, is for it
 abbrev pub is_for_sa : SendCommand → Bool
 is_for_sa command = (command.dlid == manager_lid) && is_general_services command.destination_qp
 
--- the key by which the subnet manager's port answers what travels under this key: the one of its own that matches
+-- the key by which the SM port answers what travels under this key: the one of its own that matches
 abbrev pub key_that_matches : ℕ → Option SubnetPort → Option ℕ
 key_that_matches key (Some manager) = find (λ held. matches held key) manager.keys
 key_that_matches key None = None

@@ -45,7 +45,7 @@ ComeOfReplies fabric request key (mad ∷ mads) events =
     × ComeOfReplies fabric request key mads rest × (events ≡ first ++ rest)
 
 -- ---- in the fabric of a list of ports
--- a request of a listed port that the subnet manager's port received, which has a key that matches the one it travels under
+-- a request of a listed port that the SM port received, which has a key that matches the one it travels under
 pub record IsRequestOf (ports : List SubnetPort) (own : SubnetPort) (request : DeliveryState) (key : ℕ) : Type 0 where
   pub manager : SubnetPort
   pub first : find (λ port. port.lid == manager_lid) ports ≡ Some manager

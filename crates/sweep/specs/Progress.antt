@@ -45,7 +45,7 @@ pub record IsDiscovery (fabric : FabricState) (found : List Found) : Type 0 wher
   pub are : list_all (is_switch_at fabric.nodes) (nodes_of found) ≡ true
   pub few : length found ≤ SWITCHES
   pub lead : All (Leads fabric) found
-  -- the first switch is the one that the subnet manager's port is attached to
+  -- the first switch is the one that the SM port is attached to
   pub first : PortRef
   pub first_cable : far_end fabric.cables fabric.manager ≡ Some first
   pub first_found : is_found found 1 first.node ≡ true

@@ -16,7 +16,7 @@ pub fn graphs_have_the_end_ports()
 {}
 
 /// The graph of a good fabric is whole if and only if a sweep of that fabric finds all of it: if cables join all
-/// switches, and no cable is too far from the subnet manager's port for an SMP.
+/// switches, and no cable is too far from the SM port for an SMP.
 pub fn whole_graphs_are_swept()
     ensures { WholeGraphsAreSwept }
 {}

@@ -23,7 +23,7 @@ impl Graph {
         Ok(serve(&self.rows, &self.ports, &found))
     }
 
-    /// The place of the switch to which the subnet manager's port is attached.
+    /// The place of the switch to which the SM port is attached.
     fn manager_switch(&self) -> usize
         ensures { result ≡ manager_switch self.now }
     {

@@ -40,7 +40,7 @@ pub enum TopologyCause {
     /// The node is one switch or one adapter port too many.
     #[error("the node is past the limit on switches or adapter ports")]
     OverLimit,
-    /// The subnet manager's port has no cable.
+    /// The SM port has no cable.
     #[error("the subnet manager's port has no cable")]
     ManagerUncabled,
     /// The root is no switch.

@@ -17,7 +17,7 @@ use Rattle.topology_import.specs.Ends.{ends, firsts, is_port_guid}
 use Rattle.topology_import.specs.Nodes.{guid_fault}
 use Rattle.topology_import.specs.Text.{planned_nodes, source_of, text_of}
 
--- ---- the subnet manager's port: that of this GUID, or else the one at which the text was printed
+-- ---- the SM port: that of this GUID, or else the one at which the text was printed
 abbrev pub asked_for : Option ℕ → Option ℕ → Option ℕ
 asked_for manager initiator = if is_some manager then manager else initiator
 

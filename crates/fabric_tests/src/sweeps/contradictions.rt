@@ -171,7 +171,7 @@ impl SmpWire for EndlessWire {
     }
 }
 
-/// NodeInfo of the subnet manager's port, three SMPs for each switch, and one less for the first, whose port is
+/// NodeInfo of the SM port, three SMPs for each switch, and one less for the first, whose port is
 /// not asked.
 #[test]
 fn a_sweep_without_end_stops_at_the_65th_switch(rt: HostRuntime) -> Result<(), Fail> {
