@@ -28,6 +28,6 @@ pub record IsTable (entries limit : ℕ) (table : List ℕ) : Type 0 where
   pub count : length table ≡ entries
   pub below : list_all (λ entry. nat_lt entry limit) table ≡ true
 
--- a port's key table: room for a key of each partition, in words of 16 bits
+-- a port's P_Key table: room for a key of each partition, in words of 16 bits
 abbrev pub IsKeyTable : List ℕ → Type 0
 IsKeyTable keys = IsTable PARTITIONS 65536 keys

@@ -1,4 +1,4 @@
--- What holds of the agent of every node, in the terms of who asks it.
+-- What holds of the agent of every node, in the terms of the requester.
 use Rattle.std.specs.Int.Digits.{AllBelowBase}
 use Rattle.std.specs.Prelude.{ℕ, ◌+◌, ◌/◌, ◌^◌, ◌<◌, ◌≤◌, ◌≡◌, ◌≢◌, ◌==◌, Bool, true, false, if◌then◌else◌, List, [], ◌∷◌, length, get_or, take, drop, Result, Ok, Err}
 use Rattle.mad_layout.specs.Bits.{field, put_field}
@@ -27,7 +27,7 @@ pub record IsGetOf (smp later : List ℕ) : Type 0 where
   pub modifier : modifier_of later ≡ modifier_of smp
   pub no_set : is_set later ≡ false
 
--- an SMP changes what the node holds only where it sets something, and what it set is then there
+-- an SMP changes what the node holds only if it sets something, and what it set is then there
 pub record IsSettled {S : Type 0} (getter : Getter S) (setter : Setter S) : Type 0 where
   -- what asks no agent changes nothing
   pub silent : (held : S) (smp : List ℕ) → is_request smp ≡ false → after setter held smp ≡ held
@@ -94,14 +94,14 @@ PortsTakeBack =
     (enforces : Bool) (info : PortInfo) → IsGoodInfo info
     → port_info_after enforces info (record (setting_asked info) { port_state = 0 }) ≡ Ok info
 
--- what a port has after a Set is good where it was
+-- what a port has after a Set is good if it was
 abbrev pub SettingsKeepGood : Type 0
 SettingsKeepGood =
     (enforces : Bool) (info next : PortInfo) (attribute : List ℕ) → IsGoodInfo info
     → port_info_after enforces info (port_setting attribute) ≡ Ok next → IsGoodInfo next
 
 -- what a port has after a Set that it takes: each field that a Set may change reads as the attribute asks at its place there,
--- the state where not 0 is asked, and both enforcement bits of a port that enforces partitions; all else is as before
+-- the state if not 0 is asked, and both enforcement bits of a port that enforces partitions; all else is as before
 pub record IsTaken (enforces : Bool) (info next : PortInfo) (attribute : List ℕ) : Type 0 where
   pub gid_prefix : next.gid_prefix ≡ field attribute 64 64
   pub lid : next.lid ≡ field attribute 128 16

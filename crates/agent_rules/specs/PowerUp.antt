@@ -122,6 +122,6 @@ node_info_of node_type num_ports node_guid port_guid local_port_num =
       vendor_id = 0;
     }
 
--- a key table: the full key of the default partition, and empty places for as many keys as a port holds
+-- a P_Key table: the full key of the default partition, and empty places for as many keys as a port holds
 abbrev pub keys_at_power_up : List ℕ
 keys_at_power_up = 65535 ∷ replicate (PARTITIONS - 1) 0

@@ -44,7 +44,7 @@ attribute_asked smp =
 abbrev pub reply_method : List ℕ → ℕ
 reply_method smp = if is_set smp then method_code GetResp else 128 + field smp 24 8 % 128
 
--- the reply is the request with its method and status, and with the attribute where it is given; the
+-- the reply is the request with its method and status, and with the attribute if it is given; the
 -- direction bit, the path and all else stay
 unfoldable pub reply_to : List ℕ → Result (List ℕ) MadStatus → List ℕ
 reply_to smp (Ok attribute) =

@@ -37,7 +37,7 @@ pub fn node_infos_name_guids()
     ensures { NodeInfosNameGuids }
 {}
 
-/// Whatever a Set asks for, what the port has after it is good where it was good.
+/// Whatever a Set asks for, what the port has after it is good if it was good.
 pub fn settings_keep_good()
     ensures { SettingsKeepGood }
 {}

@@ -20,7 +20,7 @@ pub struct PortSetting {
     pub lid: u16,
     /// The LID of the subnet manager.
     pub master_sm_lid: u16,
-    /// The state that the port is to have, or 0 where it stays.
+    /// The state that the port is to have, or 0 if it stays.
     pub port_state: u8,
     /// How many low bits of the LID are free.
     pub lmc: u8,

@@ -92,7 +92,7 @@ pub fn node_info_of(
     }
 }
 
-/// The key table of each port of a simulated node at power-up: the full key of the default partition,
+/// The P_Key table of each port of a simulated node at power-up: the full key of the default partition,
 /// and empty places.
 pub fn keys_at_power_up() -> [u16; PARTITIONS]
     ensures { result ≡ keys_at_power_up }

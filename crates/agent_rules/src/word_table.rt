@@ -7,7 +7,7 @@ use crate::carried::words_in;
 use attr_tables::{WORDS_PER_BLOCK, WordBlock};
 use mad_layout::MadStatus;
 
-/// The block of that number of a table of keys or masks, as the attribute, or the refusal where the
+/// The block of that number of a table of keys or masks, as the attribute, or the refusal if the
 /// table has no such block.
 #[tactic(auto, unfolding(attr_tables::specs::Blocks::block_of))]
 pub fn word_block_at(table: &[u16], block: usize) -> Result<[u8; 64], MadStatus>
@@ -24,7 +24,7 @@ pub fn word_block_at(table: &[u16], block: usize) -> Result<[u8; 64], MadStatus>
     Ok(attribute)
 }
 
-/// Sets that block of a table of keys or masks to the words of an attribute, or refuses where the table
+/// Sets that block of a table of keys or masks to the words of an attribute, or refuses if the table
 /// has no such block.
 #[tactic(auto, unfolding(attr_tables::specs::Blocks::with_block))]
 pub fn set_word_block(

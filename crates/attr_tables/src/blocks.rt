@@ -6,7 +6,7 @@ ghost use Rattle.attr_tables.specs.Blocks.{IsBlockCount, StandsAt};
 /// How many ports a block of a linear forwarding table has.
 pub const PORTS_PER_BLOCK: usize = 64;
 
-/// How many keys a block of a key table has, and how many masks one of a multicast forwarding table.
+/// How many keys a block of a P_Key table has, and how many masks one of an MFT.
 pub const WORDS_PER_BLOCK: usize = 32;
 
 /// Where an entry of a table stands.

@@ -3,7 +3,7 @@
 //! A record is a struct of raw fields and one table of their places; contracts compare it with the list
 //! of places that stands in `specs/`, in the terms of `mad_layout`. [`PortState`],
 //! [`PortPhysicalState`], [`Mtu`], [`Rate`] and [`SmpAttribute`] name codes. [`PortBlock`] and
-//! [`WordBlock`] are the blocks in which forwarding tables and key tables travel, and [`block_place`]
+//! [`WordBlock`] are the blocks in which forwarding tables and P_Key tables travel, and [`block_place`]
 //! says where an entry stands. The layouts are those of the IBA volume 1
 //!, chapter 14.
 #![tactic(auto)]

@@ -27,7 +27,7 @@ pub struct NodeInfo {
     pub node_guid: u64,
     /// The GUID of the port that was asked.
     pub port_guid: u64,
-    /// How many entries each key table of the node has.
+    /// How many entries each P_Key table of the node has.
     pub partition_cap: u16,
     /// The device, as its vendor numbers it.
     pub device_id: u16,

@@ -31,7 +31,7 @@ pub struct SwitchInfo {
     pub port_state_change: bool,
     /// How many LIDs of each port the random forwarding table can have.
     pub lids_per_port: u16,
-    /// How many entries the key table of each switch port has.
+    /// How many entries the P_Key table of each switch port has.
     pub partition_enforcement_cap: u16,
     /// Whether switch ports can check keys of what comes in.
     pub inbound_enforcement_cap: bool,

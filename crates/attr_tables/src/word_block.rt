@@ -1,4 +1,4 @@
-//! A block of 32 words, of which key tables and masks are made.
+//! A block of 32 words, of which P_Key tables and masks are made.
 
 ghost use Rattle.std.specs.Prelude.{◌≡◌, ◌<◌, ℕ, slice_index};
 ghost use Rattle.attr_tables.specs.Blocks.{HoldsEntries, word_bytes};
@@ -6,7 +6,7 @@ ghost use Rattle.attr_tables.specs.Blocks.{HoldsEntries, word_bytes};
 use byteorder::{BigEndian, ByteOrder};
 use mad_layout::known_bytes;
 
-/// A block of a key table, or of a multicast forwarding table: 32 keys, or 32 masks of ports.
+/// A block of a P_Key table, or of an MFT: 32 keys, or 32 masks of ports.
 ///
 /// Source: IBA volume 1, 14.2.5.7 (P_KeyTable).
 #[derive(Clone, Copy, Debug, PartialEq, Eq)]

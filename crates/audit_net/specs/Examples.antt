@@ -9,7 +9,7 @@ use Rattle.fabric_parts.specs.Cable.{port}
 use Rattle.audit_net.specs.declared.following.Turn.TheVariants as turns
 use Rattle.audit_net.specs.Following.{turn}
 
--- ---- entries: 255 leads nowhere, as no row does, but for a top that is a multiple of 64
+-- ---- entries: 255 leads nowhere, as no row does, except the row of a top that is a multiple of 64
 abbrev pub topped : ℕ → Table
 topped top = record (a_table 16 1) { top = top }
 

@@ -19,7 +19,7 @@ IsUnknownAt net lid place = turn net lid place ≡ turns.Unknown
 abbrev pub NeverEnds : NetState → ℕ → ℕ → Type 0
 NeverEnds net lid place = (count : ℕ) → end_within net lid count place ≡ None
 
--- where this gives no end there is none
+-- if this gives no end there is none
 abbrev pub ReportsEndless : (NetState → ℕ → ℕ → Option Turn) → Type 0
 ReportsEndless end = (net : NetState) (lid place : ℕ) → is_switch_at net.plan.nodes place ≡ true → end net lid place ≡ None → NeverEnds net lid place
 
@@ -34,7 +34,7 @@ IsWay net lid place (next ∷ rest) turned = (turn net lid place ≡ turns.Goes 
 abbrev pub EndsBy : NetState → ℕ → ℕ → Turn → Type 0
 EndsBy net lid place turned = (way : List ℕ) × IsWay net lid place way turned
 
--- an end is reported exactly where a way along the entries comes to it
+-- an end is reported if and only if a way along the entries comes to it
 pub record WaysAreFollowed : Type 0 where
   pub reported : (net : NetState) (lid place : ℕ) (turned : Turn) → is_switch_at net.plan.nodes place ≡ true → EndsBy net lid place turned → end_from net lid place ≡ Some turned
   pub there : (net : NetState) (lid place : ℕ) (turned : Turn) → end_from net lid place ≡ Some turned → EndsBy net lid place turned

@@ -29,7 +29,7 @@ has_table net place = is_some (table_at net place)
 abbrev pub row_of : ℕ → List Row → Option Row
 row_of lid rows = find (λ row. row.lid == lid) rows
 
--- the row of the top is left out where it is a multiple of 64, whatever its entry is
+-- the row of the top is left out if it is a multiple of 64, whatever its entry is
 abbrev pub is_left_out : Table → ℕ → Bool
 is_left_out table lid = (lid == table.top) && (lid % 64 == 0)
 

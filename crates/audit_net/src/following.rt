@@ -154,7 +154,7 @@ impl<'a> Net<'a> {
         }
     }
 
-    /// The turn that ends what goes from the switch there to the LID; none where it never ends.
+    /// The turn that ends what goes from the switch there to the LID; none if it never ends.
     fn end_from(&self, lid: u16, place: usize) -> Option<Turn>
         ensures { result ≡ end_from self.now lid place }
     {

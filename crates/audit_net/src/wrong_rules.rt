@@ -3,12 +3,12 @@
 
 ghost use Rattle.audit_net.specs.WrongRules.{WaysAreLonger, LoopsBeginWhereReported};
 
-/// Where what does not end at the first switch is reported to be endless, it may end at the second.
+/// If what does not end at the first switch is reported to be endless, it may end at the second.
 pub fn ways_are_longer()
     ensures { WaysAreLonger }
 {}
 
-/// Where a loop is reported without the switch where it is reported, it does not begin there.
+/// If a loop is reported without the switch where it is reported, it does not begin there.
 pub fn loops_begin_where_reported()
     ensures { LoopsBeginWhereReported }
 {}

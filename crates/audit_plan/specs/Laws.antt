@@ -26,7 +26,7 @@ has_far_line found line b = list_any (λ other. is_same_port other.port b && is_
 abbrev pub are_joined : DiscoveryState → PortRef → PortRef → Bool
 are_joined found a b = list_any (λ line. is_same_port line.port a && has_far_line found line b) found.ports
 
--- two ports have a cable exactly where lines say so, and the cables that stand apart are those that join no switch
+-- two ports have a cable if and only if lines say so, and the list of cables between end ports has those that join no switch
 pub record TakesTheCables (plan : DiscoveryState → PlanState) : Type 0 where
   pub joined : (found : DiscoveryState) (a b : PortRef) → IsSound found → list_any (joins a b) ((plan found).cables ++ (plan found).apart) ≡ are_joined found a b
   pub at_switches : (found : DiscoveryState) → list_all (joins_switch found.nodes) (plan found).cables ≡ true

@@ -23,7 +23,7 @@ use Rattle.audit_plan.specs.declared.ends.EndGuid.{EndGuid}
 use Rattle.audit_plan.specs.declared.ends.LidGuid.{LidGuid}
 
 -- the GUID of a node heads the LFT of a switch; those of end ports are what a LID's row names. No packet goes over the cables
--- that join no switch, which stand apart. Of each node, as far as the list goes, it is said whether it is an aggregation node.
+-- that join no switch, which have a list of their own. The list of nodes says of each whether it is an aggregation node.
 -- A topology has no LIDs; a discovery reports those that end ports have.
 pub record PlanState : Type 0 where
   pub nodes : List Node
@@ -94,7 +94,7 @@ says_aggregation node = not (is_switch_kind node.id.kind) && ends_with nat_eq no
 abbrev pub found_aggregation : List FoundNode → List Bool
 found_aggregation nodes = map says_aggregation nodes
 
--- port 0 of a switch has the GUID that is reported of it, or where none is the switch's; other ports have their own
+-- port 0 of a switch has the GUID that is reported of it, or if none is the switch's; other ports have their own
 abbrev pub switch_end : ℕ → FoundNode → List EndGuid
 switch_end place node = if is_switch_kind node.id.kind then (record { guid = unwrap_or node.port_guid node.id.guid; port = port place 0 }) ∷ [] else []
 

@@ -28,7 +28,7 @@ without_plugs found = record (plan_found found) { cables = filter (joins_switch 
 abbrev pub ANodeMayBeJoinedToItself : Type 0
 ANodeMayBeJoinedToItself = TakesTheCables without_plugs → ⊥
 
--- ---- no cable stands apart
+-- ---- the list of cables that join no switch is empty
 abbrev pub with_all_cables : DiscoveryState → PlanState
 with_all_cables found = record (plan_found found) { cables = (plan_found found).cables ++ (plan_found found).apart; apart = [] }
 

@@ -2,7 +2,7 @@
 
 ghost use Rattle.audit_plan.specs.Laws.{CablesAreTaken, LidsAreTaken};
 
-/// Two ports have a cable exactly where the lines of a discovery say so; the cables that join no switch stand apart.
+/// Two ports have a cable if and only if the lines of a discovery say so; the cables that join no switch have a list of their own.
 pub fn cables_are_taken()
     ensures { CablesAreTaken }
 {}

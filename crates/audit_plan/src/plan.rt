@@ -85,7 +85,7 @@ pub fn ports_at(nodes: &[PlanNode], place: usize) -> u8
     }
 }
 
-/// The name of the node there, or no name where there is none.
+/// The name of the node there, or no name if there is none.
 pub fn name_at(nodes: &[PlanNode], place: usize) -> &[u8]
     ensures { result.now ≡ name_at nodes.now place }
 {

@@ -3,22 +3,22 @@
 
 ghost use Rattle.audit_plan.specs.WrongRules.{ANodeMayBeJoinedToItself, AdaptersAreJoinedApart, NobodyHasLid0, SwitchesHaveLids};
 
-/// Where ports of one node have no cable, the two ends of a loopback plug have none.
+/// If ports of one node have no cable, the two ends of a loopback plug have none.
 pub fn a_node_may_be_joined_to_itself()
     ensures { ANodeMayBeJoinedToItself }
 {}
 
-/// Where no cable stands apart, one between two adapters is among those of switches.
+/// If the list of cables that join no switch is empty, a cable between two adapters is among those of switches.
 pub fn adapters_are_joined_apart()
     ensures { AdaptersAreJoinedApart }
 {}
 
-/// Where LID 0 is a port's, a port that no subnet manager gave a LID has one.
+/// If LID 0 is a port's, a port that no subnet manager gave a LID has one.
 pub fn nobody_has_lid_0()
     ensures { NobodyHasLid0 }
 {}
 
-/// Where ports of switches have no LID, a header that reports one is not heard.
+/// If ports of switches have no LID, a header that reports one is not heard.
 pub fn switches_have_lids()
     ensures { SwitchesHaveLids }
 {}

@@ -26,7 +26,7 @@ abbrev pub index_of : List Node → List EndGuid
 index_of nodes = fold with_port [] (port_ends nodes)
 
 -- ---- the end ports of the discovery: port 0 of each switch that has a LID, and each port with a GUID and a LID of its own
--- the GUID of a switch's port 0, or where that is not reported its node's
+-- the GUID of a switch's port 0, or if that is not reported its node's
 abbrev pub switch_guid : FoundNode → ℕ
 switch_guid node = unwrap_or node.port_guid node.id.guid
 

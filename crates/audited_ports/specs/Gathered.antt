@@ -29,7 +29,7 @@ use Rattle.audited_ports.specs.Ends.{ends_of, index_of, named, switch_guid}
 use Rattle.audited_ports.specs.Held.{held}
 use Rattle.audited_ports.specs.OpenSm.{keys_by_opensm}
 
--- the files: ports of the topology by GUID, the subnet manager's port among them, the discovery, and the answers
+-- the files: ports of the topology by GUID, the SM port among them, the discovery, and the answers
 pub record FilesState : Type 0 where
   pub index : List EndGuid
   pub manager : PortRef

@@ -1,4 +1,4 @@
--- How OpenSM 3.3.23 reads a partition file: where several words of a partition name a port, the last one counts. It is what was seen
+-- How OpenSM 3.3.23 reads a partition file: if several words of a partition name a port, the last one counts. It is what was seen
 -- of OpenSM, and not of a standard.
 use Rattle.std.specs.Prelude.{ℕ, ◌-◌, Bool, true, false, not, ◌==◌, ◌&&◌, if◌then◌else◌, List, [], ◌∷◌, flat_map, fold, length, take, Option, Some, None, option_map}
 use Rattle.std.specs.Option.{option_to_list}
@@ -21,12 +21,12 @@ is_all Manager = false
 is_all (Guid guid) = false
 
 -- as it is read if the file has no definition of it. One that says `ALL=limited` alone makes the same items, so it is taken for none.
--- OpenSM then leaves the manager's port limited, and of that port nothing here is noted as OpenSM's reading
+-- OpenSM then leaves the SM port limited, and of that port nothing here is noted as OpenSM's reading
 abbrev pub is_built_in : List Item → Bool
 is_built_in (first ∷ second ∷ []) = is_all first.ports && not first.full
 is_built_in items = false
 
--- what the file lists: all but the last item, by which the manager's port is full
+-- what the file lists: all but the last item, by which the SM port is full
 abbrev pub words_of_default : List Item → List Item
 words_of_default items = if is_built_in items then [] else take (length items - 1) items
 

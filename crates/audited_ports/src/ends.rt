@@ -22,7 +22,7 @@ pub(crate) struct End {
     pub(crate) far: Option<FarEnd>,
 }
 
-/// The GUID of a switch's port 0, or where that is not reported its node's.
+/// The GUID of a switch's port 0, or if that is not reported its node's.
 pub(crate) fn switch_guid(node: &Node) -> u64
     ensures { result ≡ switch_guid node.now }
 {

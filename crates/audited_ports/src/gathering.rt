@@ -26,7 +26,7 @@ use topo_file::LargeTopology;
 #[derive(Drop)]
 struct Files<'a> {
     index: &'a PortIndex,
-    /// The port of the subnet manager.
+    /// The SM port.
     manager: PortRef,
     discovery: &'a Discovery,
     answers: &'a Answers,

@@ -1,4 +1,4 @@
--- The entries of linear forwarding tables that differ where one fabric takes the place of another.
+-- The entries of linear forwarding tables that differ if one fabric takes the place of another.
 use Rattle.std.specs.Prelude.{ℕ, ◌==◌, Bool, false, if◌then◌else◌, List, [], ◌∷◌, find, get_or, unwrap_or}
 use Rattle.std.specs.List.{flat_map}
 use Rattle.std.specs.Option.{option_map_or}
@@ -11,7 +11,7 @@ use Rattle.subnet_model.specs.declared.subnet_port.SubnetPort.{SubnetPort}
 use Rattle.updn_routes.specs.Subnet.{RoutesState}
 use Rattle.cable_cuts.specs.declared.changes.Change.{Change}
 
--- ---- tables, by the GUID of a switch and a LID: the port by which the switch sends what is for the LID, and 255 where there is none
+-- ---- tables, by the GUID of a switch and a LID: the port by which the switch sends what is for the LID, and 255 if there is none
 abbrev pub Tables : Type 0
 Tables = ℕ → ℕ → ℕ
 

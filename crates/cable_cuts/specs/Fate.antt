@@ -26,7 +26,7 @@ abbrev pub ArePlannedFor : TopologyState → RoutesState → Type 0
 ArePlannedFor plan routes = ArePlannedOver (fabric_of plan) (root_guids plan) routes
 
 -- ---- fates
--- cables do not join all switches; or they do, and one is too far; or none is, and a pair has no legal path
+-- cables do not join all switches; or they do, and one is too far; or none is, and a pair has no up/down path
 abbrev pub IsStop : TopologyState → Stop → Type 0
 IsStop plan Apart = is_connected plan.nodes plan.cables ≡ false
 IsStop plan TooFar = (is_connected plan.nodes plan.cables ≡ true) × IsTooFar (fabric_of plan)

@@ -30,14 +30,14 @@ use Rattle.cable_cuts.specs.declared.outcome.Difference.{Difference}
 use Rattle.cable_cuts.specs.declared.outcome.Outcome.{Outcome}
 
 -- ---- whether it comes up
--- a cable is reported as one that the fabric keeps without exactly where the fabric of the topology without it comes up
+-- a cable is reported as one that the fabric keeps without if and only if the fabric of the topology without it comes up
 abbrev pub KeptIsWhatComesUp : Type 0
 KeptIsWhatComesUp =
     (plan : TopologyState) (configuration : ConfigurationState) (routes : RoutesState) (cable : Cable) (outcome : Outcome)
     → IsOutcome plan configuration routes cable outcome → (keeps outcome ≡ true) ↔ CanComeUp (without_cable cable plan)
 
 -- ---- what differs
--- an entry is reported exactly where these tables have different ports there: of a switch among the end ports, for the LID of one
+-- an entry is reported if and only if these tables have different ports there: of a switch among the end ports, for the LID of one
 pub record IsDifference (ports : List SubnetPort) (one other : Tables) (change : Change) : Type 0 where
   pub switch : SubnetPort
   pub switch_listed : Contains ports switch
@@ -67,7 +67,7 @@ same_entry a b = (a.switch == b.switch) && (a.lid == b.lid)
 abbrev pub have_same_lid : SubnetPort → SubnetPort → Bool
 have_same_lid a b = a.lid == b.lid
 
--- where each end port has a LID of its own, a rule for what differs reports each entry once
+-- if each end port has a LID of its own, a rule for what differs reports each entry once
 abbrev pub EntriesAreReportedOnceBy : (List SubnetPort → Tables → Tables → List Change) → Type 0
 EntriesAreReportedOnceBy rule =
     (ports : List SubnetPort) (one other : Tables) → IsDistinct have_same_lid ports → IsDistinct same_entry (rule ports one other)
@@ -75,12 +75,12 @@ EntriesAreReportedOnceBy rule =
 abbrev pub EntriesAreReportedOnce : Type 0
 EntriesAreReportedOnce = EntriesAreReportedOnceBy changes
 
--- so each has, where LIDs count from 1 in the order of the ports
+-- so each has, if LIDs count from 1 in the order of the ports
 abbrev pub LidsAreOwn : Type 0
 LidsAreOwn = (ports : List SubnetPort) → HaveLidsInOrder ports → IsDistinct have_same_lid ports
 
 -- ---- masks
--- a mask is counted exactly where in these some port has different bits: of a switch among the end ports, for the group of a
+-- a mask is counted if and only if in these some port has different bits: of a switch among the end ports, for the group of a
 -- partition
 pub record IsMaskDifference (configuration : ConfigurationState) (one other : Masks) (change : MaskChange) : Type 0 where
   pub switch : SubnetPort

@@ -1,4 +1,4 @@
--- The masks of the broadcast groups of partitions that differ where one fabric takes the place of another, if each end port of a
+-- The masks of the broadcast groups of partitions that differ if one fabric takes the place of another, if each end port of a
 -- channel adapter that holds a key of a partition receives what is sent to its group.
 use Rattle.std.specs.Prelude.{ℕ, ◌≡◌, ◌==◌, ◌&&◌, not, nat_lt, Bool, false, if◌then◌else◌, is_some, List, [], ◌∷◌, filter, find, get_or, map, position}
 use Rattle.std.specs.Int.{bit_at}

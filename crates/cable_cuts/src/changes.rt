@@ -16,13 +16,13 @@ pub struct Change {
     pub switch: u16,
     /// The LID that the entry is for.
     pub lid: u16,
-    /// The port by which the switch sends what is for it, and 255 where there is none.
+    /// The port by which the switch sends what is for it, and 255 if there is none.
     pub was: u8,
     /// The same, afterwards.
     pub becomes: u8,
 }
 
-/// The entries of these end ports' LIDs that differ where other routes take the place of these: by switches, in the order of the
+/// The entries of these end ports' LIDs that differ if other routes take the place of these: by switches, in the order of the
 /// list, and then by LIDs. It can only run out of memory.
 pub(crate) fn changes(
     alloc: Global,

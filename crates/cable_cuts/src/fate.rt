@@ -9,7 +9,7 @@ pub enum Stop {
     Apart,
     /// A cable is too far from the subnet manager for any SMP.
     TooFar,
-    /// From a switch that carries adapters' ports no legal path leads to one of these. Of all such pairs this is the first, by
+    /// From a switch that carries adapters' ports no up/down path leads to one of these. Of all such pairs this is the first, by
     /// the switch's LID and then by the port's.
     NoLegalPath {
         /// The switch's LID.

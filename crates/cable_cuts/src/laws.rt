@@ -3,12 +3,12 @@
 ghost use Rattle.cable_cuts.specs.Laws.{ChangesAreTheFabrics, ChangesAreWhatDiffers, EntriesAreReportedOnce, KeptIsWhatComesUp, LidsAreOwn, MaskChangesAreTheFabrics, MaskChangesAreWhatDiffers, MasksAreTheFabrics, MasksAreReportedOnce, NumbersAreOfWhatDiffers, OneFateIsReported, OneTextIsReported};
 ghost use Rattle.cable_cuts.specs.Whole.{LinesAreWhole};
 
-/// A cable is reported as one that the fabric keeps without exactly where the fabric of the topology without it comes up.
+/// A cable is reported as one that the fabric keeps without if and only if the fabric of the topology without it comes up.
 pub fn kept_is_what_comes_up()
     ensures { KeptIsWhatComesUp }
 {}
 
-/// An entry is reported exactly where two tables have different ports there, for a switch and the LID of an end port.
+/// An entry is reported if and only if two tables have different ports there, for a switch and the LID of an end port.
 pub fn changes_are_what_differs()
     ensures { ChangesAreWhatDiffers }
 {}
@@ -24,7 +24,7 @@ pub fn masks_are_the_fabrics()
     ensures { MasksAreTheFabrics }
 {}
 
-/// A mask is counted exactly where some port has different bits in two masks of a switch, for the group of a partition.
+/// An MFT entry is counted if and only if some port has different bits in two of a switch, for the group of a partition.
 pub fn mask_changes_are_what_differs()
     ensures { MaskChangesAreWhatDiffers }
 {}
@@ -39,7 +39,7 @@ pub fn lids_are_own()
     ensures { LidsAreOwn }
 {}
 
-/// Each entry is reported once, where each end port has a LID of its own.
+/// Each entry is reported once, if each end port has a LID of its own.
 pub fn entries_are_reported_once()
     ensures { EntriesAreReportedOnce }
 {}

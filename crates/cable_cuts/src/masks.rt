@@ -31,7 +31,7 @@ pub(crate) struct GroupMasks {
     masks: Vec<[u64; SWITCHES]>,
 }
 
-/// The masks that differ where other routes take the place of these, if all members of a partition receive what is sent to its
+/// The masks that differ if other routes take the place of these, if all members of a partition receive what is sent to its
 /// group: by switches, in the order of the list, and then by partitions. It can only run out of memory.
 pub(crate) fn mask_changes(
     alloc: Global,
@@ -106,7 +106,7 @@ fn is_member(port: &SubnetPort, base: u16) -> bool
     !port.node_type.is_switch() && port.keys.has_base(base)
 }
 
-/// The masks that differ where these others take the place of masks.
+/// The masks that differ if these others take the place of masks.
 fn changes_between(
     alloc: Global,
     configuration: &Configuration,

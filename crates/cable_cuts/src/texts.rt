@@ -36,7 +36,7 @@ pub fn cuts_text(
     lines_of(alloc, topology, configuration.ports(), &losses)
 }
 
-/// The line of one cable between two switches, and behind it, where the fabric comes up without it, a line for each entry of a
+/// The line of one cable between two switches, and behind it, if the fabric comes up without it, a line for each entry of a
 /// linear forwarding table that differs then: by the LIDs of switches, and then by LIDs. It can only run out of memory.
 pub fn cut_text(
     alloc: Global,
@@ -210,7 +210,7 @@ fn keeps(outcome: &Outcome) -> bool
     }
 }
 
-/// Adds a line for each entry that changes, where the fabric comes up.
+/// Adds a line for each entry that changes, if the fabric comes up.
 fn push_change_lines(
     alloc: Global,
     text: &mut Vec<u8>,

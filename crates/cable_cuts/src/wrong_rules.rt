@@ -3,22 +3,22 @@
 
 ghost use Rattle.cable_cuts.specs.WrongRules.{CountedTwiceIsMore, EntriesTwiceAreMore, MasksTwiceAreMore, NoMasksAreLess};
 
-/// Where no mask is counted, one that differs is missed.
+/// If no mask is counted, one that differs is missed.
 pub fn no_masks_are_less()
     ensures { NoMasksAreLess }
 {}
 
-/// Where each entry is reported twice, it is not reported once.
+/// If each entry is reported twice, it is not reported once.
 pub fn entries_twice_are_more()
     ensures { EntriesTwiceAreMore }
 {}
 
-/// Where each mask is reported twice, it is not reported once.
+/// If each mask is reported twice, it is not reported once.
 pub fn masks_twice_are_more()
     ensures { MasksTwiceAreMore }
 {}
 
-/// Where entries that are reported twice are counted twice, there are more than differ.
+/// If entries that are reported twice are counted twice, there are more than differ.
 pub fn counted_twice_is_more()
     ensures { CountedTwiceIsMore }
 {}

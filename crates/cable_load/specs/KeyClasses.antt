@@ -1,4 +1,4 @@
--- Which key table each port has, looked up: a step of the code, on which no definition of the subject stands. Each different table
+-- Which P_Key table each port has, looked up: a step of the code, on which no definition of the subject stands. Each different table
 -- is kept once, and the class of a port is the place of its table. Classes stand at the places of the sums of `Walk.antt`.
 use Rattle.std.specs.Prelude.{ℕ, ◌≡◌, ◌+◌, ◌*◌, ◌<◌, Bool, List, get_or, map, slice_get, Option, Some, None, IfSome}
 use Rattle.std.specs.Option.{option_and_then}

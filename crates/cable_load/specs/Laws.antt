@@ -30,7 +30,7 @@ use Rattle.cable_load.specs.Tops.{tops_of}
 use Rattle.cable_load.specs.Ways.{fate_of, goes_over, is_on, way}
 
 -- ---- the switches of a way
--- packets come there over these switches, however many, exactly where the switch is on the way
+-- packets come there over these switches, however many, if and only if the switch is on the way
 pub record FollowsWays (ways : NetState → (lid place : ℕ) → List ℕ) : Type 0 where
   pub comes : (net : NetState) (lid place there : ℕ) (over : List ℕ) → is_switch_at net.plan.nodes place ≡ true → ComesBy net lid place over there
       → is_on there (ways net lid place) ≡ true
@@ -55,7 +55,7 @@ abbrev pub TalkersCount : Type 0
 TalkersCount = CountsTalkers pairs_by
 
 -- ---- loads, of whichever pairs
--- a port has no load exactly where no pair goes over it
+-- a port has no load if and only if no pair goes over it
 abbrev pub ReportsUnused : (NetState → List Pair → PortRef → ℕ) → Type 0
 ReportsUnused loaded =
     (net : NetState) (pairs : List Pair) (at : PortRef) → (loaded net pairs at == 0) ≡ not (list_any (goes_over net at) pairs)

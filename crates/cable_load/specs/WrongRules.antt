@@ -153,7 +153,7 @@ of_level_1 net = filter (λ place. level_of net place == 1) (switches net.plan.n
 abbrev pub TopsAreNotOfLevel1 : Type 0
 TopsAreNotOfLevel1 = FindsFarthest of_level_1 → ⊥
 
--- ---- or those of the greatest level, also where that is 0
+-- ---- or those of the greatest level, also if that is 0
 abbrev pub of_top_level : NetState → List ℕ
 of_top_level net = filter (λ place. level_of net place == top_of (level_of net) (switches net.plan.nodes)) (switches net.plan.nodes)
 

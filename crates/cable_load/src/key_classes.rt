@@ -1,4 +1,4 @@
-//! The key tables of ports: each different one is kept once.
+//! The P_Key tables of ports: each different one is kept once.
 
 ghost use Rattle.std.specs.Prelude.{ℕ, List, ◌≡◌, ◌<◌, ◌*◌, false, length, drop, map, slice_get, slice_set, Some, None, IfOk, IfSome, OnOk};
 ghost use Rattle.std.specs.Str.{bytes_eq};
@@ -15,7 +15,7 @@ use pkey_rules::{KeyTable, PARTITIONS};
 use std::alloc::{AllocError, Global};
 use std::marker::Model;
 
-/// With which key tables one of them shares a partition.
+/// With which P_Key tables one of them shares a partition.
 #[derive(Drop)]
 struct SharedRow {
     shared: Vec<bool>,
@@ -43,7 +43,7 @@ impl SharedRow {
     }
 }
 
-/// Ports and their P_Keys. Two ports are compared by the classes of their key tables, which were compared before.
+/// Ports and their P_Keys. Two ports are compared by the classes of their P_Key tables, which were compared before.
 #[derive(Drop)]
 pub(crate) struct Keyed {
     ports: Vec<PortKeys>,
@@ -159,7 +159,7 @@ fn are_same(table: &KeyTable<PARTITIONS>, other: &KeyTable<PARTITIONS>) -> bool
     table.as_slice() == other.as_slice()
 }
 
-/// The place of this key table among these.
+/// The place of this P_Key table among these.
 fn place_of(tables: &[KeyTable<PARTITIONS>], keys: &KeyTable<PARTITIONS>) -> Option<usize>
     ensures { IfSome result (λ place. slice_get tables.now place ≡ Some keys.now) }
 {
@@ -171,7 +171,7 @@ fn place_of(tables: &[KeyTable<PARTITIONS>], keys: &KeyTable<PARTITIONS>) -> Opt
     None
 }
 
-/// The place of this key table, which is added if it is not there.
+/// The place of this P_Key table, which is added if it is not there.
 fn class_of(
     tables: &mut Vec<KeyTable<PARTITIONS>>,
     keys: &KeyTable<PARTITIONS>,

@@ -49,12 +49,12 @@ pub fn unused_channels_have_a_line()
     ensures { UnusedChannelsHaveALine }
 {}
 
-/// Where a level counts the switches of a way, a switch to which a host is attached has the level 1.
+/// If a level counts the switches of a way, a switch to which a host is attached has the level 1.
 pub fn levels_begin_at_0()
     ensures { LevelsBeginAt0 }
 {}
 
-/// Where all switches have the level 0, a switch far from hosts has it too.
+/// If all switches have the level 0, a switch far from hosts has it too.
 pub fn not_all_are_leaves()
     ensures { NotAllAreLeaves }
 {}
@@ -64,7 +64,7 @@ pub fn tops_are_not_of_level_1()
     ensures { TopsAreNotOfLevel1 }
 {}
 
-/// If the switches of the greatest level were the top ones also where that is 0, a host would be attached to one.
+/// If the switches of the greatest level were the top ones also if that is 0, a host would be attached to one.
 pub fn leaves_are_no_tops()
     ensures { LeavesAreNoTops }
 {}

@@ -22,7 +22,7 @@ pub enum Manner {
     Dripping,
     /// Never: every read fails.
     Failing,
-    /// One byte a read, but for the read of this number, counted from 1, which fails.
+    /// One byte a read, except the read of this number, counted from 1, which fails.
     FailingAt(usize),
 }
 

@@ -1,6 +1,6 @@
 //! Bytes of which most are zero.
 
-/// Zero bytes but for these, from that byte on.
+/// Zero bytes except these, from that byte on.
 pub fn bytes_from<const SIZE: usize>(first: usize, bytes: &[u8]) -> [u8; SIZE] {
     let mut all = [0; SIZE];
     for (to, from) in all.iter_mut().skip(first).zip(bytes) {

@@ -10,7 +10,7 @@ const FIRST_GID: u128 = 0xfe80_0000_0000_0000_0000_0000_0000_0111;
 
 const SECOND_GID: u128 = 0xfe80_0000_0000_0000_0000_0000_0000_0121;
 
-/// The subnet manager's port of an adapter h0 with GUID 0x100, whose node has one port.
+/// The SM port of an adapter h0 with GUID 0x100, whose node has one port.
 const ADAPTER_PORT: [u8; 46] = [
     0x00, 0x01, // LID
     0x00, 0x00, // reserved

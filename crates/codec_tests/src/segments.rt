@@ -132,7 +132,7 @@ fn mad_of(header: &[u8; 24], rmpp: &[u8; 12], fields: &[u8; 20], part: &[u8]) ->
     mad
 }
 
-/// The segment of that number, or zero bytes where there is none.
+/// The segment of that number, or zero bytes if there is none.
 fn segment_of(sender: &Sender, number: u32) -> Mad {
     if number >= 1 && number <= sender.segment_count() {
         sender.segment(number)

@@ -1,5 +1,5 @@
 -- The channels of a fabric, and which depend on which. A channel is a port of a switch that is cabled to a switch; it has to
--- wait for another where some LID is forwarded out of it and, by the switch behind it, out of the other.
+-- wait for another if some LID is forwarded out of it and, by the switch behind it, out of the other.
 use Rattle.std.specs.Prelude.{ℕ, ◌==◌, ◌&&◌, Bool, false, List, map, filter, flat_map, get_or, Option, option_map}
 use Rattle.std.specs.List.{enumerate_from, list_any}
 use Rattle.std.specs.Option.{option_map_or}

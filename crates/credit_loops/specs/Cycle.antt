@@ -37,6 +37,6 @@ abbrev pub first_cycle : List (List ℕ) → List ℕ → Option (List ℕ)
 first_cycle graph [] = None
 first_cycle graph (a ∷ rest) = option_or (cycle_through graph a) (first_cycle graph rest)
 
--- that through the least that is on one; none where there is no cycle
+-- that through the least that is on one; none if there is no cycle
 abbrev pub cycle : List (List ℕ) → Option (List ℕ)
 cycle graph = first_cycle graph (range_with_len 0 (length graph))

@@ -47,7 +47,7 @@ ReportsCycles reports =
 abbrev pub ReportedLoopsWait : Type 0
 ReportedLoopsWait = ReportsCycles deadlock
 
--- where none is reported no channels wait for one another in a cycle, however long
+-- if none is reported no channels wait for one another in a cycle, however long
 abbrev pub MissesNone : (NetState → List ℕ → Option (List PortRef)) → Type 0
 MissesNone reports =
     (net : NetState) (lids : List ℕ) → reports net lids ≡ None → (ring : List PortRef) → are_channels net ring ≡ true

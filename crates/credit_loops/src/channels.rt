@@ -335,7 +335,7 @@ pub fn deadlock(
     }
 }
 
-/// The channel there, or no port of a switch where there is none.
+/// The channel there, or no port of a switch if there is none.
 pub fn channel_at(channels: &[PortRef], place: usize) -> PortRef
     ensures { result ≡ get_or channels.now place (port 0 0) }
 {

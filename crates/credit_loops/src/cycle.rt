@@ -210,7 +210,7 @@ fn between(alloc: Global, graph: &[NextList], first: Vec<bool>) -> Result<Vec<bo
     Ok(marks)
 }
 
-/// The marks before each round from `home` up to the one that comes back to it; none where none does.
+/// The marks before each round from `home` up to the one that comes back to it; none if none does.
 fn rounds_home(
     alloc: Global,
     graph: &[NextList],

@@ -3,22 +3,22 @@
 
 ghost use Rattle.credit_loops.specs.WrongRules.{FirstPortsAreChannels, OtherLidsDoNotCount, TwoMakeACycle, TheLastWaitsForTheFirst};
 
-/// Where the first port of a switch is no channel, one is left out.
+/// If the first port of a switch is no channel, one is left out.
 pub fn first_ports_are_channels()
     ensures { FirstPortsAreChannels }
 {}
 
-/// Where dependencies along another LID count too, channels are reported that do not wait for one another along these.
+/// If dependencies along another LID count too, channels are reported that do not wait for one another along these.
 pub fn other_lids_do_not_count()
     ensures { OtherLidsDoNotCount }
 {}
 
-/// Where cycles of two channels are not reported, one is missed.
+/// If cycles of two channels are not reported, one is missed.
 pub fn two_make_a_cycle()
     ensures { TwoMakeACycle }
 {}
 
-/// Where the last channel is left out, the one before it does not wait for the first.
+/// If the last channel is left out, the one before it does not wait for the first.
 pub fn the_last_waits_for_the_first()
     ensures { TheLastWaitsForTheFirst }
 {}

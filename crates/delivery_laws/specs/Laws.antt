@@ -33,7 +33,7 @@ pub record IsMeant (fabric : FabricState) (dlid p_key : ℕ) (at : PortRef) (por
   pub lid : port.info.lid ≡ dlid
   pub accepts : accepts p_key (stored_keys port.keys) ≡ true
 
--- where tables forward by LID, what a port sends to a unicast LID is delivered at the port of that LID which accepts it, and
+-- if tables forward by LID, what a port sends to a unicast LID is delivered at the port of that LID which accepts it, and
 -- nowhere else
 abbrev pub PacketsGoByLid : Type 0
 PacketsGoByLid =
@@ -42,7 +42,7 @@ PacketsGoByLid =
     → ForwardsByLid fabric → IsCabledPort fabric from sender → stamped sender dlid p_key destination_qp payload ≡ Ok packet
     → is_multicast dlid ≡ false → IsDelivered fabric.nodes fabric.cables from packet at port ↔ IsMeant fabric dlid p_key at port
 
--- so to nobody, where that LID is a switch's or nobody's
+-- so to nobody, if that LID is a switch's or nobody's
 abbrev pub OtherLidsReachNobody : Type 0
 OtherLidsReachNobody =
     (fabric : FabricState) (from at : PortRef) (sender port : AdapterState) (dlid p_key destination_qp : ℕ) (payload : List ℕ)
@@ -59,7 +59,7 @@ pub record IsReceiver (fabric : FabricState) (receives : ℕ → ℕ → Bool) (
   pub member : receives mlid receiver.port_guid ≡ true
   pub accepts : accepts p_key (stored_keys receiver.keys) ≡ true
 
--- where masks forward by MLID, what a port sends to an MLID is delivered at each other port that receives it and accepts it,
+-- if masks forward by MLID, what a port sends to an MLID is delivered at each other port that receives it and accepts it,
 -- and nowhere else
 abbrev pub PacketsGoByMlid : Type 0
 PacketsGoByMlid =

@@ -22,7 +22,7 @@ abbrev pub next_port : List Node → List Cable → Packet → PortRef → Optio
 next_port nodes cables packet here =
     option_and_then (λ out. far_end cables (record { node = here.node; port = out })) (out_port_at nodes here packet)
 
--- the way of a packet that came in at the first of these ports ends at the last: nothing sends it on from there
+-- the path of a packet that came in at the first of these ports ends at the last: nothing sends it on from there
 pub record IsEnd (nodes : List Node) (cables : List Cable) (packet : Packet) (first last : PortRef) : Type 0 where
   pub way : List PortRef
   pub goes : Goes nodes cables packet first way last

@@ -18,15 +18,15 @@ pub fn deliveries_are_one_list()
     ensures { DeliveriesAreOneList }
 {}
 
-/// Where the tables of a fabric forward by LID (`ForwardsByLid`), a packet that a port stamps for a LID is delivered
+/// If the tables of a fabric forward by LID (`ForwardsByLid`), a packet that a port stamps for a LID is delivered
 /// at the port of a channel adapter that has this LID, if that accepts the packet's key, and nowhere else: so to
-/// nobody, where the LID is a switch's or nobody's, or over the LIDs that tables count.
+/// nobody, if the LID is a switch's or nobody's, or over the LIDs that tables count.
 pub fn packets_go_by_lid()
     ensures assigned { PacketsGoByLid }
     ensures others { OtherLidsReachNobody }
 {}
 
-/// Where the masks of a fabric forward by multicast LID (`ForwardsByMlid`), a packet that a port stamps for such a LID is
+/// If the masks of a fabric forward by multicast LID (`ForwardsByMlid`), a packet that a port stamps for such a LID is
 /// delivered at each other port of a channel adapter that receives what is sent there, if that accepts the packet's key,
 /// and nowhere else: so never at the port that sent it.
 pub fn packets_go_by_mlid()

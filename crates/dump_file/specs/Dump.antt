@@ -70,7 +70,7 @@ with_rows so_far rows = record so_far { rows = rows }
 abbrev pub with_row : DraftState → Result Row DumpCause → Result DraftState DumpCause
 with_row so_far reported = reported >>= λ row. Ok (with_rows so_far (so_far.rows ++ row ∷ []))
 
--- ---- the last line of a table: `4 valid lids dumped`, or `7 lids dumped` where entries of 255 have rows too
+-- ---- the last line of a table: `4 valid lids dumped`, or `7 lids dumped` if entries of 255 have rows too
 abbrev pub rows_counted : List Row → List ℕ → Result ℕ DumpCause
 rows_counted rows words =
     if bytes_eq words (codes "valid lids dumped") then Ok (valid_count rows)

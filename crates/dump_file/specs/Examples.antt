@@ -56,7 +56,7 @@ pub record RowsAreRead : Type 0 where
   pub of_nobody : is_said_otherwise (one_row ∷ []) (record one_row { destination = Nobody }) ≡ false
   pub counted : count_reported (one_row ∷ []) (trimmed (codes "1 valid lids dumped \r\n")) ≡ Ok 1
   pub miscounted : count_reported (one_row ∷ []) (codes "2 lids dumped") ≡ Err WrongCount
-  -- entries of 255 are counted where all are, and those of 254 always
+  -- entries of 255 are counted if all are, and those of 254 always
   pub valid_counted : count_reported (closed_row ∷ one_row ∷ last_port_row ∷ last_port_row ∷ []) (codes "3 valid lids dumped") ≡ Ok 3
   pub all_counted : count_reported (one_row ∷ closed_row ∷ last_port_row ∷ []) (codes "3 lids dumped") ≡ Ok 3
 

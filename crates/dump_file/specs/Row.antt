@@ -31,7 +31,7 @@ is_valid row = not (row.port == 255)
 abbrev pub valid_count : List Row → ℕ
 valid_count rows = count_by is_valid rows
 
--- ---- LIDs rise: this one is above that of the last row, where there is one
+-- ---- LIDs rise: this one is above that of the last row, if there is one
 abbrev pub is_above : List Row → ℕ → Bool
 is_above rows lid = option_map_or (λ row. nat_lt row.lid lid) (slice_get rows (length rows - 1)) true
 

@@ -17,7 +17,7 @@ use text_words::cut_at;
 pub struct Row {
     /// The LID.
     pub lid: u16,
-    /// The port by which the switch forwards to it, 0 where it takes what is sent to it itself; 255 where it
+    /// The port by which the switch forwards to it, 0 if it takes what is sent to it itself; 255 if it
     /// leads nowhere, on purpose.
     pub port: u8,
     /// Whose the LID is.

@@ -23,7 +23,7 @@ pub struct Table {
     pub guid: u64,
     /// LinearFDBTop: above this LID the switch has no entries.
     pub top: u16,
-    /// Its rows, whose LIDs rise. An entry of 255 may have a row or none. The row of the top is lacking where it is
+    /// Its rows, whose LIDs rise. An entry of 255 may have a row or none. The row of the top is lacking if it is
     /// a multiple of 64, whatever its entry is.
     pub rows: RowList,
 }

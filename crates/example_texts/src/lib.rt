@@ -19,6 +19,6 @@ cable B/2 h3/1
 sm h0/1
 ";
 
-/// Of partition 1, h1 is a full member and h2 and h3 are limited ones. Of the default partition the subnet
-/// manager's port is a full member, the others are limited ones.
+/// Of partition 1, h1 is a full member and h2 and h3 are limited ones. Of the default partition the SM port
+/// is a full member, the others are limited ones.
 pub const ONE_PARTITION_FILE: &str = "P1=0x0001: 0x111=full, 0x121, 0x131;\n";

@@ -97,9 +97,9 @@ use Rattle.fabric_cli.specs.Files.{Contents, Opened, StopsAt}
 use Rattle.cli_args.specs.Words.{Asking, Names, named_inspection, named_view, opened_for}
 
 -- how an invocation ends: the arguments are refused, with this text if it is known; or an error's status and line; or a
--- whole output; or the whole audit of routes that are not safe, or of key tables that do not follow the file; or the result of bring-up by SMPs, with its error's line if there is one: of what is printed then nothing is
+-- whole output; or the whole audit of routes that are not safe, or of P_Key tables that do not follow the file; or the result of bring-up by SMPs, with its error's line if there is one: of what is printed then nothing is
 -- said; or the line of a script's error, after the report of the
--- lines before it, or of a partition file's error, after what is said of key tables without it
+-- lines before it, or of a partition file's error, after what is said of P_Key tables without it
 pub data Ending : Type 0 where
   refused : Option (List ℕ) → Ending
   faulted : ℕ → List ℕ → Ending

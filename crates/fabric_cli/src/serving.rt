@@ -261,7 +261,7 @@ fn answered_of_mfts<'a, F: Files, O: Output>(
     }
 }
 
-/// Writes the audit of key tables: the three files are read before any is checked.
+/// Writes the audit of P_Key tables: the three files are read before any is checked.
 fn answered_of_keys<'a, F: Files, O: Output>(
     alloc: Global,
     asked: &KeysFiles<'a>,

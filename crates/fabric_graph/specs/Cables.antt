@@ -1,5 +1,5 @@
 -- The cables of a topology in DOT, as edges with the numbers of the ports at both ends, those that are cut dashed. DOT draws the
--- first end of an edge above the second where they are not in one row, so that each row of switches stands below that of the rank
+-- first end of an edge above the second if they are not in one row, so that each row of switches stands below that of the rank
 -- before, and adapters stand below their switches.
 use Rattle.std.specs.Prelude.{ℕ, Bool, true, false, nat_lt, if◌then◌else◌, List, [], ◌++◌, codes, decimal, slice_get, Option}
 use Rattle.std.specs.Prelude.{Some, None, is_none}
@@ -27,7 +27,7 @@ is_above None other = false
 abbrev pub rank_at : RoutesState → List Node → ℕ → Option ℕ
 rank_at routes nodes place = option_and_then (rank_of routes) (slice_get nodes place)
 
--- the cable from its upper end, and as its line names the ends where neither is above the other
+-- the cable from its upper end, and as its line names the ends if neither is above the other
 abbrev pub downward : RoutesState → List Node → Cable → Cable
 downward routes nodes cable =
     if is_above (rank_at routes nodes cable.second.node) (rank_at routes nodes cable.first.node)

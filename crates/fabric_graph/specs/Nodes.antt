@@ -35,7 +35,7 @@ unfoldable pub label : TopologyState → ConfigurationState → Node → List �
 label plan subnet node =
     codes ", label=\"" ++ node.name ++ flat_map (lid_line_of node) subnet.ports ++ manager_line plan node ++ codes "\""
 
--- what is shown of a switch where one points at it: its GUID, which would make each box twice as wide
+-- what is shown of a switch if one points at it: its GUID, which would make each box twice as wide
 unfoldable pub guid_words : ℕ → List ℕ
 guid_words guid = codes ", tooltip=\"" ++ guid_text guid ++ 34 ∷ []
 

@@ -8,7 +8,7 @@ use Rattle.topo_file.specs.Node.{is_switch}
 use Rattle.topo_file.specs.declared.node.Node.{Node}
 use Rattle.updn_routes.specs.Subnet.{RoutesState, place_of}
 
--- how far a switch is from the nearest root, where routes know it by its GUID; a channel adapter has no rank
+-- how far a switch is from the nearest root, if routes know it by its GUID; a channel adapter has no rank
 abbrev pub rank_of : RoutesState → Node → Option ℕ
 rank_of routes node =
     if is_switch node
@@ -29,6 +29,6 @@ member routes rank node = if has_rank routes rank node then codes "; " ++ quoted
 unfoldable pub row : RoutesState → List Node → ℕ → List ℕ
 row routes nodes rank = codes "  { rank=" ++ row_words rank ++ flat_map (member routes rank) nodes ++ codes " }\n"
 
--- nothing where there is none
+-- nothing if there is none
 abbrev pub rank_line : RoutesState → List Node → ℕ → List ℕ
 rank_line routes nodes rank = if list_any (has_rank routes rank) nodes then row routes nodes rank else []

@@ -60,7 +60,7 @@ pub fn graph_text(
     Ok(text)
 }
 
-/// How far apart nodes stand where there are lists.
+/// How far apart nodes stand if there are lists.
 fn spacing(attachments: &[Option<Attachment>]) -> &'static [u8]
     ensures { result.now ≡ spacing attachments.now }
 {

@@ -24,7 +24,7 @@ pub(crate) struct Attachment {
     pub switch: usize,
     /// Its port there.
     pub port: u8,
-    /// The partitions of the adapter, but for the default one.
+    /// The partitions of the adapter, except the default one.
     pub partitions: Vec<usize>,
 }
 

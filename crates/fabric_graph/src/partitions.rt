@@ -30,7 +30,7 @@ fn push_styled_fill(text: &mut Vec<u8>, numbers: &[usize]) -> Result<(), AllocEr
     push_fill(text, style(numbers), numbers)
 }
 
-/// The partitions that a node is in, by number, but for the default one. It can only run out of memory.
+/// The partitions that a node is in, by number, except the default one. It can only run out of memory.
 #[tactic(auto, unfolding(crate::specs::Partitions::partitions_of))]
 pub(crate) fn partitions_of(
     alloc: Global,

@@ -9,7 +9,7 @@ use text_parts::push_quoted;
 use topo_file::Node;
 use updn_routes::Routes;
 
-/// How far a switch is from the nearest root, where routes know it; a channel adapter has no rank.
+/// How far a switch is from the nearest root, if routes know it; a channel adapter has no rank.
 pub(crate) fn rank_of(routes: &Routes, node: &Node) -> Option<usize>
     ensures { result ≡ rank_of routes.now node.now }
 {

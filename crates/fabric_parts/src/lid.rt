@@ -3,7 +3,7 @@
 ghost use Rattle.std.specs.Prelude.{◌≡◌};
 ghost use Rattle.fabric_parts.specs.Lid.{is_multicast, is_reserved};
 
-/// The LID of the subnet manager's port in every subnet of ours.
+/// The LID of the SM port in every subnet of ours.
 pub const MANAGER_LID: u16 = 1;
 
 /// The greatest LID that a port may have; those above it are for multicast groups.
@@ -12,7 +12,7 @@ pub const LAST_UNICAST_LID: u16 = 0xbfff;
 /// The least LID of a multicast group.
 pub const FIRST_MULTICAST_LID: u16 = 0xc000;
 
-/// The permissive LID: directed-route packets have it where no LID is meant.
+/// The permissive LID: directed-route packets have it if no LID is meant.
 pub const PERMISSIVE_LID: u16 = 0xffff;
 
 /// The first half of the GIDs of all ports of a subnet of ours: the link-local prefix, which PortInfo shows.

@@ -1,4 +1,4 @@
--- The key tables that the ports of a fabric hold (IBA volume 1, 14.2.5.7), as lines.
+-- The P_Key tables that the ports of a fabric hold (IBA volume 1, 14.2.5.7), as lines.
 use Rattle.std.specs.Prelude.{ℕ, ◌==◌, Bool, false, not, if◌then◌else◌, List, [], ◌∷◌, ◌++◌, codes, flat_map, slice_get}
 use Rattle.std.specs.List.{range_with_len}
 use Rattle.std.specs.Option.{option_map_or}
@@ -16,7 +16,7 @@ use Rattle.switch_model.specs.SwitchState.{SwitchState, num_ports}
 use Rattle.topo_file.specs.declared.node.Node.{Node as PlannedNode}
 
 -- ---- what a port holds
--- the words of the key table of a port of a node; none where it has no such port
+-- the words of the P_Key table of a port of a node; none if it has no such port
 abbrev pub words_in : Node → ℕ → List ℕ
 words_in (Switch held) number = option_map_or (λ port. port.keys) (slice_get held.ports number) []
 words_in (Adapter ports) number = option_map_or (λ port. port.keys) (adapter_port ports number) []
@@ -36,7 +36,7 @@ keys_line name number words =
 abbrev pub faces_adapter : FabricState → PortRef → Bool
 faces_adapter fabric at = option_map_or (λ there. not (is_switch_at fabric.nodes there.node)) (far_end fabric.cables at) false
 
--- of a port of a switch, where it does
+-- of a port of a switch, if it does
 abbrev pub facing_line : FabricState → SwitchState → List ℕ → ℕ → ℕ → List ℕ
 facing_line fabric held name place number =
     if faces_adapter fabric (record { node = place; port = number }) then keys_line name number (words_in (Switch held) number) else []

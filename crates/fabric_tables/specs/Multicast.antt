@@ -22,14 +22,14 @@ use Rattle.topo_file.specs.declared.node.Node.{Node as PlannedNode}
 unfoldable pub columns : SwitchState → List ℕ
 columns held = range_with_len 0 (num_ports held + 1)
 
--- the digit of the tens, where that of the ones is 0
+-- the digit of the tens, if that of the ones is 0
 abbrev pub tens_mark : ℕ → List ℕ
 tens_mark number = (if number % 10 == 0 then 48 + number / 10 else 32) ∷ 32 ∷ []
 
 abbrev pub ones_mark : ℕ → List ℕ
 ones_mark number = (48 + number % 10) ∷ 32 ∷ []
 
--- where port numbers have two digits
+-- if port numbers have two digits
 unfoldable pub tens_line : SwitchState → List ℕ
 tens_line held =
     if nat_lt 9 (num_ports held) then codes "            " ++ flat_map tens_mark (columns held) ++ 10 ∷ [] else []
@@ -70,7 +70,7 @@ head_line path switch = range_text ++ route_text path ++ switch_text switch ++ 1
 unfoldable pub count_line : ℕ → List ℕ
 count_line count = decimal count ++ codes " valid mlids dumped " ++ 10 ∷ []
 
--- nothing where no bit of a port is set
+-- nothing if no bit of a port is set
 abbrev pub table_text : List ℕ → SubnetPort → SwitchState → List ℕ
 table_text path switch held =
     if length (used held) == 0 then []

@@ -72,7 +72,7 @@ pub record TablesAreWhole : Type 0 where
       ++ ended (codes "0xc000          x x   ")
       ++ ended (codes "0xc002        x   x   ")
       ++ ended (codes "2 valid mlids dumped ")
-  -- a bit of a port that the switch does not have counts for nothing
+  -- a bit of a port that the switch does not have is ignored
   pub twelve_ports : table_text (1 ∷ []) (end_port (codes "A") 0x10 2 12) (switch_with 0x10 12 (0b10000000000000 ∷ 0b11010000000101 ∷ []))
       ≡ ended (codes "Multicast mlids [0xc000-0xcfff] of switch DR path slid 0; dlid 0; 0,1 guid 0x0000000000000010 (A):")
       ++ ended (codes "            0                   1     ")

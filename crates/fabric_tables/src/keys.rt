@@ -1,4 +1,4 @@
-//! Key tables, as lines.
+//! P_Key tables, as lines.
 
 ghost use Rattle.std.specs.Prelude.{◌≡◌, ◌++◌, OnOk, IfOk, flat_map};
 ghost use Rattle.std.specs.List.{range_with_len};
@@ -123,7 +123,7 @@ fn faces_adapter(fabric: &Fabric, at: PortRef) -> bool
     }
 }
 
-/// The words of the key table of a port of a node; none where it has no such port.
+/// The words of the P_Key table of a port of a node; none if it has no such port.
 fn words_in(node: &Node, number: u8) -> &[u16]
     ensures { result.now ≡ words_in node.now number }
 {

@@ -2,7 +2,7 @@
 
 ghost use Rattle.fabric_tables.specs.Whole.{TablesAreWhole};
 
-/// A linear table, and the multicast table of a switch whose port numbers have one digit, and that of one whose numbers have two,
+/// An LFT, and the multicast table of a switch whose port numbers have one digit, and that of one whose numbers have two,
 /// each as a whole text.
 pub fn tables_are_whole()
     ensures { TablesAreWhole }

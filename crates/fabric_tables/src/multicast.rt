@@ -88,7 +88,7 @@ fn push_table_of(
 }
 
 /// The path by which a sweep found the switch, the titles, and a line for each multicast LID that has a bit of a port; nothing
-/// where none has.
+/// if none has.
 fn push_table(
     text: &mut Vec<u8>,
     path: &[u8],
@@ -175,7 +175,7 @@ fn push_titles(
     text.extend_from_slice(b" MLid\n")
 }
 
-/// The digits of the tens, where port numbers have two digits.
+/// The digits of the tens, if port numbers have two digits.
 #[tactic(auto, unfolding(crate::specs::Multicast::tens_line))]
 fn push_tens_line(
     text: &mut Vec<u8>,
@@ -205,7 +205,7 @@ fn push_tens_marks(
     Ok(())
 }
 
-/// The digit of the tens, where that of the ones is 0.
+/// The digit of the tens, if that of the ones is 0.
 fn push_tens_mark(text: &mut Vec<u8>, number: u8) -> Result<(), AllocError>
     ensures { OnOk result (text.new.items ≡ text.old.items ++ tens_mark number) }
 {

@@ -58,7 +58,7 @@ fn a_fat_tree_is_read(rt: HostRuntime) -> Result<(), Fail> {
 }
 
 /// How many SMPs a sweep of a fat tree takes. Of each switch 36 ports are asked for PortInfo, what is behind each port with
-/// a cable for NodeInfo, the subnet manager's port and its switch before that, and each node for its name.
+/// a cable for NodeInfo, the SM port and its switch before that, and each node for its name.
 fn smps_of(leaves: u16) -> u64
     requires { leaves ≤ 32 }
 {
@@ -119,7 +119,7 @@ fn routes_of(alloc: Global, graph: Graph, roots: &[u64]) -> Result<Routes, Fail>
     Ok(routes(alloc, graph, lids, roots).or(Err("routes"))?)
 }
 
-/// The subnet manager's port is attached to port 1 of the first leaf. Each leaf knows the way there; a spine that has
+/// The SM port is attached to port 1 of the first leaf. Each leaf knows the way there; a spine that has
 /// no cable to that leaf does not.
 fn leaves_know_the_way(rt: &impl Abort, routes: &Routes) {
     assert!(rt; routes.next_hop(0, 1) == Some(1));

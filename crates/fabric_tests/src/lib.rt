@@ -1,7 +1,7 @@
 //! Tests of the subnet manager on the simulated fabric, through public calls alone: sweeps, LIDs and routes.
 //!
 //! They say what no clause says: how many SMPs a sweep takes, what it answers over wires at fault, and that memory is
-//! not refused where it is there.
+//! not refused if it is there.
 #![tactic(auto)]
 
 #[cfg(test)]

@@ -9,14 +9,14 @@ use std::test::Fail;
 use sweep::{SweepFault, sweep};
 use test_fabrics::two_switch_wire;
 
-/// What a sweep answers where no reply comes behind so many.
+/// What a sweep answers if no reply comes behind so many.
 fn fault_behind(alloc: Global, left: u64) -> Result<Option<SweepFault>, Fail> {
     let wire = two_switch_wire(alloc)?;
     Ok(sweep(alloc, &mut SilencedWire { wire, left }).err())
 }
 
 /// SMPs of a sweep: from each switch's ports PortInfo, from what is behind those with a cable NodeInfo, from
-/// each node NodeDescription, and the subnet manager's port before all.
+/// each node NodeDescription, and the SM port before all.
 const SMPS: u64 = 22;
 
 #[test]

@@ -1,4 +1,4 @@
--- In a good fabric the hop rules bring an answer home, and so a reply comes exactly where they do.
+-- In a good fabric the hop rules bring an answer home, and so a reply comes if and only if they do.
 use Rattle.std.proofs.Common.{ℕ, zero, suc, ◌≡◌, ◌≢◌, ◌+◌, ◌<◌, ◌==◌, ◌∙◌, ap, refl, sym, subst, inl, inr, Bool, true, List, [], ◌∷◌, length, Option}
 use Rattle.std.proofs.Common.{Some, None, option_map, arith, false}
 use Rattle.std.specs.Int.Digits.{AllBelowBase}

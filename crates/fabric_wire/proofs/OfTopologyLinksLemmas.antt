@@ -1,4 +1,4 @@
--- A port of a topology's fabric is Down exactly where it has no cable.
+-- A port of a topology's fabric is Down if and only if it has no cable.
 use Rattle.std.proofs.Common.{ℕ, zero, suc, ◌≡◌, ◌+◌, ◌-◌, ◌≤◌, ◌==◌, ◌∙◌, ap, refl, sym, if◌then◌else◌, Bool, true, false, not, List, ◌∷◌, map}
 use Rattle.std.proofs.Common.{nat_le, slice_get, Option, Some, None, option_map, arith}
 use Rattle.std.specs.List.{range_with_len}

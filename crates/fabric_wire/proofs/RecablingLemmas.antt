@@ -205,7 +205,7 @@ reorders : (up : Bool) (a b : PortRef) (old : CablingState) → Reorders old (ca
 reorders true a b old = mended_reorders a b old
 reorders false a b old = cut_reorders a b old
 
--- ---- the subnet manager's port, which is no switch's, keeps its cable
+-- ---- the SM port, which is no switch's, keeps its cable
 pub not_there : (nodes : List Node) (a m : PortRef) → is_switch_at nodes a.node ≡ true → is_switch_at nodes m.node ≡ false → is_same_port a m ≡ false
 not_there nodes a m switch none = by (a.node == m.node) refl
   where

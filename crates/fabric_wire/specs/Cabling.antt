@@ -32,7 +32,7 @@ is_between a b cable =
 abbrev pub is_not_between : PortRef → PortRef → Cable → Bool
 is_not_between a b cable = not (is_between a b cable)
 
--- it goes behind those that are cut; where no such cable is there, nothing changes
+-- it goes behind those that are cut; if no such cable is there, nothing changes
 abbrev pub cable_cut : PortRef → PortRef → CablingState → CablingState
 cable_cut a b cabling = record {
   cables = filter (is_not_between a b) cabling.cables;

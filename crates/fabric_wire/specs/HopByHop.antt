@@ -17,7 +17,7 @@ pub record Visit : Type 0 where
   pub entered : ℕ
   pub smp : List ℕ
 
--- what the hop rules say there: those of the way out where its direction bit is 0, else those of the way back
+-- what the hop rules say there: those of the way out if its direction bit is 0, else those of the way back
 abbrev pub hop_rules : List Node → Visit → Step
 hop_rules nodes here =
     if is_outgoing here.smp then outgoing (node_type_at nodes here.node) here.entered here.smp
@@ -35,8 +35,8 @@ abbrev pub Goes : FabricState → Visit → List Visit → Visit → Type 0
 Goes fabric here [] last = here ≡ last
 Goes fabric here (next ∷ later) last = Passes fabric here next × Goes fabric next later last
 
--- whose agent it is given to there: that of the port by which it came, and of the subnet manager's port
--- where it never left the node
+-- whose agent it is given to there: that of the port by which it came, and of the SM port
+-- if it never left the node
 abbrev pub agent_port : PortRef → Visit → PortRef
 agent_port manager here = if here.entered == 0 then manager else record { node = here.node; port = here.entered }
 
@@ -71,7 +71,7 @@ pub record IsAnswered (fabric : FabricState) (smp reply : List ℕ) : Type 0 whe
 pub record GoesByHops (fabric : FabricState) (smp : List ℕ) : Type 0 where
   -- these replies come and no other
   pub replies : (reply : List ℕ) → exchange_reply fabric smp ≡ Some reply ↔ IsAnswered fabric smp reply
-  -- the agent that it reaches may have changed; where it reaches none, nothing has
+  -- the agent that it reaches may have changed; if it reaches none, nothing has
   pub change : (at : PortRef) (request : List ℕ) → ComesTo fabric smp at request
       → exchange_after fabric smp ≡ after_at fabric at request
   pub no_change : ((at : PortRef) (request : List ℕ) → ComesTo fabric smp at request → ⊥) → exchange_after fabric smp ≡ fabric

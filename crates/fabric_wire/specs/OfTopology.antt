@@ -17,7 +17,7 @@ use Rattle.smp_wire.specs.declared.node.Node.{Node}
 use Rattle.smp_wire.specs.declared.node.Node.TheVariants.{Switch, Adapter}
 use Rattle.smp_wire.specs.FabricState.{FabricState}
 
--- a port has a link where a cable ends at it
+-- a port has a link if a cable ends at it
 abbrev pub link_of : List Cable → ℕ → ℕ → PortLink
 link_of cables place number = if is_cabled cables (record { node = place; port = number }) then Cabled else Uncabled
 

@@ -42,6 +42,6 @@ abbrev pub changed : PortRef → PortRef → Bool → FabricState → FabricStat
 changed a b up fabric =
     fabric_over (nodes_linked up a (nodes_linked up b fabric.nodes)) (cabling_with up a b (cabling_of fabric)) fabric.manager
 
--- where it can't change, all stays
+-- if it can't change, all stays
 abbrev pub recabled : PortRef → PortRef → Bool → FabricState → FabricState
 recabled a b up fabric = if can_change a b up fabric then changed a b up fabric else fabric

@@ -70,7 +70,7 @@ impl Cabling {
         }
     }
 
-    /// Cuts the cable between these ports. Where there is none that is not cut, nothing changes.
+    /// Cuts the cable between these ports. If there is none that is not cut, nothing changes.
     pub(crate) fn cut(&mut self, a: PortRef, b: PortRef)
         requires { IsOnce self.old }
         ensures { self.new ≡ cable_cut a b self.old }
@@ -84,7 +84,7 @@ impl Cabling {
         }
     }
 
-    /// Mends the cable between these ports. Where there is none that is cut, nothing changes.
+    /// Mends the cable between these ports. If there is none that is cut, nothing changes.
     pub(crate) fn mend(&mut self, a: PortRef, b: PortRef)
         requires { IsOnce self.old }
         ensures { self.new ≡ cable_mended a b self.old }

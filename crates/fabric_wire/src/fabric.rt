@@ -103,7 +103,7 @@ impl Fabric {
         })
     }
 
-    /// What holds of every fabric at all times: it is good, and a port is Down exactly where it has no cable.
+    /// What holds of every fabric at all times: it is good, and a port is Down if and only if it has no cable.
     pub fn known_kept(&self)
         ensures good { IsGood self.now }
         ensures links { ShowsLinks self.now }
@@ -140,7 +140,7 @@ impl Fabric {
     }
 
     /// Cuts the cable between these ports of two switches, or mends it: both ports are Down and Polling then, or Initialize and
-    /// LinkUp, and all else stays. Where no such cable can be cut, or mended, nothing changes: cables to adapters stay.
+    /// LinkUp, and all else stays. If no such cable can be cut, or mended, nothing changes: cables to adapters stay.
     ///
     /// Source: IBA volume 1, 14.2.5.6 (PortInfo).
     pub fn set_cable(&mut self, a: PortRef, b: PortRef, up: bool)
@@ -262,7 +262,7 @@ impl Fabric {
         at_each(alloc, &receivers, packet)
     }
 
-    /// What becomes of a packet that the port of that GUID sends. Where no port with a cable has that GUID, nobody
+    /// What becomes of a packet that the port of that GUID sends. If no port with a cable has that GUID, nobody
     /// gets it.
     pub fn carry(
         &self,

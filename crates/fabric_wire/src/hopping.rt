@@ -27,7 +27,7 @@ fn node_type_at(nodes: &[Node], place: usize) -> NodeType
     }
 }
 
-/// Takes an SMP from the subnet manager's port along its path, to the agent at its end.
+/// Takes an SMP from the SM port along its path, to the agent at its end.
 pub fn go_out(nodes: &[Node], cabling: &Cabling, manager: PortRef, sent: &Mad) -> Option<Arrival>
     requires cables { list_all (is_right nodes.now) cabling.now.cables ≡ true }
     requires sent { is_sent sent.now ≡ true }

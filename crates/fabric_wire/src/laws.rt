@@ -24,7 +24,7 @@ pub fn exchanges_go_by_hops()
     ensures { ExchangesGoByHops }
 {}
 
-/// At power-up the fabric of a topology is good, a port is Down exactly where it has no cable, and
+/// At power-up the fabric of a topology is good, a port is Down if and only if it has no cable, and
 /// switches are joined.
 pub fn topologies_give_good_fabrics()
     ensures good { TopologiesGiveGood }
@@ -32,7 +32,7 @@ pub fn topologies_give_good_fabrics()
     ensures joined { TopologiesAreJoined }
 {}
 
-/// Whatever cable is cut or mended, a good fabric stays good, and a port is Down exactly where it has no cable.
+/// Whatever cable is cut or mended, a good fabric stays good, and a port is Down if and only if it has no cable.
 pub fn cables_keep_fabrics()
     ensures good { CablesKeepGood }
     ensures links { CablesKeepLinks }

@@ -1,4 +1,4 @@
-//! Data packets to multicast LIDs, on every way that the masks of switches open.
+//! Data packets to multicast LIDs, on every path that MFT entries of switches open.
 
 ghost use Rattle.std.specs.Prelude.{ℕ, ◌≡◌, ◌==◌, ◌↔◌, true, filter_map, IfOk, OnOk};
 ghost use Rattle.std.specs.Int.{bit_at};

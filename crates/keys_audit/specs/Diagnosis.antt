@@ -42,7 +42,7 @@ is_as_opensm None opensms = true
 abbrev pub all_as_opensm : List AuditedPort → Bool
 all_as_opensm ports = list_all (λ port. is_as_opensm port.table port.opensms) ports
 
--- ---- the subnet manager's port is no full member of the default partition
+-- ---- the SM port is no full member of the default partition
 abbrev pub is_limited : Option HeldKeys → Bool
 is_limited (Some table) = not (is_full_member (membership_of default_base table.keys))
 is_limited None = false
@@ -62,7 +62,7 @@ limited_line nodes port = manager_words ++ port_text nodes port ++ limited_words
 unfoldable pub manager_line : List Node → AuditedPort → List ℕ
 manager_line nodes port = if is_cut_off port then limited_line nodes port.port else []
 
--- ---- all of them, where tables differ from the file; `others` says whether they follow another file
+-- ---- all of them, if tables differ from the file; `others` says whether they follow another file
 unfoldable pub opensms_line : List AuditedPort → List ℕ
 opensms_line ports = line_if (all_as_opensm ports) (codes "OpenSM reads this file so: if several words name a port, it takes the last")
 

@@ -139,7 +139,7 @@ verdict_line false false = codes "verdict: the tables do not follow the file\n"
 abbrev pub verdict : List AuditedPort → List ℕ
 verdict ports = verdict_line (are_clean ports) (all_agree ports)
 
--- ---- switch ports; where none drops anything, one line says so
+-- ---- switch ports; if none drops anything, one line says so
 abbrev pub are_off : (faced off : ℕ) → Bool
 are_off faced off = not (faced == 0) && (off == faced)
 

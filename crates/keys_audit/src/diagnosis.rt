@@ -233,7 +233,7 @@ fn push_full(text: &mut Vec<u8>, is_full: bool) -> Result<(), AllocError>
     )
 }
 
-/// Adds a line for each diagnosis that fits: where tables differ from the file by some key, what they have in common; a subnet
+/// Adds a line for each diagnosis that fits: if tables differ from the file by some key, what they have in common; a subnet
 /// manager whose port is limited; and full tables.
 #[tactic(auto, unfolding(crate::specs::Diagnosis::diagnosis))]
 pub(crate) fn push_diagnosis(

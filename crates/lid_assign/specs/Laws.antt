@@ -3,7 +3,7 @@ use Rattle.std.specs.Prelude.{ℕ, ◌≡◌, ◌==◌, ◌≤◌, ◌↔◌, Li
 use Rattle.std.specs.List.{IsDistinct}
 use Rattle.lid_assign.specs.Lids.{guid_in, lid_in}
 
--- where no two GUIDs are the same, a LID is a GUID's exactly where the GUID is the LID's
+-- if no two GUIDs are the same, a LID is a GUID's if and only if the GUID is the LID's
 abbrev pub LidsAndGuidsNameEachOther : Type 0
 LidsAndGuidsNameEachOther =
     (guids : List ℕ) (guid lid : ℕ) → IsDistinct (λ a b. a == b) guids → (lid_in guids guid ≡ Some lid) ↔ (guid_in guids lid ≡ Some guid)

@@ -2,7 +2,7 @@
 
 ghost use Rattle.lid_assign.specs.Laws.{LidsAndGuidsNameEachOther, LidsCountFrom1};
 
-/// No two end ports have one LID, and none has two: a LID is a GUID's exactly where the GUID is the LID's.
+/// No two end ports have one LID, and none has two: a LID is a GUID's if and only if the GUID is the LID's.
 pub fn lids_and_guids_name_each_other()
     ensures { LidsAndGuidsNameEachOther }
 {}

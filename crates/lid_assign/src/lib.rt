@@ -1,6 +1,6 @@
 //! LIDs: by which numbers packets name the end ports of a graph.
 //!
-//! [`assign`] is the one call. The subnet manager's port has LID 1, the other end ports follow from 2 in the order
+//! [`assign`] is the one call. The SM port has LID 1, the other end ports follow from 2 in the order
 //! of their GUIDs; the end port of a switch is its port 0, which has the switch's GUID (IBA volume 1
 //!, chapter 14; the order is ours). So `specs/Lids.antt` says, in the words of
 //! `subnet_model`. [`Lids`] answers both ways and needs no memory for it.

@@ -12,7 +12,7 @@ use std::marker::Model;
 /// Its value is the list of their GUIDs in order of LID, from LID 1 on. No two are the same.
 #[derive(Debug, Drop)]
 pub struct Lids {
-    /// The GUID of the subnet manager's port.
+    /// The GUID of the SM port.
     pub(crate) manager: u64,
     /// The other GUIDs, rising.
     pub(crate) others: Vec<u64>,

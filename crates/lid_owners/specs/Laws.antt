@@ -9,13 +9,13 @@ use Rattle.audit_net.specs.Net.{NetState}
 use Rattle.audit_plan.specs.Laws.{is_of_port}
 
 -- ---- whose a LID is
--- where no row says whose it is: an end port that reports it, to which no row gives another LID
+-- if no row says whose it is: an end port that reports it, to which no row gives another LID
 abbrev pub IsFree : NetState → (lid guid : ℕ) → Type 0
 IsFree net lid guid =
     (list_any (is_of_port lid guid) net.plan.lids ≡ true) × (end_of lid (rows_of net.dump.tables) ≡ None)
     × ((other : ℕ) → other < 65536 → end_of other (rows_of net.dump.tables) ≡ Some guid → ⊥)
 
--- what a row says counts, and what is reported where no row speaks
+-- what a row says counts, and what is reported if no row speaks
 pub record RowsComeFirst (owner : NetState → ℕ → Option ℕ) : Type 0 where
   pub said : (net : NetState) (lid guid : ℕ) → end_of lid (rows_of net.dump.tables) ≡ Some guid → owner net lid ≡ Some guid
   pub free : (net : NetState) (lid guid : ℕ) → owner net lid ≡ Some guid → (end_of lid (rows_of net.dump.tables) ≡ Some guid) ⊎ IsFree net lid guid

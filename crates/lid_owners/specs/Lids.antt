@@ -54,7 +54,7 @@ abbrev pub owner_of : NetState → ℕ → Option ℕ
 owner_of net lid = option_or (end_of lid (rows_of net.dump.tables)) (reported_end net lid)
 
 -- ---- whose a row says that its LID is
--- an end port, a switch's or not, is of the kind that is said, where one is
+-- an end port, a switch's or not, is of the kind that is said, if one is
 abbrev pub is_of_kind : Bool → Destination → Bool
 is_of_kind of_switch (ChannelAdapter guid) = not of_switch
 is_of_kind of_switch (Switch guid) = of_switch

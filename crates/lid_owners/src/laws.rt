@@ -2,7 +2,7 @@
 
 ghost use Rattle.lid_owners.specs.Laws.{OwnersAreFound};
 
-/// Whose a LID is a row says first, and where no row does the discovery, of a port to which no row gives another LID.
+/// Whose a LID is a row says first, and if no row does the discovery, of a port to which no row gives another LID.
 pub fn owners_are_found()
     ensures { OwnersAreFound }
 {}

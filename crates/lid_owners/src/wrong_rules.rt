@@ -3,17 +3,17 @@
 
 ghost use Rattle.lid_owners.specs.WrongRules.{ReportsComeLast, OldLidsDoNotCount, ReportedLidsCount};
 
-/// Where what a port reports counts first, a row that gives the LID to another port is not heard.
+/// If what a port reports counts first, a row that gives the LID to another port is not heard.
 pub fn reports_come_last()
     ensures { ReportsComeLast }
 {}
 
-/// Where what a port reports counts beside what rows say, a port that got another LID since has two.
+/// If what a port reports counts beside what rows say, a port that got another LID since has two.
 pub fn old_lids_do_not_count()
     ensures { OldLidsDoNotCount }
 {}
 
-/// Where rows alone count, a LID that has no row is nobody's, though a port reports it.
+/// If rows alone count, a LID that has no row is nobody's, though a port reports it.
 pub fn reported_lids_count()
     ensures { ReportedLidsCount }
 {}

@@ -14,7 +14,7 @@ use crate::{read_fields, write_fields};
 /// Source: IBA volume 1, 14.2.1.2.
 #[derive(Clone, Copy, Debug, PartialEq, Eq)]
 pub struct DrSmp {
-    /// The D bit: set where the SMP returns to its sender.
+    /// The D bit: set if the SMP returns to its sender.
     pub direction: bool,
     /// What went wrong, or 0, 15 bits.
     pub status: u16,

@@ -23,7 +23,7 @@ pub enum MadStatus {
     RequestInvalid = 0x0200,
     /// No record agrees.
     NoRecords = 0x0300,
-    /// More than one record agrees where one is asked for.
+    /// More than one record agrees if one is asked for.
     TooManyRecords = 0x0400,
     /// A GID is invalid.
     InvalidGid = 0x0500,

@@ -8,7 +8,7 @@ use Rattle.netdiscover_file.specs.declared.ends.FarEnd.{FarEnd}
 use Rattle.netdiscover_file.specs.Node.{is_node_at, place_of}
 use Rattle.netdiscover_file.specs.Port.{is_same_guid, line_of}
 
--- a far end names the port of this line: its node, its number, and its GUID where the port has one
+-- a far end names the port of this line: its node, its number, and its GUID if the port has one
 abbrev pub names : List Node → FarEnd → PortLine → Bool
 names nodes far line = is_node_at nodes line.port.node far.node && ((line.port.port == far.port) && is_same_guid line.guid far.guid)
 

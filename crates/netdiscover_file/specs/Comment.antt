@@ -9,7 +9,7 @@ use Rattle.netdiscover_file.specs.declared.fault.DiscoveryCause.TheVariants.{Mal
 use Rattle.netdiscover_file.specs.Cut.{cut_at_last, has_no_words}
 use Rattle.netdiscover_file.specs.Spelling.{full_guid_in, only_if}
 
--- what stands behind the first `#`; nothing where there is none
+-- what stands behind the first `#`; nothing if there is none
 abbrev pub comment_of : List ℕ → List ℕ
 comment_of line = option_map_or (λ parts. parts.1) (cut_at (λ byte. byte == 35) line) []
 

@@ -40,6 +40,6 @@ cut_at_last test (byte ∷ rest) = or_here (test byte) byte rest (cut_at_last te
 abbrev pub is_empty : List ℕ → Bool
 is_empty text = length text == 0
 
--- blanks and tabs alone, but for a comment
+-- blanks and tabs alone, except a comment
 abbrev pub has_no_words : List ℕ → Bool
 has_no_words text = option_map_or (λ words. length words == 0) (words_of text) false

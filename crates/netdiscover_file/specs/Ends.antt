@@ -33,7 +33,7 @@ port_guid_in word = do
   guid ← guid_in parts.inside
   only_if (is_empty parts.before && is_empty parts.behind) guid
 
--- none where nothing stands
+-- none if nothing stands
 abbrev pub port_guid_if_any : List ℕ → Result (Option ℕ) DiscoveryCause
 port_guid_if_any word = if is_empty word then Ok None else (port_guid_in word >>= λ guid. Ok (Some guid))
 

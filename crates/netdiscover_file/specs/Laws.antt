@@ -20,7 +20,7 @@ OneOtherEndWhere So =
 abbrev pub OneOtherEnd : Type 0
 OneOtherEnd = OneOtherEndWhere IsSound
 
--- where no line fails this test, each has one that leads back
+-- if no line fails this test, each has one that leads back
 abbrev pub ReportsMissingEnds : (List Node → List PortLine → PortLine → Bool) → Type 0
 ReportsMissingEnds test =
     (nodes : List Node) (ports : List PortLine) → find (λ line. not (test nodes ports line)) ports ≡ None
@@ -29,7 +29,7 @@ ReportsMissingEnds test =
 abbrev pub MissingEndsAreReported : Type 0
 MissingEndsAreReported = ReportsMissingEnds stands_at_both_ends
 
--- a line passes this test exactly where some line leads back
+-- a line passes this test if and only if some line leads back
 abbrev pub ReportsOnlyMissingEnds : (List Node → List PortLine → PortLine → Bool) → Type 0
 ReportsOnlyMissingEnds test =
     (nodes : List Node) (ports : List PortLine) → AreSound nodes ports → (line : PortLine)
@@ -46,12 +46,12 @@ pub record IsReportedSoFar (so_far : DraftState) : Type 0 where
 abbrev pub LinesSaySo : Type 0
 LinesSaySo = (text : List ℕ) (so_far : DraftState) → reported_by text ≡ Ok so_far → IsReportedSoFar so_far
 
--- with this node all GUIDs stay apart, and where the line before reported those of a switch, it is that switch
+-- with this node all GUIDs stay apart, and if the line before reported those of a switch, it is that switch
 pub record HasOwnGuids (so_far : DraftState) (node : Node) : Type 0 where
   pub apart : AreSound (so_far.nodes ++ node ∷ []) so_far.ports
   pub meant : (guids : SwitchGuids) → so_far.switch_guids ≡ Some guids → (node.id.kind ≡ Switch) × (node.id.guid ≡ guids.node)
 
--- this test reports that a GUID of a node is taken exactly where the node has none of its own
+-- this test reports that a GUID of a node is taken if and only if the node has none of its own
 abbrev pub ReportsTakenGuids : (DraftState → Node → Bool) → Type 0
 ReportsTakenGuids test = (so_far : DraftState) (node : Node) → IsReportedSoFar so_far → (test so_far node ≡ false) ↔ HasOwnGuids so_far node
 

@@ -18,7 +18,7 @@ line_of port lines = option_and_then (λ place. slice_get lines place) (place_of
 abbrev pub is_reported : ℕ → List ℕ → Bool
 is_reported guid reported = list_any (λ other. guid == other) reported
 
--- likewise, where there is one
+-- likewise, if there is one
 abbrev pub is_reported_already : Option ℕ → List ℕ → Bool
 is_reported_already (Some guid) reported = is_reported guid reported
 is_reported_already None reported = false

@@ -46,7 +46,7 @@ pub(crate) fn cut_at_last(wanted: u8, text: &[u8]) -> Option<(&[u8], &[u8])>
     }
 }
 
-/// Whether blanks and tabs alone stand in a text, but for a comment.
+/// Whether a text has blanks and tabs alone, except a comment.
 pub(crate) fn has_no_words(text: &[u8]) -> bool
     ensures { result ≡ has_no_words text.now }
 {

@@ -77,7 +77,7 @@ impl Discovery {
         self.nodes.place_of(guid)
     }
 
-    /// The line of a port, looked up in constant time; none where it has no cable.
+    /// The line of a port, looked up in constant time; none if it has no cable.
     pub fn line_of(&self, port: PortRef) -> Option<&PortLine>
         ensures { option_copied result ≡ line_of port self.now.ports }
     {

@@ -7,17 +7,17 @@ pub fn cables_have_one_other_end()
     ensures { OneOtherEnd }
 {}
 
-/// Where no line is reported to be wrong, each has one that leads back.
+/// If no line is reported to be wrong, each has one that leads back.
 pub fn missing_ends_are_reported()
     ensures { MissingEndsAreReported }
 {}
 
-/// A line is reported to be wrong exactly where no line leads back.
+/// A line is reported to be wrong if and only if no line leads back.
 pub fn only_missing_ends_are_reported()
     ensures { OnlyMissingEndsAreReported }
 {}
 
-/// A GUID of a node is reported to be taken exactly where with the node two would be the same, or where the line before reported
+/// A GUID of a node is reported to be taken if and only if with the node two would be the same, or if the line before reported
 /// those of another switch.
 pub fn taken_guids_are_reported()
     ensures { TakenGuidsAreReported }

@@ -121,7 +121,7 @@ impl GuidList {
         self.guids.contains(&guid)
     }
 
-    /// Whether it is one of these, where there is one.
+    /// Whether it is one of these, if there is one.
     pub(crate) fn is_reported_already(&self, guid: Option<u64>) -> bool
         ensures { result ≡ is_reported_already guid self.now }
     {
@@ -140,7 +140,7 @@ impl GuidList {
         Ok(())
     }
 
-    /// Adds a GUID, where there is one. It can only run out of memory, and then the list stays as it was.
+    /// Adds a GUID, if there is one. It can only run out of memory, and then the list stays as it was.
     pub(crate) fn push(&mut self, guid: Option<u64>) -> Result<(), AllocError>
         requires new { is_reported_already guid self.old ≡ false }
         ensures ok { OnOk result (self.new ≡ self.old ++ option_to_list guid) }

@@ -52,7 +52,7 @@ pub fn replied(smp: Mad, method: u8, status: u8) -> Mad {
     reply
 }
 
-/// An attribute of zero bytes but for these, from that byte on.
+/// An attribute of zero bytes except these, from that byte on.
 pub fn attribute_with(first: u8, bytes: &[u8]) -> [u8; 64] {
     let mut attribute = [0; 64];
     let mut place = first;
@@ -63,7 +63,7 @@ pub fn attribute_with(first: u8, bytes: &[u8]) -> [u8; 64] {
     attribute
 }
 
-/// PortInfo from LocalPortNum on, of a cabled port of an adapter at power-up, but for its state.
+/// PortInfo from LocalPortNum on, of a cabled port of an adapter at power-up, except its state.
 const AT_POWER_UP: [u8; 23] = [
     0x01, // LocalPortNum
     0x03, // LinkWidthEnabled

@@ -97,7 +97,7 @@ fn an_adapter_port_refuses_in_order(rt: HostRuntime) {
 }
 
 /// The state of a port, the modifier of a Set of its PortInfo, the state that it asks for, another byte of it, and the state that
-/// is given then, or 0 where it is refused: for PortState, LMC, NeighborMTU, the LID and the modifier.
+/// is given then, or 0 if it is refused: for PortState, LMC, NeighborMTU, the LID and the modifier.
 const ASKED: [(u8, u32, u8, u8, u8, u8); 19] = [
     (2, 1, 4, 16, 0, 0),
     (2, 1, 1, 16, 0, 0),

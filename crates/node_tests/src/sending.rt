@@ -7,7 +7,7 @@ use data_packet::{QueuePair, Refusal};
 use port_model::AdapterPort;
 use std::process::Abort;
 
-/// The words `7fff 8001` of a key table; all behind them are 0.
+/// The words `7fff 8001` of a P_Key table; all behind them are 0.
 const TWO_KEYS: &[u8] = &[0x7f, 0xff, 0x80, 0x01];
 
 /// The same, with an empty place of the full member's form and second keys of both bases behind them.

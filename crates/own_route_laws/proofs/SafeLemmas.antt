@@ -80,7 +80,7 @@ far_port nodes (cable ∷ cables) at there all is =
         (ends (is_same_port cable.first at) (and_parts (is_port nodes cable.first) _ both.0))
     by false other both later = later both.1 (rw other at is)
 
--- the subnet manager's port has a cable, to a switch
+-- the SM port has a cable, to a switch
 pub some_carries : SomeSwitchCarriesAHost
 some_carries plan dump sound =
     let far = far_of plan.cables plan.sm sound.manager_cabled in
@@ -241,7 +241,7 @@ pub own_routes_are_safe : OwnRoutesAreSafe
 own_routes_are_safe plan keys routes fabric sound up =
     safe_routes_are_reported.reported (over plan (dump_of plan routes.lids fabric)) (are_safe plan sound keys routes fabric up)
 
--- ---- while cables are down the fabric is that of the topology without them, but for masks, which the dump does not show
+-- ---- while cables are down the fabric is that of the topology without them, except masks, which the dump does not show
 same_tables : (plan : TopologyState) (lids : List ℕ) (nodes : List Node)
     → flat_map (tables_for plan.nodes lids) (map (switch_by (λ guid. cleared)) nodes) ≡ flat_map (tables_for plan.nodes lids) nodes
 same_tables plan lids [] = refl

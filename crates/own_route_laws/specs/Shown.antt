@@ -20,7 +20,7 @@ pub record HasRow (net : NetState) (place lid entry : ℕ) : Type 0 where
   pub is : row.port ≡ entry
 
 -- nodes of the fabric stand in the topology's order, and its end ports have these GUIDs, from LID 1 on. Each entry of a switch
--- has a row, but for 255, which may have one or none; and whose a LID is the dump says rightly, where it says it.
+-- has a row, except one of 255, which may have one or none; if the dump says whose a LID is, it says that rightly.
 pub record Shows (net : NetState) (lids : List ℕ) (fabric : FabricState) : Type 0 where
   pub rows : (place lid : ℕ) (held : SwitchState) → slice_get fabric.nodes place ≡ Some (Switch held) → held_entry held lid ≢ 255
       → HasRow net place lid (held_entry held lid)

@@ -40,7 +40,7 @@ AWrongEndDoesNotPass = PassesTheAudit (two_entries 0 1) → ⊥
 abbrev pub ADeadEndDoesNotPass : Type 0
 ADeadEndDoesNotPass = PassesTheAudit (two_entries 1 2) → ⊥
 
--- where each sends it to the other, the channels between them wait for one another
+-- if each sends it to the other, the channels between them wait for one another
 abbrev pub ACycleIsNotFree : Type 0
 ACycleIsNotFree = ((lids : List ℕ) → deadlock (two_entries 2 1) lids ≡ None) → ⊥
 

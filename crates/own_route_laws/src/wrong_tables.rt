@@ -4,37 +4,37 @@
 ghost use Rattle.own_route_laws.specs.WrongTables.{ACycleIsNotFree, ADeadEndDoesNotPass, AHoleDoesNotPass, ALoopDoesNotPass, AWaitingRingDoesNotPass};
 ghost use Rattle.own_route_laws.specs.WrongTables.{AWrongEndDoesNotPass, NoEntriesDoNotPass};
 
-/// Where a switch that carries an adapter has no entry for its LID, it is not reached.
+/// If a switch that carries an adapter has no entry for its LID, it is not reached.
 pub fn a_hole_does_not_pass()
     ensures { AHoleDoesNotPass }
 {}
 
-/// Where no switch has an entry, it is not reached either.
+/// If no switch has an entry, it is not reached either.
 pub fn no_entries_do_not_pass()
     ensures { NoEntriesDoNotPass }
 {}
 
-/// Where two switches send a LID to one another, it goes round.
+/// If two switches send a LID to one another, it goes round.
 pub fn a_loop_does_not_pass()
     ensures { ALoopDoesNotPass }
 {}
 
-/// Where a switch takes what is for an adapter, it comes to a wrong port.
+/// If a switch takes what is for an adapter, it comes to a wrong port.
 pub fn a_wrong_end_does_not_pass()
     ensures { AWrongEndDoesNotPass }
 {}
 
-/// Where an entry is a port without a cable, it goes nowhere.
+/// If an entry is a port without a cable, it goes nowhere.
 pub fn a_dead_end_does_not_pass()
     ensures { ADeadEndDoesNotPass }
 {}
 
-/// Where two switches send a LID to one another, channels wait in a cycle.
+/// If two switches send a LID to one another, channels wait in a cycle.
 pub fn a_cycle_is_not_free()
     ensures { ACycleIsNotFree }
 {}
 
-/// Where three switches send all LIDs on in a ring, all are reached, and channels wait in a cycle.
+/// If three switches send all LIDs on in a ring, all are reached, and channels wait in a cycle.
 pub fn a_waiting_ring_does_not_pass()
     ensures { AWaitingRingDoesNotPass }
 {}

@@ -1,4 +1,4 @@
--- A unicast packet is accepted in its trace exactly where it is delivered.
+-- A unicast packet is accepted in its trace if and only if it is delivered.
 use Rattle.std.proofs.Common.{ℕ, zero, suc, ◌+◌, ◌*◌, ◌≡◌, ◌-◌, ◌==◌, ◌||◌, ◌<◌, ◌⊎◌, ◌∙◌, inl, inr, ap, refl, sym, subst, arith, Bool, true, false, if◌then◌else◌, List, [], ◌∷◌, ◌++◌, length, is_some, slice_get, Option, Some, None}
 use Rattle.std.specs.List.{Contains, list_any, slice_index_or}
 use Rattle.std.specs.Option.{option_and_then, option_map_or}

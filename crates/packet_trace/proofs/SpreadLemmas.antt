@@ -1,4 +1,4 @@
--- The search for all ways of a packet to a multicast LID: what it says at each port, and that it comes to each.
+-- The search for all paths of a packet to a multicast LID: what it says at each port, and that it comes to each.
 use Rattle.std.proofs.Common.{ℕ, zero, suc, ◌+◌, ◌-◌, ◌*◌, ◌≡◌, ◌<◌, ◌≤◌, ◌==◌, ◌&&◌, ◌||◌, ◌∙◌, ◌⊎◌, inl, inr, not, ap, refl, sym, subst, arith, Bool, true, false, if◌then◌else◌, List, [], ◌∷◌, ◌++◌, length, take, slice_get, Option, Some, None}
 use Rattle.std.specs.List.{Contains, IsDistinct, list_any}
 use Rattle.std.specs.Option.{option_map_or, option_to_list}

@@ -14,7 +14,7 @@ use Rattle.delivery_laws.specs.Deliveries.{Goes, IsDelivered, adapter_at}
 use Rattle.port_model.specs.AdapterState.{AdapterState}
 use Rattle.smp_wire.specs.FabricState.{FabricState}
 
--- a packet that leaves by the port `from`, whose cable leads to `first`, is delivered at a port exactly where that accepts it
+-- a packet that leaves by the port `from`, whose cable leads to `first`, is delivered at a port if and only if that accepts it
 -- in the trace
 abbrev pub TracesReportDeliveries : Type 0
 TracesReportDeliveries =
@@ -41,7 +41,7 @@ TracesHaveAnEnd =
     (fabric : FabricState) (packet : Packet) (from first : PortRef)
     → is_multicast packet.dlid ≡ false → far_end fabric.cables from ≡ Some first → HasEnd (steps_of fabric packet first)
 
--- traces reported by this rule have a step at a port exactly where the packet, which comes in first at that port, comes in there,
+-- traces reported by this rule have a step at a port if and only if the packet, which comes in first at that port, comes in there,
 -- some way or other
 abbrev pub ShowAllWays : (FabricState → Packet → PortRef → List Step) → Type 0
 ShowAllWays steps =

@@ -1,4 +1,4 @@
--- The ways of a packet, as lines.
+-- The paths of a packet, as lines.
 use Rattle.std.specs.Prelude.{ℕ, List, [], ◌∷◌, ◌++◌, codes, decimal, flat_map, Result, Ok, Err}
 use Rattle.std.specs.Int.{w16, to_be_bytes}
 use Rattle.std.specs.Option.{option_map_or}
@@ -78,7 +78,7 @@ text_of_sent nodes fabric from (Err refusal) = refuses_line nodes from refusal
 abbrev pub text_from : List Node → FabricState → PortRef → (dlid p_key : ℕ) → AdapterState → List ℕ
 text_from nodes fabric from dlid p_key sender = text_of_sent nodes fabric from (stamped sender dlid p_key DATA_QP [])
 
--- nothing, where no port of a channel adapter is there
+-- nothing, if no port of a channel adapter is there
 abbrev pub trace_text : List Node → FabricState → PortRef → (dlid p_key : ℕ) → List ℕ
 trace_text nodes fabric from dlid p_key =
     option_map_or (text_from nodes fabric from dlid p_key) (adapter_at fabric.nodes from) []

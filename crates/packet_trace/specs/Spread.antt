@@ -1,4 +1,4 @@
--- The ways of one packet to a multicast LID through a fabric, port by port, and why each ends (IBA volume 1, chapter 14): by what
+-- The paths of one packet to a multicast LID through a fabric, port by port, and why each ends (IBA volume 1, chapter 14): by what
 -- the switches and the channel adapters hold, whoever wrote it.
 use Rattle.std.specs.Prelude.{ℕ, zero, suc, ◌+◌, ◌*◌, Bool, false, not, ◌==◌, ◌&&◌, ◌||◌, if◌then◌else◌, List, [], ◌∷◌, ◌++◌, length, slice_get, Option, None, Some}
 use Rattle.std.specs.List.{list_any}
@@ -75,7 +75,7 @@ at_switch cables packet here spread held =
     else (if has_out_below (num_ports held + 1) held here.port packet then outs_below (num_ports held + 1) cables held packet here spread
     else ends_by DropsMask here spread)
 
--- where there is no such port, none takes it
+-- if there is no such port, none takes it
 abbrev pub at_node : List Cable → Packet → PortRef → SpreadState → Node → SpreadState
 at_node cables packet here spread (Switch held) = at_switch cables packet here spread held
 at_node cables packet here spread (Adapter ports) =

@@ -37,7 +37,7 @@ turn_of_fate cables here (Leaves out) = leaves_by cables here out
 abbrev pub turn_by : Packet → AdapterState → Turn
 turn_by packet port = if accepts_packet port packet then Accepts else DropsKey
 
--- where there is no such port, none takes it
+-- if there is no such port, none takes it
 abbrev pub turn_in : List Cable → Packet → PortRef → Node → Turn
 turn_in cables packet here (Switch held) = turn_of_fate cables here (fate held here.port packet)
 turn_in cables packet here (Adapter ports) = option_map_or (turn_by packet) (adapter_port ports here.port) DropsKey
@@ -50,7 +50,7 @@ abbrev pub next_after : List Cable → PortRef → Turn → Option PortRef
 next_after cables here (GoesOut out) = far_end cables (record { node = here.node; port = out })
 next_after cables here _ = None
 
--- after these steps: where it has come in before, it would go on as it went on then
+-- after these steps: if it has come in before, it would go on as it went on then
 abbrev pub turn_after : FabricState → Packet → List Step → PortRef → Turn
 turn_after fabric packet before here = if list_any (λ step. is_same_port step.at here) before then Again else turn_at fabric packet here
 

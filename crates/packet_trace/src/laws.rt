@@ -6,19 +6,19 @@ ghost use Rattle.packet_trace.specs.Laws.{AdaptersAccept, TracesHaveAnEnd, Trace
 ghost use Rattle.packet_trace.specs.Whole.{TraceLinesAreWhole};
 ghost use Rattle.packet_trace.specs.declared.lines.TheConstants.{DATA_QP};
 
-/// A port accepts a packet in its trace exactly where the packet is delivered there. So a trace names the ports to which
+/// A port accepts a packet in its trace if and only if the packet is delivered there. So a trace names the ports to which
 /// the fabric carries a packet, and no others.
 pub fn traces_report_deliveries()
     ensures { TracesReportDeliveries }
 {}
 
-/// Where a trace says that a port accepts the packet, the port is one of a channel adapter.
+/// If a trace says that a port accepts the packet, the port is one of a channel adapter.
 pub fn adapters_accept()
     ensures { AdaptersAccept }
 {}
 
 /// The trace of a unicast packet has an end: its last step says why the packet goes no further. So no trace is cut while the
-/// packet goes on, where the packet goes in a cycle either.
+/// packet goes on, if the packet goes in a cycle either.
 pub fn traces_have_an_end()
     ensures { TracesHaveAnEnd }
 {}

@@ -1,8 +1,8 @@
-//! The way of one packet through a simulated fabric, port by port, and why it ends.
+//! The path of one packet through a simulated fabric, port by port, and why it ends.
 //!
 //! [`steps`] follows a packet by what the switches hold, and says at each port that it comes to what becomes of it there
 //! (`specs/Trace.antt`); [`trace_text`] prints that, from the port that sends it on (`specs/Lines.antt`). A port accepts a
-//! packet in its trace exactly where the packet is delivered there: [`traces_report_deliveries`]. Forwarding by LID and
+//! packet in its trace if and only if the packet is delivered there: [`traces_report_deliveries`]. Forwarding by LID and
 //! the enforcement of partitions are those of the IBA volume 1, chapter 14.
 #![tactic(auto)]
 

@@ -1,4 +1,4 @@
-//! The ways of a packet, as lines.
+//! The paths of a packet, as lines.
 
 ghost use Rattle.std.specs.Prelude.{◌≡◌, ◌++◌, OnOk, IfOk, codes, decimal, flat_map};
 ghost use Rattle.packet_trace.specs.Lines.{entry_text, place_text, port_text, refuses_line, stamps_line, step_line, text_of_sent, trace_text, turn_text, way_text};
@@ -17,9 +17,9 @@ use topo_file::{Topology, name_at};
 /// A queue pair for data: neither 0 nor 1, which are for management.
 const DATA_QP: u32 = 2;
 
-/// The ways of a packet without payload that the port of a channel adapter sends to that LID under that key: a line for what
+/// The paths of a packet without payload that the port of a channel adapter sends to that LID under that key: a line for what
 /// the port makes of it, and one for each port that it comes to, with the reason where it ends; at a switch a packet to a
-/// multicast LID has a line for each port by which it would leave. Nothing where no port of a channel adapter is there.
+/// multicast LID has a line for each port by which it would leave. Nothing if no port of a channel adapter is there.
 /// It can only run out of memory.
 ///
 /// The nodes of the fabric stand as the topology lists them, and are named as it names them.

@@ -1,4 +1,4 @@
-//! A packet to a multicast LID, on every way that the masks of switches open.
+//! A packet to a multicast LID, on every path that MFT entries of switches open.
 
 ghost use Rattle.std.specs.Prelude.{◌≡◌, ◌+◌, [], ◌∷◌, IfOk, OnOk};
 ghost use Rattle.std.specs.Option.{option_map_or};

@@ -3,7 +3,7 @@
 
 ghost use Rattle.packet_trace.specs.WrongRules.{EndsAreNotAll};
 
-/// Where of a packet to one port the last step alone is reported, the port where it comes in first is left out.
+/// If of a packet to one port the last step alone is reported, the port where it comes in first is left out.
 pub fn ends_are_not_all()
     ensures { EndsAreNotAll }
 {}

@@ -1,4 +1,4 @@
--- Nothing is printed exactly where both files say the same.
+-- Nothing is printed if and only if both files say the same.
 use Rattle.std.proofs.Common.{◌≡◌, ◌↔◌, ℕ, ◌+◌, Bool, true, false, not, ◌==◌, ◌&&◌, ◌||◌, if◌then◌else◌, List, [], ◌∷◌, ◌++◌, Option, Some, None, is_some, refl, sym, ap, ◌∙◌, inl, inr, arith}
 use Rattle.std.specs.List.{AllByRecursion, flat_map, list_any, zip}
 use Rattle.std.proofs.lemmas.Bool.{and_from, and_parts, cases_Bool, eq-eqb, false≢true, or_left, or_right}
@@ -53,7 +53,7 @@ equal true false e f = e
 equal false true e f = sym f
 equal false false e f = refl
 
--- nothing of the kind is printed exactly where both say the same of it
+-- nothing of the kind is printed if and only if both say the same of it
 kind : {X : Type 0} (same : X → X → Bool) (was becomes : X → Bool) (changes : List (Change X)) → ReportWhatChanges same was becomes changes → AllByRecursion (IsOwn same) changes
     → changes ≡ [] ↔ ((x : X) → was x ≡ becomes x)
 kind same was becomes changes reported own = (

@@ -1,4 +1,4 @@
--- What a subnet's configuration loses and gains where another partition file takes the place of the first.
+-- What a subnet's configuration loses and gains if another partition file takes the place of the first.
 use Rattle.std.specs.Prelude.{ℕ, Bool, true, false, ◌==◌, ◌&&◌, if◌then◌else◌, List, [], ◌∷◌, ◌++◌, codes, decimal, Option, Some, None, find, nat_lt, is_some, option_map, position, slice_get}
 use Rattle.std.specs.List.{flat_map, range_with_len, zip}
 use Rattle.std.specs.Option.{option_and_then, option_map_or}
@@ -32,7 +32,7 @@ abbrev pub stays : {X : Type 0} → (X → X → Bool) → Option X → Option X
 stays same (Some x) (Some y) = same x y
 stays same before after = false
 
--- what changes of one thing, as it was and as it will be: what goes, then what comes, and nothing where it stays
+-- what changes of one thing, as it was and as it will be: what goes, then what comes, and nothing if it stays
 abbrev pub changes_of : {X : Type 0} → (X → X → Bool) → Option X → Option X → List (Change X)
 changes_of same before after = if stays same before after then [] else going before ++ coming after
 

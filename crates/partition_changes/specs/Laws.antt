@@ -22,7 +22,7 @@ goings same x changes = count_by (λ change. not change.comes && same x change.w
 abbrev pub comings : {X : Type 0} → (X → X → Bool) → X → List (Change X) → ℕ
 comings same x changes = count_by (λ change. change.comes && same x change.what) changes
 
--- one where it is so, else none
+-- one if it is so, else none
 abbrev pub one_if : Bool → ℕ
 one_if so = if so then 1 else 0
 
@@ -80,7 +80,7 @@ SharesAreReported =
     (before after : List SubnetPort) → AreSamePorts before after
     → ReportWhatChanges same_share (has_share before) (has_share after) (share_changes (zip before after))
 
--- ---- where nothing is printed
+-- ---- if nothing is printed
 -- both say the same of each partition, of each group, of each member of one of the partitions and of each share
 pub record SayTheSame (before after : ConfigurationState) : Type 0 where
   pub partitions : (x : ℕ × Heading) → has_partition before.partitions x ≡ has_partition after.partitions x
@@ -89,13 +89,13 @@ pub record SayTheSame (before after : ConfigurationState) : Type 0 where
       → has_member before.ports x ≡ has_member after.ports x
   pub shares : (x : Share) → has_share before.ports x ≡ has_share after.ports x
 
--- the text of changes is empty exactly where they do
+-- the text of changes is empty if and only if they do
 abbrev pub NothingIsReportedOfTheSame : Type 0
 NothingIsReportedOfTheSame =
     (before after : ConfigurationState) → AreSamePorts before.ports after.ports
     → text_of_changes before after ≡ [] ↔ SayTheSame before after
 
--- where no share is printed, whoever was near a port is near it still, and nobody else is
+-- if no share is printed, whoever was near a port is near it still, and nobody else is
 abbrev pub NearStaysWhereNoShareIsReported : Type 0
 NearStaysWhereNoShareIsReported =
     (before after : List SubnetPort) → AreSamePorts before after → share_changes (zip before after) ≡ []

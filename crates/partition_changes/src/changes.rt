@@ -13,7 +13,7 @@ use crate::sums::push_listed;
 use std::alloc::{AllocError, Global};
 use subnet_model::Configuration;
 
-/// What goes and what comes where the second configuration takes the place of the first, over one topology: partitions,
+/// What goes and what comes if the second configuration takes the place of the first, over one topology: partitions,
 /// groups, members and shares, in order. If there are more end ports than a simulated fabric may have, shares are counted
 /// in place of listed. It can only run out of memory.
 pub fn changes_text(

@@ -3,7 +3,7 @@
 
 ghost use Rattle.partition_changes.specs.WrongRules.{TwiceIsNotOnce};
 
-/// Where each change is reported twice, no law of what is reported holds.
+/// If each change is reported twice, no law of what is reported holds.
 pub fn twice_is_not_once()
     ensures { TwiceIsNotOnce }
 {}

@@ -31,7 +31,7 @@ is_bad_character Mgid delimiter = is_colon delimiter
 is_bad_character (ListWord ports) delimiter = is_colon delimiter
 is_bad_character (Membership ports word) delimiter = is_equals delimiter || is_colon delimiter
 
--- a PKey that is no number of 16 bits, a value that is no number where one is wanted, a list word that names no ports; none
+-- a PKey that is no number of 16 bits, a value that is no number if one is wanted, a list word that names no ports; none
 -- before `=`
 abbrev pub is_bad_number : Token → Delimiter → Bool
 is_bad_number (Base base) delimiter = is_none base
@@ -97,7 +97,7 @@ is_bad_flag_value (FlagValue Both) delimiter flags = true
 is_bad_flag_value (FlagValue Refused) delimiter flags = true
 is_bad_flag_value _ delimiter flags = false
 
--- the fault is one of a piece that says this and ends at this delimiter, where the text before says that
+-- the fault is one of a piece that says this and ends at this delimiter, if the text before says that
 unfoldable pub has_fault : ScanState → Delimiter → Token → PartitionCause → Bool
 has_fault s delimiter token BadCharacter = is_bad_character token delimiter
 has_fault s delimiter token BadNumber = is_bad_number token delimiter

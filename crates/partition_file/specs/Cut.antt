@@ -64,7 +64,7 @@ abbrev pub item_of : Option Ports → Bool → List Item
 item_of (Some ports) full = record { ports = ports; full = full } ∷ []
 item_of None full = []
 
--- the item of a part, where items that say nothing of their membership are full by default or are not; a blank part has none
+-- the item of a part, if items that say nothing of their membership are full by default or are not; a blank part has none
 abbrev pub items_of : Bool → List ℕ → List Item
 items_of default part = item_of (ports_named (word_of part))
     (if has_value part then is_full (membership_in (value_behind part)) else default)

@@ -50,7 +50,7 @@ abbrev pub GeneratedBasesAreFree : Type 0
 GeneratedBasesAreFree = (definitions : List Definition) → AreSound definitions
     → AllGetFree (filter_map (λ definition. definition.base) definitions) definitions
 
--- among all its keys a port has of each partition's base the key that it has in that partition, and none of it where it is
+-- among all its keys a port has of each partition's base the key that it has in that partition, and none of it if it is
 -- no member: so its keys report of which partitions it is a member, and how
 abbrev pub KeysReportMembership : Type 0
 KeysReportMembership = (partitions : List Partition) (port : EndPort) → IsSound partitions

@@ -1,4 +1,4 @@
--- What a text says so far, where it is gone through byte by byte.
+-- What a text says so far, if it is gone through byte by byte.
 use Rattle.std.specs.Prelude.{Bool, true, false, List, [], None}
 use Rattle.partition_file.specs.declared.definition.Definition.{Definition}
 use Rattle.partition_file.specs.declared.definition_part.Part.{Part}

@@ -13,7 +13,7 @@ pub enum PartitionCause {
     /// list, or a name that begins with a digit.
     #[error("a character may not stand here")]
     BadCharacter,
-    /// A number that is misspelt or too great, or a list word that names no ports.
+    /// A number that is malformed or too great, or a list word that names no ports.
     #[error("the word is no number of its kind, nor a word of a list")]
     BadNumber,
     /// Base 0, which names no partition, or the name `Default` without a PKey.

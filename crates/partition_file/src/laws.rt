@@ -8,7 +8,7 @@ ghost use Rattle.partition_file.specs.Laws.{CleanThroughout, CommentsByBeginning
 /// Which fault a partition text is refused for, as a law over the definitions that [`read`] meets.
 /// The function does nothing; its clauses are the theorem.
 ///
-/// No byte of a clean beginning of a text has a fault. A text is refused exactly where
+/// No byte of a clean beginning of a text has a fault. A text is refused if and only if
 /// a byte that follows a clean beginning has a fault, or all of it is clean and ends inside a
 /// definition; it is refused for that fault, the first in turn if the byte has several, with the
 /// line of that byte or of the end.
@@ -31,7 +31,7 @@ pub fn texts_are_refused_for_their_first_fault()
 /// is a definition. Cut a definition at its `:`, and both sides at each `,`; before the `:` the first part
 /// is its name, with a PKey behind the `=` if it has one, the others are flags, with values behind theirs;
 /// the parts behind the `:` are the ports that it lists, with their membership behind the `=`. White space
-/// at the ends of a word counts for nothing. The partitions that [`read`] gives are those of these
+/// at the ends of a word is ignored. The partitions that [`read`] returns are those of these
 /// definitions. The function does nothing; its clause is the theorem.
 ///
 /// [`read`]: crate::read
@@ -47,7 +47,7 @@ pub fn generated_bases_are_free()
 {}
 
 /// The law of the keys that [`members`] gives: of each partition's base a port has the key that it has
-/// in that partition, and none where it is no member. The function does nothing; its clause is the
+/// in that partition, and none if it is no member. The function does nothing; its clause is the
 /// theorem.
 ///
 /// [`members`]: crate::members

@@ -110,7 +110,7 @@ fn all_headings(alloc: Global, partitions: &[Partition]) -> Result<Vec<Heading>,
 
 /// The partitions, and the keys that each of these end ports holds.
 ///
-/// A port is a member where some item lists it, and a full one where some item lists it as full. Any
+/// A port is a member if some item lists it, and a full one if some item lists it as full. Any
 /// list of ports is answered, also one without a subnet manager, with several, or with equal GUIDs.
 /// For each port the items of all partitions are gone through, at most twice: time is linear in the
 /// ports times the items.

@@ -194,7 +194,7 @@ impl Scan {
         Ok(())
     }
 
-    /// The definitions, where the text ends after this piece, on this line.
+    /// The definitions, if the text ends after this piece, on this line.
     pub(crate) fn finish(
         self,
         alloc: Global,

@@ -44,9 +44,9 @@ impl MembershipWord {
 pub(crate) enum Value {
     /// One that the flag takes.
     Taken(Setting),
-    /// None, where a number is wanted.
+    /// None, if a number is wanted.
     Empty,
-    /// No number, where one is wanted.
+    /// No number, if one is wanted.
     Misspelt,
     /// The membership `both`.
     Both,
@@ -58,18 +58,18 @@ pub(crate) enum Value {
 #[derive(Clone, Copy)]
 pub(crate) enum Token {
     Name(NameWord),
-    /// The base that a PKey names; none where the piece is no PKey.
+    /// The base that a PKey names; none if the piece is no PKey.
     Base(Option<u16>),
     /// Nothing, where a flag may stand.
     NoFlag,
-    /// A flag; none where there is no such flag.
+    /// A flag; none if there is no such flag.
     FlagWord(Option<Flag>),
     FlagValue(Value),
     /// Nothing, where a word of a list may stand.
     NoPorts,
     /// The list word `mgid`.
     Mgid,
-    /// The ports that a word of a list names; none where it names none.
+    /// The ports that a word of a list names; none if it names none.
     ListWord(Option<Ports>),
     /// The membership of these ports.
     Membership(Ports, MembershipWord),

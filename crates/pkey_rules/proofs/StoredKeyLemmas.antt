@@ -1,4 +1,4 @@
--- What a stored key table accepts and holds is reported by the first word of the base.
+-- What a stored P_Key table accepts and holds is reported by the first word of the base.
 use Rattle.std.proofs.Common.{◌≡◌, ◌≢◌, ℕ, zero, suc, ◌==◌, ◌&&◌, ◌||◌, ◌∙◌, ap, refl, sym, Bool, true, false, not, if◌then◌else◌, List, [], ◌∷◌, ◌++◌}
 use Rattle.std.proofs.Common.{replicate, find, Option, Some, arith}
 use Rattle.std.specs.List.{AllByRecursion, filter, list_any}

@@ -1,4 +1,4 @@
--- What holds of every stored key table.
+-- What holds of every stored P_Key table.
 use Rattle.std.specs.Prelude.{ℕ, ◌≡◌, ◌==◌, true, not, List, ◌++◌, replicate}
 use Rattle.std.specs.List.{IsDistinct, list_all}
 use Rattle.pkey_rules.specs.KeyTable.{same_base}

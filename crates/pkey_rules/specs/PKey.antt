@@ -25,6 +25,6 @@ full_form key = key_of (base_of key) true
 abbrev pub default_base : ℕ
 default_base = 32767
 
--- two keys match where they name one partition and at least one of them is a full member's
+-- two keys match if they name one partition and at least one of them is a full member's
 abbrev pub matches : ℕ → ℕ → Bool
 matches a b = (base_of a == base_of b) && (not (base_of a == 0) && (is_full a || is_full b))

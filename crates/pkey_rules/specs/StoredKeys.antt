@@ -1,4 +1,4 @@
--- What a stored key table means (IBA volume 1, 14.2.5.7): the words that SMPs wrote, of which those of base 0
+-- What a stored P_Key table means (IBA volume 1, 14.2.5.7): the words that SMPs wrote, of which those of base 0
 -- are empty places.
 use Rattle.std.specs.Prelude.{ℕ, ◌==◌, not, if◌then◌else◌, List, [], ◌∷◌}
 use Rattle.std.specs.List.{filter}

@@ -48,7 +48,7 @@ impl<const CAP: usize> Clone for KeyTable<CAP> {
     }
 }
 
-/// Why a key table takes no further key.
+/// Why a P_Key table takes no further key.
 #[derive(Clone, Copy, Debug, PartialEq, Eq, Error)]
 pub enum PushRefusal {
     /// The table holds a key of that base already.
@@ -88,7 +88,7 @@ impl<const CAP: usize> KeyTable<CAP> {
         Ok(())
     }
 
-    /// Adds the key of a partition of which the table has none, where there is room: it looks at no
+    /// Adds the key of a partition of which the table has none, if there is room: it looks at no
     /// key that is there, so a table of keys that are known to differ is made in linear time.
     #[tactic(auto, using(crate::proofs::KeyTableLemmas::distinct_push))]
     pub fn push_distinct(&mut self, key: PKey)

@@ -1,4 +1,4 @@
-//! Partition keys: a base and a bit of membership.
+//! P_Keys: a base and a bit of membership.
 
 ghost use Rattle.std.specs.Prelude.{◌≡◌, ◌≢◌, ◌↔◌, ◌<◌, true, IfOk, IsOk};
 ghost use Rattle.pkey_rules.specs.PKey.{base_of, is_base, is_full, key_of, matches};
@@ -34,7 +34,7 @@ pub fn key_of(base: u16, full: bool) -> u16
     if full { base + FULL_MEMBER } else { base }
 }
 
-/// A valid partition key: 15 bits that name a partition, not all 0, below one bit of membership.
+/// A valid P_Key: 15 bits that name a partition, not all 0, below one bit of membership.
 ///
 /// Source: IBA volume 1, 14.2.5.7 (P_KeyTable).
 #[derive(Clone, Copy, Debug, PartialEq, Eq)]
@@ -61,7 +61,7 @@ impl Model for PKey {
 pub struct InvalidBase;
 
 impl PKey {
-    /// The key that these 16 bits encode; an error where the base is 0.
+    /// The key that these 16 bits encode; an error if the base is 0.
     pub fn new(bits: u16) -> Result<PKey, InvalidBase>
         ensures valid { IsOk result ↔ (base_of bits ≢ 0) }
         ensures value { IfOk result (λ key. key ≡ bits) }
@@ -72,7 +72,7 @@ impl PKey {
         Ok(PKey { bits })
     }
 
-    /// The key that a full or a limited member holds in the partition of this base; an error where
+    /// The key that a full or a limited member holds in the partition of this base; an error if
     /// the base is 0 or has more than 15 bits.
     #[tactic(auto, using(crate::proofs::PKeyLemmas::key_has_base, crate::proofs::PKeyLemmas::key_reports_membership))]
     pub fn of_base(base: u16, full: bool) -> Result<PKey, InvalidBase>

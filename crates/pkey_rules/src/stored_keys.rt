@@ -1,4 +1,4 @@
-//! Key tables as SMPs write them: words, whatever they hold.
+//! P_Key tables as SMPs write them: words, whatever they hold.
 
 ghost use Rattle.std.specs.Prelude.{◌≡◌, ◌==◌, find};
 ghost use Rattle.pkey_rules.specs.KeyTable.{accepts, has_base, holds};
@@ -7,7 +7,7 @@ ghost use Rattle.pkey_rules.specs.StoredKeys.{stored_keys};
 
 use crate::p_key::{PKey, base_of};
 
-/// Whether a port with this stored key table accepts a packet under this key: the key of that base in the
+/// Whether a port with this stored P_Key table accepts a packet under this key: the key of that base in the
 /// table matches it. A word of base 0 is an empty place, and of two keys of one base the first counts.
 ///
 /// Source: IBA volume 1, 14.2.5.7 (P_KeyTable).
@@ -23,7 +23,7 @@ pub fn stored_accepts(words: &[u16], key: PKey) -> bool
     }
 }
 
-/// Whether this very key is in this stored key table.
+/// Whether this very key is in this stored P_Key table.
 ///
 /// Source: IBA volume 1, 14.2.5.7 (P_KeyTable).
 pub fn stored_holds(words: &[u16], key: PKey) -> bool
@@ -36,7 +36,7 @@ pub fn stored_holds(words: &[u16], key: PKey) -> bool
 }
 
 /// The first word of that base, if there is one. Most words are of another: so many at once are looked at for
-/// whether some is of that base, and one after another only where it is.
+/// whether some is of that base, and one after another only if it is.
 fn first_of_base(words: &[u16], base: u16) -> Option<u16>
     ensures { result ≡ find (λ word. base_of word == base) words.now }
 {

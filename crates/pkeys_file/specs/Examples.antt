@@ -38,7 +38,7 @@ pub record LinesAreRead : Type 0 where
   pub capacity : capacity_after eight no_fields (codes "6 pkeys capacity for this port") ≡ Ok (record no_fields { capacity = Some 6 })
   pub other_capacity : capacity_after eight no_fields (codes "9 pkeys capacity for this port") ≡ Err WrongPlace
 
--- ---- whole texts: what is not printed whole is unread
+-- ---- whole inputs: what is not printed whole is unread
 abbrev node_text : List ℕ
 node_text = codes "# smpquery nodeinfo 5\n# Node info: Lid 5\nGuid:....0x10\nPortGuid:....0x11\r\nPartCap:....8\nDevId:....0xd2f0\n"
 
@@ -65,7 +65,7 @@ pub record TextsAreRead : Type 0 where
       ∷ answered 13 (record query { kind = PortInfo; lid = 3 }) replies.Unread
       ∷ answered 14 (record query { kind = PortInfo; lid = 3; port = 2 }) (replies.Port true false) ∷ [])
 
--- ---- and whole texts that are refused
+-- ---- and whole inputs that are refused
 abbrev at : ℕ → KeysCause → AtLine KeysCause
 at line cause = record { line = line; cause = cause }
 

@@ -40,7 +40,7 @@ query_in text = do
   kind ← kind_named parts.0
   query_of kind parts.1
 
--- ---- queries are told apart by their words
+-- ---- queries are distinguished by their words
 abbrev pub code_of_kind : QueryKind → ℕ
 code_of_kind NodeInfo = 0
 code_of_kind SwitchInfo = 1

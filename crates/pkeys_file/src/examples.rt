@@ -13,7 +13,7 @@ pub fn texts_are_read()
     ensures { TextsAreRead }
 {}
 
-/// Whole texts that are refused, with their lines.
+/// Inputs that are refused, with their lines.
 pub fn texts_are_refused()
     ensures { TextsAreRefused }
 {}

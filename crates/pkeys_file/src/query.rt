@@ -49,7 +49,7 @@ impl QueryKind {
     }
 }
 
-/// What tells a query from others.
+/// What distinguishes a query from others.
 #[derive(Clone, Copy, Debug, PartialEq, Eq, Hash)]
 pub(crate) struct QueryKey {
     pub(crate) code: u8,
@@ -142,7 +142,7 @@ impl Query {
     ghost use Rattle.std.specs.Prelude.{◌≡◌};
     ghost use Rattle.pkeys_file.specs.Query.{judged_by, key_of};
 
-    /// The query by which it is told apart from others.
+    /// What distinguishes the query from others.
     pub(crate) fn key(self) -> QueryKey
         ensures { result ≡ key_of self }
     {

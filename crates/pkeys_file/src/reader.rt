@@ -202,7 +202,7 @@ fn trimmed(line: &[u8]) -> &[u8]
 ///
 /// Before what each query printed stands a line `# smpquery QUERY LID [PORT]`, with QUERY `nodeinfo`, `switchinfo`, `pkeys` or
 /// `portinfo`. If no whole answer follows, it is [`Reply::Unread`](crate::Reply::Unread). Lines with nothing on them are passed
-/// over, and so are fields that do not count. Where a line ends in blanks, or in CR LF, these do not count. Time is linear in
+/// over, and so are fields that do not count. If a line ends in blanks, or in CR LF, these do not count. Time is linear in
 /// the length of the text.
 #[tactic(auto, unfolding(crate::specs::Answers::answers_of))]
 pub fn read(alloc: Global, text: &[u8]) -> Result<Answers, KeysFault>

@@ -41,7 +41,7 @@ info_set held next modifier wanted h =
     let b = bind_done (port_info_after false held.info (port_setting wanted)) (λ info. record held { info = info }) next g.1 in
     record { own = g.0; after = b.0; taken = b.1; same = b.2 }
 
--- what a Set of the key table leads to
+-- what a Set of the P_Key table leads to
 record KeysSet (held next : AdapterState) (block : ℕ) (wanted : List ℕ) : Type 0 where
   after : List ℕ
   taken : set_word_block block wanted held.keys ≡ Ok after

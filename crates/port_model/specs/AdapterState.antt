@@ -14,7 +14,7 @@ pub record AdapterState : Type 0 where
   -- NodeDescription's 64 bytes
   pub description : List ℕ
   pub info : PortInfo
-  -- the words of the key table as they were written
+  -- the words of the P_Key table as they were written
   pub keys : List ℕ
 
 abbrev pub at_power_up : (node_guid num_ports number port_guid : ℕ) → List ℕ → PortLink → AdapterState

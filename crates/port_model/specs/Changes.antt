@@ -13,11 +13,11 @@ pub record ChangesAtMost (held next : AdapterState) (smp : List ℕ) : Type 0 wh
   pub number : next.number ≡ held.number
   pub port_guid : next.port_guid ≡ held.port_guid
   pub description : next.description ≡ held.description
-  -- PortInfo only where it asks for PortInfo, and never a field that cannot be set
+  -- PortInfo only if it asks for PortInfo, and never a field that cannot be set
   pub info : attribute_asked smp ≢ Ok PortInfo → next.info ≡ held.info
   pub unsettable : unsettable false next.info ≡ unsettable false held.info
-  -- a port is Down where it was Down
+  -- a port is Down if it was Down
   pub down : is_down next.info ≡ is_down held.info
-  -- the key table only where it asks for a key table, and then in the block that it names
+  -- the P_Key table only if it asks for a P_Key table, and then in the block that it names
   pub keys : attribute_asked smp ≢ Ok PKeyTable → next.keys ≡ held.keys
   pub key_block : DiffersInBlock 32 (modifier_of smp) held.keys next.keys

@@ -1,4 +1,4 @@
--- What a port of a channel adapter sends and takes, by its state, its LID and its key table as SMPs wrote them.
+-- What a port of a channel adapter sends and takes, by its state, its LID and its P_Key table as SMPs wrote them.
 use Rattle.std.specs.Prelude.{ℕ, Bool, not, ◌==◌, if◌then◌else◌, List, Option, Some, None, Result, Ok, Err}
 use Rattle.std.specs.Option.{option_map_or}
 use Rattle.attr_tables.specs.PortState.{port_state_code}

@@ -80,7 +80,7 @@ impl AdapterPort {
         }
     }
 
-    /// Answers an SMP in its place, or gives no reply and leaves it, where it asks no agent of subnet
+    /// Answers an SMP in its place, or gives no reply and leaves it, if it asks no agent of subnet
     /// management.
     #[tactic(auto, unfolding(crate::specs::Agent::agent_reply, crate::specs::Agent::agent_after))]
     pub fn agent(&mut self, smp: &mut Mad) -> bool
@@ -202,7 +202,7 @@ impl AdapterPort {
         self.info.lid
     }
 
-    /// The words of its key table as they were written.
+    /// The words of its P_Key table as they were written.
     pub fn keys(&self) -> &[u16; PARTITIONS]
         ensures { result.now ≡ self.now.keys }
     {

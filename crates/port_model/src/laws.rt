@@ -2,7 +2,7 @@
 
 ghost use Rattle.port_model.specs.Laws.{GoodPortsGiveAttributes, NewPortsAreGood, PortsAnswerForThemselves, SmpsAreReadAlike, SmpsChangeWhatTheyName, SmpsKeepGood, SmpsSettle, UnseenComesBack};
 
-/// An SMP changes at most what it names, and a port is Down afterwards exactly where it was Down. Like
+/// An SMP changes at most what it names, and a port is Down afterwards if and only if it was Down. Like
 /// the laws below it does nothing: its contract is the law.
 pub fn smps_change_what_they_name()
     ensures { SmpsChangeWhatTheyName }

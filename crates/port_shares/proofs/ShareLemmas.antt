@@ -1,4 +1,4 @@
--- What is found by the bases of a port's keys is what key tables share.
+-- What is found by the bases of a port's keys is what P_Key tables share.
 use Rattle.std.proofs.Common.{◌≡◌, ◌≢◌, ℕ, zero, suc, ◌+◌, ◌<◌, ◌≤◌, length, not, Bool, true, false, ◌==◌, ◌&&◌, if◌then◌else◌}
 use Rattle.std.proofs.Common.{List, [], ◌∷◌, ◌++◌, Option, filter, map, refl, sym, ap, append_assoc, append-nil, subst, ◌||◌, ◌∙◌, inl, inr, arith}
 use Rattle.std.specs.List.{flat_map, list_any, range_with_len, slice_index}

@@ -19,7 +19,7 @@ use Rattle.port_shares.specs.Shares.{Share, pair_shares, shared_bases, shares}
 use Rattle.port_shares.specs.Sums.{is_full_member, is_member, sum_line, sum_of, sums_text}
 use Rattle.port_shares.proofs.ShareLemmas.{is_shared_base}
 
--- ---- key tables
+-- ---- P_Key tables
 -- some key of this base is a full member's
 abbrev pub full_in : ℕ → List ℕ → Bool
 full_in base keys = list_any (λ key. (base_of key == base) && is_full key) keys

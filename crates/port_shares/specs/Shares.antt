@@ -25,7 +25,7 @@ abbrev pub shares : List SubnetPort → List Share
 shares [] = []
 shares (p ∷ ports) = flat_map (pair_shares p) ports ++ shares ports
 
--- a share of these two is asked for where no port is, or where one of them has the GUID of the port that is
+-- a share of these two is asked for if no port is, or if one of them has the GUID of the port that is
 abbrev pub is_asked : Option ℕ → SubnetPort → SubnetPort → Bool
 is_asked None p q = true
 is_asked (Some guid) p q = (p.guid == guid) || (q.guid == guid)

@@ -45,7 +45,7 @@ sums_text headings ports = flat_map (λ heading. sum_line (sum_of ports heading.
 abbrev pub are_few : List SubnetPort → Bool
 are_few ports = nat_le (length ports) (SWITCHES + ADAPTER_PORTS)
 
--- where a port is asked for, its pairs are listed
+-- if a port is asked for, its pairs are listed
 abbrev pub listed_shares : Option ℕ → ConfigurationState → List ℕ
 listed_shares (Some guid) configuration = shares_text (Some guid) configuration.ports
 listed_shares None configuration =

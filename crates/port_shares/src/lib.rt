@@ -1,9 +1,9 @@
 //! Who may talk to whom: the lines that `fabric shares` prints.
 //!
 //! [`shares_text`] is the call that a command makes: for each two end ports of a subnet, and for each partition in which their keys
-//! match, a line; or only those that name one port. Two keys match where they name one partition and at least one of
+//! match, a line; or only those that name one port. Two keys match if they name one partition and at least one of
 //! them is a full member's (IBA volume 1, 14.2.5.7). `specs/Shares.antt` says it
-//! over key tables alone, and `specs/Laws.antt` that two ports have a line exactly where they are near each other.
+//! over P_Key tables alone, and `specs/Laws.antt` that two ports have a line if and only if they are near each other.
 #![tactic(auto)]
 
 mod bases;

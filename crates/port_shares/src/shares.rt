@@ -14,7 +14,7 @@ use std::alloc::{AllocError, Global};
 use subnet_model::SubnetPort;
 use text_parts::push_hex;
 
-/// A line for each two of these ports, in their order, and each partition in which their keys match, by rising base; where
+/// A line for each two of these ports, in their order, and each partition in which their keys match, by rising base; if
 /// a GUID is asked for, only those that name its port. It can only run out of memory.
 pub fn shares_text(
     alloc: Global,

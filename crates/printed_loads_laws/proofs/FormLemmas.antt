@@ -62,7 +62,7 @@ use Rattle.printed_loads_laws.specs.Laws.{NoLinkIsLeftOut, TablesAreReadBack, Th
 use Rattle.printed_loads_laws.proofs.AlikeLemmas.{loads_are_of_entries}
 use Rattle.printed_loads_laws.proofs.HeldLemmas.{one_end}
 
--- ---- masks make no difference to linear tables
+-- ---- masks make no difference to LFTs
 rows_alike : (nodes : List PlannedNode) (held : SwitchState) (first : ℕ) (guids : List ℕ)
     → rows_from nodes (cleared held) first guids ≡ rows_from nodes held first guids
 rows_alike nodes held first guids = refl

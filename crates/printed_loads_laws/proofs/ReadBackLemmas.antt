@@ -1,4 +1,4 @@
--- The linear tables of a fabric that is brought up are read back as what its switches hold.
+-- The LFTs of a fabric that is brought up are read back as what its switches hold.
 use Rattle.std.proofs.Common.{ℕ, zero, suc, ◌≡◌, ◌≢◌, ◌+◌, ◌<◌, ◌≤◌, ◌==◌, ◌&&◌, ◌∙◌, nat_le, ap, refl, sym, subst, Bool, true, false, if◌then◌else◌, List, [], ◌∷◌, ◌++◌, drop, find, length, map, slice_get, Option, Some, None, option_map, arith}
 use Rattle.std.specs.List.{AllByRecursion, IsDistinct, enumerate_from}
 use Rattle.std.specs.Option.{option_and_then, option_map_or}

@@ -1,4 +1,4 @@
--- The text of linear tables is read as the tables that it was printed of.
+-- The text of LFTs is read as the tables that it was printed of.
 use Rattle.std.proofs.Common.{ℕ, suc, ◌≡◌, ◌+◌, ◌-◌, ◌^◌, ◌<◌, ◌≤◌, ◌∙◌, nat_le, nat_lt, ap, refl, sym, subst, Bool, true, false, not, if◌then◌else◌, List, [], ◌∷◌, ◌++◌, filter, flat_map, length, slice_get, append-nil, append_assoc, is_some, Option, Some, None, arith}
 use Rattle.std.specs.List.{AllByRecursion}
 use Rattle.std.specs.Option.{option_and_then, option_map_or}

@@ -2,8 +2,8 @@
 
 ghost use Rattle.push_order_laws.specs.Laws.{MasksAreTheFabrics, PushesAreTheFabrics};
 
-/// By two graphs of one good fabric, with the same LIDs and roots, the same is pushed into the ports, the key tables and the linear
-/// forwarding tables of switches and channel adapters, and for the same receivers into multicast forwarding tables, in whatever
+/// By two graphs of one good fabric, with the same LIDs and roots, the same is pushed into the ports, the P_Key tables and the
+/// LFTs of switches and channel adapters, and for the same receivers into MFTs, in whatever
 /// order a sweep found the switches.
 pub fn pushes_are_the_fabrics()
     ensures all { PushesAreTheFabrics }

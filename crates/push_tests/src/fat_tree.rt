@@ -12,7 +12,7 @@ use updn_routes::Routes;
 
 /// How many SMPs a push takes over a fat tree. Ports: two for port 0 of each switch and two for its LinearFDBTop, four for
 /// each end of a cable. Keys: four for each switch, and for each end of a cable to an adapter, of which three ask whether an empty
-/// block is there. Linear tables: one a block. An MLID range
+/// block is there. LFTs: one a block. An MLID range
 /// of multicast tables: one for each position of each switch.
 fn smps_of(push: &Push, leaves: u16) -> u64
     requires { leaves ≤ 32 }

@@ -13,8 +13,8 @@ use table_push::PushFault;
 use updn_routes::Routes;
 
 /// The pushes over the two-switch fabric: how many exchanges each takes, and how many of them are Sets. Ports: Get and Set of two ports 0 and of SwitchInfo twice; of the ten ports that a
-/// cable ends in a Get and a Set to Armed, and when all are Armed a Get and a Set to Active. Key tables: of two ports 0, and of both ends of four
-/// cables, a Set of the first block and a Get of each of the three empty ones. Linear tables: eight blocks each of two
+/// cable ends in a Get and a Set to Armed, and when all are Armed a Get and a Set to Active. P_Key tables: of two ports 0, and of both ends of four
+/// cables, a Set of the first block and a Get of each of the three empty ones. LFTs: eight blocks each of two
 /// switches. An MLID range of multicast tables: a block at each of three positions of two switches.
 const PUSHES: [(Push, u64, u64); 4] = [
     (Push::Multicast, 6, 6),
@@ -57,7 +57,7 @@ const STATE_CHANGE_BIT: u8 = 4;
 /// A place that no SMP has.
 const NOWHERE: usize = 256;
 
-/// Of requests by that method, or a greater one: which byte of the reply is turned, and in which bits. Where there is no such
+/// Of requests by that method, or a greater one: which byte of the reply is turned, and in which bits. If there is no such
 /// byte, no reply comes. And what a push stops with. Of what is set these are the first and the last byte, and one of a
 /// LID or, of SwitchInfo, of LinearFDBTop.
 const SPOILS: [((u8, usize, u8), PushFault); 8] = [
@@ -72,7 +72,7 @@ const SPOILS: [((u8, usize, u8), PushFault); 8] = [
 ];
 
 /// Passes so many exchanges on, of those that it may spoil, spoils the next, and passes on what comes then: so a push that
-/// does not stop there is seen. Where requests are to be numbered, it answers none whose TransactionID is not the number
+/// does not stop there is seen. If requests are to be numbered, it answers none whose TransactionID is not the number
 /// of the exchange. It stands for no fabric.
 #[derive(Drop)]
 struct FaultyWire {
@@ -103,7 +103,7 @@ impl SmpWire for FaultyWire {
     }
 }
 
-/// What a push answers over the two-switch fabric where the exchange behind so many is spoilt.
+/// What a push answers over the two-switch fabric if the exchange behind so many is spoilt.
 fn pushed(
     alloc: Global,
     push: &Push,
@@ -227,7 +227,7 @@ fn end_ports_with_an_lmc_of_another_manager_get_lmc_0(rt: HostRuntime) -> Result
 /// The status of an agent that refuses.
 const REFUSAL: u8 = 0x1c;
 
-/// Of each key table the first block is set, and the three behind it are got, since they are to be empty: one that is refused
+/// Of each P_Key table the first block is set, and the three behind it are got, since they are to be empty: one that is refused
 /// is no block of the port, and empty.
 fn asks_for_an_empty_block(push: &Push, left: u64) -> bool {
     matches!(push, Push::Keys) && left % 4 != 0

@@ -1,4 +1,4 @@
-//! Fabrics with their routes, key tables, and the pushes.
+//! Fabrics with their routes, P_Key tables, and the pushes.
 
 ghost use Rattle.sweep.specs.Joined.{AllJoined};
 

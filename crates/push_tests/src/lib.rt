@@ -1,4 +1,4 @@
-//! Tests of the pushes: ports, key tables, linear and multicast forwarding tables, through public calls alone.
+//! Tests of the pushes: ports, P_Key tables, LFTs and MFTs, through public calls alone.
 //!
 //! They say what no clause says: what an end port is set to, byte for byte, what a push does over wires at fault, and how
 //! many SMPs it takes.

@@ -14,7 +14,7 @@ use Rattle.mad_layout.specs.RmppHeader.{rmpp_in}
 use Rattle.mad_layout.specs.SaMad.{data_in}
 use Rattle.rmpp_core.specs.Segments.{Transfer, segment_count, segments_of, segment_of, payload_size, segment_mad}
 
--- ---- the cut: put together the segments are the bytes; each but the last has 200, and the last has some where there
+-- ---- the cut: put together the segments are the bytes; each but the last has 200, and the last has some if there
 -- are any
 pub record AreTheSegments (bytes : List ℕ) : Type 0 where
   pub joined : flat_map (λ segment. segment) (segments_of bytes) ≡ bytes
@@ -86,7 +86,7 @@ SegmentsHaveTheirNumbers =
 abbrev pub IsLastOf : ℕ → ℕ → Type 0
 IsLastOf long number = (1 ≤ number) × (long ≤ 200 * number) × ((number ≡ 1) ⊎ (200 * number < long + 200))
 
--- a transfer is complete exactly where its last segment was acknowledged
+-- a transfer is complete if and only if its last segment was acknowledged
 pub record CompletesAtLast (long number : ℕ) (acked : Acknowledged) : Type 0 where
   pub then : acked.is_complete ≡ true → IsLastOf long number
   pub only : IsLastOf long number → acked.is_complete ≡ true

@@ -93,7 +93,7 @@ abbrev pub whole_bytes : Result ReassemblyState ReceiveFault → Option (List �
 whole_bytes (Ok so_far) = whole_of so_far
 whole_bytes (Err fault) = None
 
--- a call does what is defined, or an allocation fails where the definition refuses nothing
+-- a call does what is defined, or an allocation fails if the definition refuses nothing
 abbrev pub Grows : Result ReassemblyState ReceiveFault → Result (Unit {0}) ReceiveFault → ReassemblyState → Type 0
 Grows (Err fault) result new = result ≡ Err fault
 Grows (Ok next) (Ok done) new = new ≡ next

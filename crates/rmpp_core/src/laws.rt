@@ -27,7 +27,7 @@ pub fn segments_have_their_numbers()
     ensures { SegmentsHaveTheirNumbers }
 {}
 
-/// A transfer is complete exactly where the segment was acknowledged that has the last of its bytes.
+/// A transfer is complete if and only if the segment was acknowledged that has the last of its bytes.
 pub fn last_acks_complete()
     ensures { LastAcksComplete }
 {}

@@ -84,7 +84,7 @@ impl Receiver {
         taken
     }
 
-    /// The bytes of the table, once its last segment has come and where nothing was refused.
+    /// The bytes of the table, once its last segment has come and if nothing was refused.
     pub fn bytes(&self) -> Option<&[u8]>
         ensures { option_map (λ bytes. bytes.now) result ≡ whole_bytes self.now }
     {

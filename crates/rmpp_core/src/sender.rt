@@ -25,7 +25,7 @@ pub const SEGMENT_PAYLOAD: u32 = SEGMENT_BYTES as u32 + FIELD_BYTES;
 /// The one version of RMPP.
 pub const RMPP_VERSION: u8 = 1;
 
-/// What an ACK brings: the segments `first` to `last` are to be sent, none where `last` is below `first`.
+/// What an ACK brings: the segments `first` to `last` are to be sent, none if `last` is below `first`.
 #[derive(Clone, Copy, Debug, PartialEq, Eq)]
 pub struct Acknowledged {
     /// The first segment to be sent.
@@ -114,7 +114,7 @@ impl Sender {
     }
 
     /// Takes an ACK of this segment, with this window (NewWindowLast). An `Err` changes nothing; the transfer
-    /// has ended by it, as it has where the answer is complete.
+    /// has ended by it, as it has if the answer is complete.
     pub fn on_ack(&mut self, segment: u32, window: u32) -> Result<Acknowledged, AbortCause>
         ensures answer { result ≡ after_ack self.old.window (segment_count self.old.bytes) segment window }
         ensures next { OnOk result (self.new ≡ record self.old { window = max self.old.window window }) }

@@ -32,7 +32,7 @@ pub record FindingsState : Type 0 where
 abbrev pub lids_of : List Aim → List ℕ
 lids_of all = map (λ aim. aim.lid) all
 
--- along all LIDs but the switches' own; and along all LIDs, where those alone make none
+-- along all LIDs but the switches' own; and along all LIDs, if those alone make none
 abbrev pub credit_loop : NetState → List Aim → Option (List PortRef)
 credit_loop net all = deadlock net (lids_of (filter (is_others net) all))
 
@@ -92,7 +92,7 @@ other_part pairs = decimal (count_of fates.Loop pairs) ++ codes " loops, " ++ de
 unfoldable pub count_line : List ℕ → List Pair → List ℕ → List ℕ
 count_line title pairs words = title ++ reached_part pairs ++ lost_part pairs ++ other_part pairs ++ words ++ 10 ∷ []
 
--- of aggregation nodes there is a line where some LID is theirs
+-- of aggregation nodes there is a line if some LID is theirs
 unfoldable pub aggregation_line : List Pair → List ℕ
 aggregation_line pairs = if length pairs == 0 then [] else count_line (codes "aggregation: ") pairs []
 

@@ -35,7 +35,7 @@ pub record TroublesAreReported : Type 0 where
   pub none : troubles_by (with_entries 1 1) (an_aim ∷ []) ≡ []
   pub stray : stray_line (astray 2) 0 21 ≡ codes "stray A 21\n"
   pub closed_stray : stray_line (astray 255) 0 21 ≡ []
-  -- of a router's LID a hole has its line, and where packets leave the switches they know of none
+  -- of a router's LID a hole has its line, and if packets leave the switches they know of none
   pub hole_to_a_router : troubles_by a_routers_hole (aim_of a_routers_hole 2 ∷ []) ≡ codes "hole A 2\n"
   pub loop_to_a_router : troubles_by a_routers_loop (aim_of a_routers_loop 2 ∷ []) ≡ codes "loop 2 A B\n"
   pub last_hop_to_a_router : trouble_line a_routers_hole 1 (aim_of a_routers_hole 2) ≡ []

@@ -127,7 +127,7 @@ pub record AreSafe (net : NetState) : Type 0 where
   pub free : (ring : List PortRef) → are_channels net ring ≡ true → is_cycle (depends net (other_lids net)) ring ≡ false
   -- the dump is of this fabric
   pub same : NameTheSame net
-  -- and where a switch sends one of these LIDs to another, the entry there is known
+  -- and if a switch sends one of these LIDs to another, the entry there is known
   pub known : (place lid next : ℕ) → is_switch_at net.plan.nodes place ≡ true → list_any (λ n. n == lid) (other_lids net) ≡ true
       → GoesTo net lid place next → IsUnknownAt net lid next → ⊥
 

@@ -1,4 +1,4 @@
--- The lines of an audit, but for its last ones.
+-- The lines of an audit, except its last ones.
 use Rattle.std.specs.Prelude.{ℕ, ◌*◌, ◌==◌, ◌&&◌, nat_le, Bool, true, false, not, List, [], ◌∷◌, ◌++◌, codes, decimal, map, flat_map, if◌then◌else◌, is_none, Option, Some, None}
 use Rattle.std.specs.List.{list_all, list_any, range_with_len}
 use Rattle.std.specs.Option.{option_map_or}

@@ -209,7 +209,7 @@ is_hole _ = false
 abbrev pub silent_where : (Turn → Bool) → NetState → ℕ → Aim → List ℕ
 silent_where test net place aim = if test (turn net aim.lid place) then [] else trouble_line net place aim
 
--- the same fabric, where each switch sends the LID to the other one
+-- the same fabric, if each switch sends the LID to the other one
 abbrev pub a_loop : NetState
 a_loop = two_with (adapters_row 2 ∷ []) (adapters_row 1 ∷ [])
 

@@ -23,7 +23,7 @@ pub fn loops_are_closed_by_their_lids()
 
 /// The verdict is safe if and only if each cabled port of an adapter has a LID; from each switch to which an adapter is attached
 /// a path along the entries leads to the adapter port of each LID; there is no credit loop along all LIDs except the switches'
-/// own; the dump has a table, and it and the fabric name the same switches and adapter ports; and where a switch sends such a LID
+/// own; the dump has a table, and it and the fabric name the same switches and adapter ports; and if a switch sends such a LID
 /// to another switch, the entry there is known.
 pub fn safe_routes_are_reported()
     ensures { SafeRoutesAreReported }

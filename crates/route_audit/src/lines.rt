@@ -1,4 +1,4 @@
-//! The lines of an audit, but for its last ones.
+//! The lines of an audit, except its last ones.
 
 ghost use Rattle.std.specs.Prelude.{◌≡◌, ◌≤◌, ◌*◌, ◌++◌, true, false, Some, OnOk, flat_map};
 ghost use Rattle.std.specs.List.{list_any, range_with_len};

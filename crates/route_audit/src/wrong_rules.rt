@@ -7,7 +7,7 @@ ghost use Rattle.route_audit.specs.WrongRules.{NobodysLoopsHaveALine, OtherLidsD
 ghost use Rattle.route_audit.specs.WrongRules.{RowsLeftOutHaveALine};
 ghost use Rattle.route_audit.specs.WrongRules.{TransitDecidesNothing, UnknownEntriesDecide, WaysAreAsked};
 
-/// Where pairs that come to a hole are not counted, the parts of a line are not all.
+/// If pairs that come to a hole are not counted, the parts of a line are not all.
 pub fn holes_are_counted()
     ensures { HolesAreCounted }
 {}
@@ -62,12 +62,12 @@ pub fn unknown_entries_decide()
     ensures { UnknownEntriesDecide }
 {}
 
-/// Where what goes on has no line, packets go round and none reports it.
+/// If what goes on has no line, packets go round and none reports it.
 pub fn loops_have_a_line()
     ensures { LoopsHaveALine }
 {}
 
-/// Where a hole has no line, packets end there and none reports it.
+/// If a hole has no line, packets end there and none reports it.
 pub fn holes_have_a_line()
     ensures { HolesHaveALine }
 {}
@@ -87,12 +87,12 @@ pub fn nobodys_loops_have_a_line()
     ensures { NobodysLoopsHaveALine }
 {}
 
-/// Where pairs that are not reached are no reason, a verdict that is not safe has none.
+/// If pairs that are not reached are no reason, a verdict that is not safe has none.
 pub fn lost_pairs_are_a_reason()
     ensures { LostPairsAreAReason }
 {}
 
-/// Where one reason stands for all, routes without a credit loop have one.
+/// If one reason stands for all, routes without a credit loop have one.
 pub fn reasons_hold()
     ensures { ReasonsHold }
 {}

@@ -218,7 +218,7 @@ none_is_reached_and_refused one other roots ranks a b alike refused theirs all =
     rw (alike.there_and_back first.s low.0, alike.there_and_back first.d low.1) at home in
     false≢true (sym (first.gone own.0) ∙ own.1)
 
--- a pair of the other that comes before the first of the one has a legal path
+-- a pair of the other that comes before the first of the one has an up/down path
 not_earlier : (one other : Layout) (roots ranks other_ranks : List ℕ) (a b c d : ℕ) → (alike : AreAlike one other)
     → AreRanks one.rows one.guids roots ranks → AreRanks other.rows other.guids roots other_ranks
     → IsFirstUnreached one.rows (precedes ranks one.guids) one.homes a b

@@ -38,7 +38,7 @@ TreesAreAlike =
     → s < length one.rows
     → tree_link other.rows other_depths (alike.place s) ≡ option_map (placed_link alike.place) (tree_link one.rows depths s)
 
--- where a legal path leads from switch to switch in the one, one leads between their places in the other
+-- if an up/down path leads from switch to switch in the one, one leads between their places in the other
 abbrev pub LegalPathsAreAlike : Type 0
 LegalPathsAreAlike =
     (one other : Layout) (roots ranks other_ranks : List ℕ) (s d : ℕ) → (alike : AreAlike one other)
@@ -46,13 +46,13 @@ LegalPathsAreAlike =
     → s < length one.rows → LegalPath one.rows (precedes ranks one.guids) s d
     → LegalPath other.rows (precedes other_ranks other.guids) (alike.place s) (alike.place d)
 
--- where a pair of the one has no legal path, not every pair of the other has one
+-- if a pair of the one has no up/down path, not every pair of the other has one
 abbrev pub NoneIsReachedAndRefused : Type 0
 NoneIsReachedAndRefused =
     (one other : Layout) (roots ranks : List ℕ) (a b : ℕ) → AreAlike one other → IsRefused one.rows one.guids roots one.homes a b
     → AreRanks other.rows other.guids roots ranks → ¬ (AllReached other.rows (precedes ranks other.guids) other.homes)
 
--- the first pair with no legal path is one pair of LIDs
+-- the first pair with no up/down path is one pair of LIDs
 abbrev pub OnePairIsRefused : Type 0
 OnePairIsRefused =
     (one other : Layout) (roots : List ℕ) (a b c d : ℕ) → AreAlike one other → IsRefused one.rows one.guids roots one.homes a b

@@ -5,7 +5,7 @@ use Rattle.updn_routes.specs.Order.{AreRanks}
 use Rattle.updn_routes.specs.Routes.{AreRoutes, next_hop}
 use Rattle.updn_routes.specs.Subnet.{AreOfGraph, RoutesState, guids_of, place_of, rows_of}
 
--- no port where no switch has that GUID
+-- no port if no switch has that GUID
 abbrev pub hop_by : RoutesState → ℕ → ℕ → Option ℕ
 hop_by routes guid lid = option_and_then (λ place. next_hop routes.between place lid) (place_of routes.graph.switches guid)
 

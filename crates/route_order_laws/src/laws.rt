@@ -13,17 +13,17 @@ pub fn trees_are_alike()
     ensures links { TreesAreAlike }
 {}
 
-/// Nor does between which of them legal paths lead.
+/// Nor does between which of them up/down paths lead.
 pub fn legal_paths_are_alike()
     ensures { LegalPathsAreAlike }
 {}
 
-/// It is never so that each pair has a legal path in the one order, and some pair none in another.
+/// It is never so that each pair has an up/down path in the one order, and some pair none in another.
 pub fn none_is_reached_and_refused()
     ensures { NoneIsReachedAndRefused }
 {}
 
-/// The first pair without a legal path, by its LIDs, is the same in every order.
+/// The first pair without an up/down path, by its LIDs, is the same in every order.
 pub fn one_pair_is_refused()
     ensures { OnePairIsRefused }
 {}

@@ -1,7 +1,7 @@
 //! Routes do not depend on the order in which a sweep found the switches.
 //!
 //! `specs/Alike.antt` says when two cablings differ in the order of their switches alone. Then switches have the same ranks
-//! in both, legal paths (up, and then down) lead between the same switches, a switch chooses the same port towards another,
+//! in both, up/down paths (up, and then down) lead between the same switches, a switch chooses the same port towards another,
 //! and the first pair that none joins is the same by its LIDs. Two layouts of one fabric are so, and then each switch, by
 //! its GUID, has the same next hops. Sweeps and routes are those of the IBA volume 1, chapter 14.
 #![tactic(auto)]

@@ -94,7 +94,7 @@ pub reported_of : (configuration : ConfigurationState) (own : SubnetPort) (state
 reported_of configuration own state request found configured listed remembered brings =
     can_be_reported state (outcome configuration.ports own state request) found brings (outcome_low configuration own state request configured listed remembered)
 
--- ---- who asks, and whether it is a MAD
+-- ---- the requester, and whether it is a MAD
 pub record IsSomebody (ports : List SubnetPort) (guid : ℕ) : Type 0 where
   pub own : SubnetPort
   pub found : port_with_guid ports guid ≡ Some own

@@ -19,7 +19,7 @@ use Rattle.sa_answer.specs.Replying.{reply_with}
 use Rattle.sa_answer.specs.declared.change.Change.{Change}
 use Rattle.sa_answer.specs.declared.reaction.Reaction.{Reaction}
 
--- ---- who asks is the port that is found
+-- ---- the requester is the port that is found
 pub asked_by : (questions : SubnetPort → List Question) (given : Option MadStatus) (port own : SubnetPort) (found : Option SubnetPort) → Some port ≡ found
     → found ≡ Some own → given ≡ first_refusal (questions port) → given ≡ first_refusal (questions own)
 asked_by questions given port own found is found_is reported =

@@ -25,7 +25,7 @@ Brings state (Ok brought) (Ok found) = IsBrought state brought found
 Brings state (Err status) (Err reported) = reported ≡ status
 Brings state _ _ = ⊥
 
--- a Set or a Delete brings this data for its reply, with the numbers of the partitions whose receivers are others then, and what is
+-- a Set or a Delete brings this data for its reply, with the numbers of the partitions whose receivers changed, and what is
 -- remembered then is as it says; or it is refused, and changes nothing
 abbrev pub BringsChange : RegistryState → Result Brought MadStatus → Result Change MadStatus → RegistryState → Type 0
 BringsChange old (Ok (Brought.one_reply bytes next)) (Ok change) new =
@@ -52,7 +52,7 @@ pub record Answers (answered : Answered) (mads : List (List ℕ)) (old new : Reg
   pub mads_are : mads ≡ answered.0
   pub next : new ≡ record old { administration = answered.1 }
 
--- so are these replies, and the numbers are those of the partitions whose receivers are others then
+-- so are these replies, and the numbers are those of the partitions whose receivers changed
 pub record Reacts (answered : Answered) (reaction : Reaction) (old new : RegistryState) : Type 0 where
   pub answers : Answers answered reaction.replies.items old new
   pub changed : reaction.changed.items ≡ changed_between old new

@@ -14,7 +14,7 @@ HasTaken shown (One before) (One after) = option_to_list after ≡ option_to_lis
 HasTaken shown (All before) (All after) = after.items ≡ before.items ++ flat_map (λ bytes. bytes) shown
 HasTaken shown _ _ = ⊥
 
--- a walk over them may stop: at a second one where one alone is taken, or as an allocation failed where all are
+-- a walk over them may stop: at a second one if one alone is taken, or as an allocation failed if all are
 abbrev pub Stops : List (List ℕ) → Taken → Type 0
 Stops shown (One before) = 2 ≤ length (option_to_list before) + length shown
 Stops shown (All before) = Unit {0}

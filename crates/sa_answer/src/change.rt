@@ -6,8 +6,8 @@ use arrayvec::ArrayVec;
 use mad_layout::{MadStatus, SA_DATA_BYTES};
 use pkey_rules::PARTITIONS;
 
-/// What comes of a Set or a Delete that is not refused: the data of its reply, and the numbers of the partitions whose receivers
-/// are others then.
+/// What comes of a Set or a Delete that is not refused: the data of its reply, and the numbers of the partitions whose
+/// receivers changed.
 #[derive(Drop)]
 pub(crate) struct Change {
     pub(crate) data: [u8; SA_DATA_BYTES],

@@ -3,7 +3,7 @@
 //! A [`Registry`] has the database of a subnet's SA (`sa_store`), whose value is its own. It answers each MAD as `sa_replies`
 //! defines (`specs/Answering.antt`): Get and GetTable of NodeRecord, PathRecord, MCMemberRecord and ServiceRecord, Set and Delete
 //! of MCMemberRecord, which are joins and leaves, and of ServiceRecord, the MADs of RMPP transfers, and what is refused whatever it
-//! asks for; IBA volume 1, 13.4.5, 15.2.1.1, 15.2.2 and 15.2.5. Each answer names the partitions whose receivers are others then.
+//! asks for; IBA volume 1, 13.4.5, 15.2.1.1, 15.2.2 and 15.2.5. Each answer names the partitions whose receivers changed.
 #![tactic(auto)]
 
 mod answering;

@@ -57,7 +57,7 @@ fn takes_rate(mask: u64, asked: &McMemberRecord, rate: u8) -> bool
     !asks(mask, SELECTED_RATE) || rate_satisfies(asked.rate_selector, rate, asked.rate)
 }
 
-/// The life time that we have, where it satisfies what is asked.
+/// The PacketLifeTime that we have, if it satisfies what is asked.
 pub(crate) fn life_taken(mask: u64, asked: &McMemberRecord) -> Option<u8>
     ensures { result ≡ life_taken mask asked.now }
 {

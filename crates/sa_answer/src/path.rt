@@ -123,7 +123,7 @@ fn wants_no_path(mask: u64, asked: &PathRecord) -> bool
     asks(mask, NUMB_PATH) && asked.numb_path == 0
 }
 
-/// How many paths to one port are wanted at most, where the request says so.
+/// How many paths to one port are wanted at most, if the request says so.
 fn paths_wanted(mask: u64, asked: &PathRecord) -> Option<u8>
     ensures { result ≡ paths_wanted (Query.for_paths mask asked.now) }
 {

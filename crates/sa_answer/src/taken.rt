@@ -27,7 +27,7 @@ pub(crate) enum Taken {
     All(Vec<u8>),
 }
 
-/// A walk stopped: at a second record where one alone is taken, or as an allocation failed where all are.
+/// A walk stopped: at a second record if one alone is taken, or as an allocation failed if all are.
 #[derive(Clone, Copy)]
 pub(crate) struct Stopped;
 

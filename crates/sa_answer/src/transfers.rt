@@ -12,7 +12,7 @@ use std::alloc::{AllocError, Global};
 /// MADs that answer, and the table that is open then.
 pub(crate) type Sent = (Vec<Mad>, Option<Sender>);
 
-/// Answers a MAD of a transfer, where this table is open to the port that sends it, or none.
+/// Answers a MAD of a transfer, if one is in progress to the port that sends it, or none is.
 pub(crate) fn on_rmpp(
     alloc: Global,
     table: Option<Sender>,

@@ -19,7 +19,7 @@ use Rattle.topo_file.specs.Topology.{TopologyState}
 use Rattle.updn_routes.specs.Subnet.{RoutesState}
 use Rattle.sa_fabric.specs.Served.{IsServed}
 
--- a fabric that is served is the fabric of the list of its ports, where those receive what is sent to groups that are in them
+-- a fabric that is served is the fabric of the list of its ports, if those receive what is sent to groups that are in them
 abbrev pub AServedFabricIsAsListed : Type 0
 AServedFabricIsAsListed =
     (plan : TopologyState) (partitions : List Partition) (state : Administration) (routes : RoutesState) (fabric : FabricState)

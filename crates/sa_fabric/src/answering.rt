@@ -38,7 +38,7 @@ impl From<AllocError> for AnswerFault {
     }
 }
 
-/// What subnet administration answers where the port of a GUID sends it these bytes; in the fabric the masks of all who
+/// What subnet administration answers if the port of a GUID sends it these bytes; in the fabric the masks of all who
 /// receive then stand. Of these only what changes is pushed.
 ///
 /// It can only run out of memory. Then the fabric may have other masks, and the SA is broken for good.

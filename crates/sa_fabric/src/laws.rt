@@ -2,7 +2,7 @@
 
 ghost use Rattle.sa_fabric.specs.Laws.{AServedFabricHasNoIdleBits, AServedFabricIsAsListed, OneFabricIsServed, StartsAreServed};
 
-/// A fabric that is served is the fabric of the list of its ports, where those receive what is sent to groups that are in
+/// A fabric that is served is the fabric of the list of its ports, if those receive what is sent to groups that are in
 /// them. So what it delivers, to a port or to a group, is what the list and the groups report.
 pub fn a_served_fabric_is_as_listed()
     ensures { AServedFabricIsAsListed }

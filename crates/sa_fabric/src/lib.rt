@@ -1,7 +1,7 @@
 //! A fabric under subnet administration: what its ports ask is answered, and its masks follow who receives.
 //!
-//! [`answer`] has an [`Administrator`], which has a [`sa_answer::Registry`], handle what a port sends, and where the receivers
-//! of some partitions are others then, pushes what changes of the MLID ranges of these (IBA volume 1, chapters 14 and 15). Where a
+//! [`answer`] has an [`Administrator`], which has a [`sa_answer::Registry`], handle what a port sends, and if the receivers
+//! of some partitions changed, pushes what changes of the MLID ranges of these (IBA volume 1, chapters 14 and 15). If a
 //! cable is cut or mended, [`recable`] sets the fabric up again, and pushes the MLID ranges in which somebody receives by its new
 //! routes. At all times the fabric is up with the cables that are in place, with the masks of exactly those who receive
 //! (`specs/Served.antt`). So it is the fabric of the list of its ports and of the groups that are remembered

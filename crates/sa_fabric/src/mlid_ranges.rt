@@ -114,7 +114,7 @@ fn keep(received: &mut Vec<Received>, number: u16, receivers: Vec<GroupReceiver>
 }
 
 /// Pushes the MLID range of each partition in which somebody receives, over the fabric of the routes' graph, whose masks may be those
-/// of other routes. It has all masks of who receives then: where nobody does there was no bit, and nothing is pushed. It
+/// of other routes. It has all masks of who receives then: if nobody does there was no bit, and nothing is pushed. It
 /// can only run out of memory.
 pub(crate) fn push_received(
     fabric: &mut Fabric,

@@ -1,4 +1,4 @@
--- Whom a packet reaches, where its destination may be a multicast group.
+-- Whom a packet reaches, if its destination may be a multicast group.
 use Rattle.std.specs.Prelude.{ℕ, Bool, ◌==◌, ◌&&◌, List}
 use Rattle.std.specs.List.{list_any}
 use Rattle.subnet_model.specs.declared.subnet_port.SubnetPort.{SubnetPort}
@@ -20,6 +20,6 @@ receives_in mlid guid partition =
 abbrev pub is_receiver_of : List PartitionGroups → ℕ → ℕ → Bool
 is_receiver_of partitions mlid guid = list_any (receives_in mlid guid) partitions
 
--- whom a packet reaches, where ports have joined these groups
+-- whom a packet reaches, if ports have joined these groups
 abbrev pub reaches_by_groups : List PartitionGroups → SendCommand → SubnetPort → Bool
 reaches_by_groups partitions command port = reaches_joined (is_receiver_of partitions command.dlid) command port

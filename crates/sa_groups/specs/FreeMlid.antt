@@ -16,12 +16,12 @@ pub record IsLeastFree (partitions : List PartitionGroups) (partition : Partitio
   pub free : list_any (has_mlid mlid) partitions ≡ false
   pub least : (lower : ℕ) → is_in_range partition.number lower ≡ true → lower < mlid → has_mlid lower partition ≡ true
 
--- or there is none, where groups of the partition have them all
+-- or there is none, if groups of the partition have them all
 abbrev pub IsFreeMlid : List PartitionGroups → PartitionGroups → Option ℕ → Type 0
 IsFreeMlid partitions partition (Some mlid) = IsLeastFree partitions partition mlid
 IsFreeMlid partitions partition None = (mlid : ℕ) → is_in_range partition.number mlid ≡ true → has_mlid mlid partition ≡ true
 
--- so it is of each partition, where no other has its number
+-- so it is of each partition, if no other has its number
 abbrev pub other_number : PartitionGroups → PartitionGroups → Bool
 other_number partition other = not (partition.number == other.number)
 

@@ -7,7 +7,7 @@ use Rattle.sa_groups.specs.Members.{is_member, is_full_member}
 use Rattle.sa_groups.specs.Groups.{Creator, GroupParameters, Membership, MulticastGroup, PartitionGroups, lower_port}
 use Rattle.sa_groups.specs.Anchor.{free_mlid}
 
--- a port joins the group of an MGID in the partition of a base; where there is none, it is made with these parameters
+-- a port joins the group of an MGID in the partition of a base; if there is none, it is made with these parameters
 pub record Join : Type 0 where
   pub port : ℕ
   pub base : ℕ
@@ -44,7 +44,7 @@ abbrev pub in_place : Membership → List Membership → List Membership
 in_place new memberships =
     filter (λ membership. lower_port membership new) memberships ++ new ∷ filter (λ membership. lower_port new membership) memberships
 
--- it gets the bits besides its own; where there is none, it is added
+-- it gets the bits besides its own; if there is none, it is added
 abbrev pub with_member : Join → List Membership → List Membership
 with_member join memberships =
     if list_any (is_of join.port) memberships
@@ -71,7 +71,7 @@ with_group new [] = new ∷ []
 with_group new (group ∷ groups) =
     if nat_lt new.mlid group.mlid then new ∷ group ∷ groups else group ∷ with_group new groups
 
--- no group is made where no MLID is free
+-- no group is made if no MLID is free
 abbrev pub with_created : Join → Option ℕ → List MulticastGroup → List MulticastGroup
 with_created join None groups = groups
 with_created join (Some mlid) groups = with_group (new_group join mlid) groups

@@ -48,7 +48,7 @@ FarJoinsAreNotSeen =
     (ports : List SubnetPort) (p : ℕ) (join : Join) (s t : List PartitionGroups) → is_near ports p join.port ≡ false
     → Alike ports p s t → Alike ports p (joined ports join s) t
 
--- one of a port near p leaves what p sees the same where it was the same
+-- one of a port near p leaves what p sees the same if it was the same
 abbrev pub NearJoinsAreSeenAlike : Type 0
 NearJoinsAreSeenAlike =
     (ports : List SubnetPort) (p : ℕ) (join : Join) (s t : List PartitionGroups) → is_near ports p join.port ≡ true
@@ -60,7 +60,7 @@ FarLeavesAreNotSeen =
     (ports : List SubnetPort) (p : ℕ) (leave : Leave) (s t : List PartitionGroups) → is_near ports p leave.port ≡ false
     → Alike ports p s t → Alike ports p (left ports leave s) t
 
--- one of any port leaves what p sees the same where it was the same
+-- one of any port leaves what p sees the same if it was the same
 abbrev pub LeavesAreSeenAlike : Type 0
 LeavesAreSeenAlike =
     (ports : List SubnetPort) (p : ℕ) (leave : Leave) (s t : List PartitionGroups) → Alike ports p s t

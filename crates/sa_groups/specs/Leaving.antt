@@ -6,7 +6,7 @@ use Rattle.sa_groups.specs.Groups.{Membership, MulticastGroup, PartitionGroups}
 use Rattle.sa_groups.specs.Anchor.{is_kept}
 use Rattle.sa_groups.specs.Joining.{has_mgid, is_of}
 
--- a port leaves the group of an MGID in the partition of a base, or in each partition where no base is asked
+-- a port leaves the group of an MGID in the partition of a base, or in each partition if no base is asked
 pub record Leave : Type 0 where
   pub port : ℕ
   pub base : Option ℕ

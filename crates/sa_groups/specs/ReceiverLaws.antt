@@ -13,7 +13,7 @@ use Rattle.sa_groups.specs.Receivers.{changed_numbers, is_among, receivers_in, r
 use Rattle.sa_groups.specs.Sound.{is_in_range, is_sound_partition, pairwise}
 
 -- ---- they are the ports that packets to the groups reach: of a channel adapter's port the LID stands in the list under an
--- MLID exactly where it is a receiver of that MLID
+-- MLID if and only if it is a receiver of that MLID
 -- (a rule lists the receivers of a partition)
 abbrev pub ReceiverRule : Type 0
 ReceiverRule = List SubnetPort → PartitionGroups → List GroupReceiver
@@ -48,7 +48,7 @@ ReceiversStandInOrder =
     → AreReceivers ports partition
 
 -- ---- where they change
--- where nothing changes, no number is reported
+-- if nothing changes, no number is reported
 abbrev pub NothingChangesAlone : Type 0
 NothingChangesAlone = (ports : List SubnetPort) (partitions : List PartitionGroups) → changed_numbers ports partitions partitions ≡ []
 

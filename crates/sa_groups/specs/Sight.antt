@@ -19,7 +19,7 @@ abbrev pub seen : List SubnetPort → ℕ → List PartitionGroups → List Part
 seen ports p partitions =
     map (partition_seen ports p) (filter (λ partition. is_member ports partition.base p) partitions)
 
--- two states are alike to p where it sees the same in both
+-- two states are alike to p if it sees the same in both
 pub record Alike (ports : List SubnetPort) (p : ℕ) (s t : List PartitionGroups) : Type 0 where
   pub left_sound : is_sound ports s ≡ true
   pub right_sound : is_sound ports t ≡ true

@@ -20,7 +20,7 @@ JoinRule = List SubnetPort → Join → List PartitionGroups → List PartitionG
 abbrev pub LeaveRule : Type 0
 LeaveRule = List SubnetPort → Leave → List PartitionGroups → List PartitionGroups
 
--- where p sees the same before a join of a port near it, it sees the same after
+-- if p sees the same before a join of a port near it, it sees the same after
 abbrev pub JoinsAreSeenAlikeBy : JoinRule → Type 0
 JoinsAreSeenAlikeBy rule =
     (ports : List SubnetPort) (p : ℕ) (join : Join) (s t : List PartitionGroups) → is_near ports p join.port ≡ true
@@ -82,7 +82,7 @@ group_members ports group = map (λ port. record { mlid = group.mlid; lid = port
 abbrev pub members_in : List SubnetPort → PartitionGroups → List GroupReceiver
 members_in ports partition = flat_map (group_members ports) partition.groups
 
--- ---- a partition that is reported only where a receiver goes
+-- ---- a partition that is reported only if a receiver goes
 abbrev pub numbers_of_goers : List SubnetPort → List PartitionGroups → List PartitionGroups → List ℕ
 numbers_of_goers ports before after =
     filter (λ number. not (list_all (is_among (receivers_of ports number after)) (receivers_of ports number before)))

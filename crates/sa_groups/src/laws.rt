@@ -65,7 +65,7 @@ pub fn packets_reach_alike()
     ensures { PacketsReachAlike }
 {}
 
-/// A new group gets the least MLID of its partition that no group of any partition has; none, where groups of the
+/// A new group gets the least MLID of its partition that no group of any partition has; none, if groups of the
 /// partition have them all.
 pub fn the_least_free_is_given()
     ensures { TheLeastFreeIsGiven }
@@ -82,12 +82,12 @@ pub fn receivers_stand_in_order()
     ensures { ReceiversStandInOrder }
 {}
 
-/// Where no group changes, the receivers of no partition do.
+/// If no group changes, the receivers of no partition do.
 pub fn nothing_changes_alone()
     ensures { NothingChangesAlone }
 {}
 
-/// Where a receiver of a partition comes or goes, the partition's number is reported.
+/// If a receiver of a partition comes or goes, the partition's number is reported.
 pub fn changes_are_reported()
     ensures { ChangesAreReported }
 {}

@@ -24,7 +24,7 @@ pub fn senders_are_reached()
     ensures { SendersAreReached }
 {}
 
-/// With a partition listed only where a receiver goes, one to which a receiver comes is left out.
+/// With a partition listed only if a receiver goes, one to which a receiver comes is left out.
 pub fn comers_are_reported()
     ensures { ComersAreReported }
 {}

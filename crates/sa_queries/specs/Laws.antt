@@ -18,7 +18,7 @@ use Rattle.sa_queries.specs.Shown.{Entry, node_entry, path_entry, group_entry, s
 use Rattle.sa_queries.specs.Selected.{Query, selected}
 use Rattle.sa_queries.specs.Outcome.{got, table}
 
--- ---- what is shown of groups owes this to a port: where it sees the same of two states, the same is shown
+-- ---- what is shown of groups owes this to a port: if it sees the same of two states, the same is shown
 abbrev pub GroupSight : Type 0
 GroupSight = SubnetPort → List PartitionGroups → List GroupOfBase
 
@@ -30,7 +30,7 @@ ShowsAlike sight =
 abbrev pub GroupsAreShownAlike : Type 0
 GroupsAreShownAlike = ShowsAlike visible_groups
 
--- ---- and of services: where those that it may be shown are the same
+-- ---- and of services: if those that it may be shown are the same
 abbrev pub ServiceRule : Type 0
 ServiceRule = List SubnetPort → SubnetPort → List PortServices → List ServiceOfPort
 

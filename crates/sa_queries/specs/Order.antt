@@ -48,7 +48,7 @@ pub record InOrder (ports : List SubnetPort) (own : SubnetPort) (state : SaState
   pub groups : pairwise of_lower_mlid (visible_groups own state.partitions) ≡ true
   pub services : pairwise (is_offered_before ports) (visible_services ports own state.services) ≡ true
 
--- where a subnet is configured, and a state has its partitions and its places for services, each with what is sound
+-- if a subnet is configured, and a state has its partitions and its places for services, each with what is sound
 pub record IsOfConfiguration (configuration : ConfigurationState) (state : SaState) : Type 0 where
   pub partitions : map partition_of state.partitions ≡ map partition_of (start_of configuration)
   pub groups : is_sound configuration.ports state.partitions ≡ true

@@ -22,7 +22,7 @@ abbrev pub first_refusal : List Question → Option MadStatus
 first_refusal [] = None
 first_refusal (question ∷ questions) = if question.is_so then Some question.status else first_refusal questions
 
--- ---- codes that stand for nothing. They are looked at where the code and its selector are both asked
+-- ---- codes that stand for nothing. They are looked at if the code and its selector are both asked
 abbrev pub is_mtu_code : ℕ → Bool
 is_mtu_code code = nat_le 1 code && nat_le code 5
 
@@ -35,7 +35,7 @@ asks_unknown_mtu mask bits code = asks mask bits && not (is_mtu_code code)
 abbrev pub asks_unknown_rate : ℕ → ℕ → ℕ → Bool
 asks_unknown_rate mask bits code = asks mask bits && not (is_rate_code code)
 
--- ---- paths are asked for by who sends
+-- ---- a port asks for paths from itself
 -- neither SGID nor SLID
 abbrev pub has_no_sender : ℕ → Bool
 has_no_sender mask = not (asks mask path_mask.sgid) && not (asks mask path_mask.slid)

@@ -48,7 +48,7 @@ at_most (Some most) xs = take most xs
 abbrev pub few_paths : Option ℕ → ℕ → PathRecord → SubnetPort → SubnetPort → List Path
 few_paths most mask asked own other = at_most most (paths_selected mask asked (paths_to own other))
 
--- as many as NumbPath says, where it is asked
+-- as many as NumbPath says, if it is asked
 abbrev pub paths_wanted : Query → Option ℕ
 paths_wanted (Query.for_nodes mask asked) = None
 paths_wanted (Query.for_paths mask asked) = if asks mask path_mask.numb_path then Some asked.numb_path else None

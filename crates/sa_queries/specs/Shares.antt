@@ -18,8 +18,8 @@ PathRule = SubnetPort → SubnetPort → List ℕ
 abbrev pub is_path_to : ℕ → ℕ → Path → Bool
 is_path_to guid key path = (path.destination.guid == guid) && (path.key == key)
 
--- two ports of a list, by a rule for paths: a path is visible exactly under a key that the first holds of a base that both
--- share; a node exactly where it is the port's own, or some base is shared; and services of a base where it is shared
+-- two ports of a list, by a rule for paths. A path is visible if and only if it is under a key that the first holds of a base that
+-- both share; a node if and only if it is the port's own, or some base is shared; services of a base if and only if it is shared
 pub record IsSharing (rule : PathRule) (ports : List SubnetPort) (own other : SubnetPort) : Type 0 where
   pub paths : (key : ℕ) → list_any (is_path_to other.guid key) (flat_map (λ port. paths_under (rule own port) own port) ports)
       ≡ (holds key own.keys && shares_base (base_of key) own.keys other.keys)

@@ -34,7 +34,7 @@ LeadsToNear rule =
 abbrev pub PathsLeadToNear : Type 0
 PathsLeadToNear = LeadsToNear keys_to
 
--- a path in each partition of both ports, even where both are limited members
+-- a path in each partition of both ports, even if both are limited members
 abbrev pub keys_of_common_bases : PathRule
 keys_of_common_bases own other = filter (λ key. has_base (base_of key) other.keys) (by_base own.keys)
 

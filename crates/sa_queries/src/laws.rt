@@ -7,22 +7,22 @@ ghost use Rattle.sa_queries.specs.Order.{VisibleStandsInOrder};
 ghost use Rattle.sa_queries.specs.Shares.{SharingIsOneThing};
 ghost use Rattle.sa_queries.specs.WrongRules.{PathsLeadToNear, ServicesStandInOrder};
 
-/// Where a port sees the same of the groups of two states, it is shown the same of them.
+/// If a port sees the same of the groups of two states, it is shown the same of them.
 pub fn groups_are_shown_alike()
     ensures { GroupsAreShownAlike }
 {}
 
-/// Where the services that a port may be shown are the same in two states, it is shown the same of them.
+/// If the services that a port may be shown are the same in two states, it is shown the same of them.
 pub fn services_are_shown_alike()
     ensures { ServicesAreShownAlike }
 {}
 
-/// Where a port sees the same in two states, a request of it selects the same.
+/// If a port sees the same in two states, a request of it selects the same.
 pub fn selected_alike()
     ensures { SelectedAlike }
 {}
 
-/// Where a port sees the same in two states, a request of it ends alike.
+/// If a port sees the same in two states, a request of it ends alike.
 pub fn queries_end_alike()
     ensures { QueriesEndAlike }
 {}
@@ -53,9 +53,9 @@ pub fn paths_lead_to_near()
     ensures { PathsLeadToNear }
 {}
 
-/// Two ports of a configured subnet share a base or they do not: a path between them is visible exactly under a key that
-/// the first holds of a base that they share, a node exactly where it is the port's own or they share some base, and
-/// services of a base exactly where they share it.
+/// Two ports of a configured subnet share a base or they do not: a path between them is visible if and only if it is under a key that
+/// the first holds of a base that they share, a node if and only if it is the port's own or they share some base, and
+/// services of a base if and only if they share it.
 pub fn sharing_is_one_thing()
     ensures { SharingIsOneThing }
 {}
@@ -66,7 +66,7 @@ pub fn services_stand_in_order()
 {}
 
 /// Nodes are visible by LID, paths by the LID that they lead to and then by base, groups by MLID, and services by the LID
-/// of their port, base and ServiceID, where the subnet is configured and the state has its partitions and places.
+/// of their port, base and ServiceID, if the subnet is configured and the state has its partitions and places.
 pub fn visible_stands_in_order()
     ensures { VisibleStandsInOrder }
 {}

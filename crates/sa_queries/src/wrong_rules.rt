@@ -13,12 +13,12 @@ pub fn common_bases_are_not_shared()
     ensures { CommonBasesAreNotShared }
 {}
 
-/// Where groups of all partitions are shown, a port is shown what it has no part in.
+/// If groups of all partitions are shown, a port is shown what it has no part in.
 pub fn groups_of_all_report()
     ensures { GroupsOfAllReport }
 {}
 
-/// Where a port is shown all services of the ports near it, one limited member is shown another's services.
+/// If a port is shown all services of the ports near it, one limited member is shown another's services.
 pub fn services_of_ports_near_report()
     ensures { ServicesOfPortsNearReport }
 {}
@@ -28,7 +28,7 @@ pub fn all_of_file_is_wrong()
     ensures { AllOfFileIsWrong }
 {}
 
-/// Where a port is shown its own services before those of others, they do not stand by LID.
+/// If a port is shown its own services before those of others, they do not stand by LID.
 pub fn own_first_is_out_of_order()
     ensures { OwnFirstIsOutOfOrder }
 {}

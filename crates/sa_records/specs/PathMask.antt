@@ -1,4 +1,4 @@
--- What the bits of the ComponentMask name in a request by a PathRecord (IBA volume 1, 15.2.5), but for ServiceID and
+-- What the bits of the ComponentMask name in a request by a PathRecord (IBA volume 1, 15.2.5), except ServiceID and
 -- Reversible.
 use Rattle.std.specs.Prelude.{ℕ}
 

@@ -1,4 +1,4 @@
--- What the bits of the ComponentMask name in a request by a ServiceRecord (IBA volume 1, 15.2.5.14), but for the
+-- What the bits of the ComponentMask name in a request by a ServiceRecord (IBA volume 1, 15.2.5.14), except the
 -- numbers in ServiceData.
 use Rattle.std.specs.Prelude.{ℕ}
 

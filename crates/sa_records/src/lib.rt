@@ -5,7 +5,7 @@
 //! list of places that stands in `specs/`. `selected_by` says whether a record agrees with a request on every
 //! component that the request's ComponentMask names; `specs/Component.antt` says what a component is, and each record
 //! lists its own. `ask_by` sets a field by its name in scripts and gives its bits of the mask, from the same table of
-//! components that `selected_by` reads, but for the numbers in ServiceData (IBA volume 1
+//! components that `selected_by` reads, except the numbers in ServiceData (IBA volume 1
 //!, 15.2.1.1 and 15.2.5).
 #![tactic(auto)]
 

@@ -37,7 +37,7 @@ pub struct NodeRecord {
     pub node_guid: u64,
     /// The GUID of the port.
     pub port_guid: u64,
-    /// How many entries each key table of the node has.
+    /// How many entries each P_Key table of the node has.
     pub partition_cap: u16,
     /// The device, as its vendor numbers it.
     pub device_id: u16,
@@ -123,7 +123,7 @@ impl NodeRecord {
     }
 
     /// Asks by the field of this name: sets its value, and gives the bits of the ComponentMask that name it. None, and
-    /// nothing is set, where nodes have no such field or the value is wider than it.
+    /// nothing is set, if nodes have no such field or the value is wider than it.
     pub fn ask_by(&mut self, field: &[u8], value: u128) -> Option<u64>
         ensures bits { result ≡ bits_of (asked_by field.now value node_record_asked) }
         ensures set { node_record self.new ≡ with_value value (asked_by field.now value node_record_asked) (node_record self.old) }

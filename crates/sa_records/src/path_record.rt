@@ -57,7 +57,7 @@ pub struct PathRecord {
     pub rate_selector: u8,
     /// The code of the rate, 6 bits.
     pub rate: u8,
-    /// How the life time is compared, 2 bits.
+    /// How the PacketLifeTime is compared, 2 bits.
     pub packet_life_time_selector: u8,
     /// The code of how long a packet may be on its way, 6 bits.
     pub packet_life_time: u8,
@@ -160,7 +160,7 @@ impl PathRecord {
     }
 
     /// Asks by the field of this name: sets its value, and gives the bits of the ComponentMask that name it. None, and
-    /// nothing is set, where paths have no such field or the value is wider than it.
+    /// nothing is set, if paths have no such field or the value is wider than it.
     pub fn ask_by(&mut self, field: &[u8], value: u128) -> Option<u64>
         ensures bits { result ≡ bits_of (asked_by field.now value path_record_asked) }
         ensures set { path_record self.new ≡ with_value value (asked_by field.now value path_record_asked) (path_record self.old) }

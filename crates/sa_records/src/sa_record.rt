@@ -54,7 +54,7 @@ impl SaRecord {
     }
 
     /// Asks by the field of this name: sets its value, and gives the bits of the ComponentMask that name it. None, and
-    /// nothing is set, where records of this kind have no such field or the value is wider than it.
+    /// nothing is set, if records of this kind have no such field or the value is wider than it.
     pub fn ask_by(&mut self, field: &[u8], value: u128) -> Option<u64>
         ensures bits { result ≡ bits_asked field.now value self.old }
         ensures set { AskedBy field.now value self.old self.new }
@@ -68,7 +68,7 @@ impl SaRecord {
         }
     }
 
-    /// Asks by ServiceName, and gives its bit of the ComponentMask. None, and nothing is set, where it is no service.
+    /// Asks by ServiceName, and gives its bit of the ComponentMask. None, and nothing is set, if it is no service.
     pub fn ask_by_name(&mut self, name: &[u8; 64]) -> Option<u64>
         ensures bits { result ≡ name_bits self.old }
         ensures set { self.new ≡ named name.now self.old }

@@ -168,7 +168,7 @@ impl ServiceRecord {
     }
 
     /// Asks by the field or the number in ServiceData of this name: sets its value, and gives the bits of the
-    /// ComponentMask that name it. None, and nothing is set, where services have no such field or number or the value is
+    /// ComponentMask that name it. None, and nothing is set, if services have no such field or number or the value is
     /// wider than it. ServiceName is no number: see `ask_by_name`.
     pub fn ask_by(&mut self, field: &[u8], value: u128) -> Option<u64>
         ensures bits { result ≡ option_or (bits_of (asked_by field.now value service_record_asked))
@@ -201,7 +201,7 @@ impl ServiceRecord {
         bytes
     }
 
-    /// Asks by the field of this name, as `ask_by` does, where it is no data.
+    /// Asks by the field of this name, as `ask_by` does, if it is no data.
     #[tactic(auto, unfolding(crate::specs::Asked::asked_by))]
     fn ask_by_field(&mut self, field: &[u8], value: u128) -> Option<u64>
         ensures bits { result ≡ bits_of (asked_by field.now value service_record_asked) }

@@ -1,4 +1,4 @@
--- What is noted beside an answer: it encodes open tables, and comes from ports near.
+-- What is noted beside an answer: it encodes RMPP transfers in progress, and comes from ports near.
 use Rattle.std.proofs.Common.{ℕ, zero, suc, ◌-◌, ◌*◌, ◌==◌, ◌&&◌, not, Bool, true, false, if◌then◌else◌, bit_and, length, List, [], ◌∷◌, map, take, drop, Option, Some, None, Result, Ok, Err}
 use Rattle.std.proofs.Common.{◌≡◌, ◌∙◌, ap, refl, sym, subst, inl, inr}
 use Rattle.std.specs.List.{list_all, flat_map}

@@ -9,7 +9,7 @@ use Rattle.sa_replies.specs.Examples.{old_version, new_base_version, of_method, 
 use Rattle.sa_replies.specs.Examples.{mlids_after, leaving_in, making_by, speeds_after, joining_to_send, receivers_after}
 use Rattle.sa_replies.specs.Examples.{of_transfer, is_open_after, paths_of_nobody, with_services, service_asked_by, statuses_in, ids_after}
 
--- no group is made where none of the partition's MLIDs is free
+-- no group is made if none of the partition's MLIDs is free
 abbrev pub NoMlidIsFree : Type 0
 NoMlidIsFree =
     map number (answer ports full making_another with_all_mlids).0

@@ -146,7 +146,7 @@ by sender mad = record { sender = sender; mad = mad }
 abbrev pub at_first : Administration
 at_first = record { remembered = nothing; transfers = no_transfers ports }
 
--- where the partition has a group of each of its MLIDs
+-- if the partition has a group of each of its MLIDs
 abbrev pub with_all_mlids : Administration
 with_all_mlids = record { remembered = record nothing { partitions = many }; transfers = no_transfers ports }
 
@@ -236,7 +236,7 @@ abbrev pub is_there : Option Transfer → Bool
 is_there (Some transfer) = true
 is_there None = false
 
--- a table is open to the full member
+-- an RMPP transfer to the full member is in progress
 abbrev pub is_open_after : List Sent → Bool
 is_open_after sent = is_there (table_of 0x111 (after sent).transfers)
 

@@ -77,7 +77,7 @@ join_questions own mask asked =
     ∷ refused_if (asks_unknown_rate mask member_mask.rate asked.rate) RequestInvalid
     ∷ []
 
--- to a group that is there: all else that is asked agrees with it, but for MLID and ProxyJoin
+-- to a group that is there: all else that is asked agrees with it, except MLID and ProxyJoin
 abbrev pub compared : ℕ
 compared =
     member_mask.q_key + member_mask.mtu + member_mask.t_class + member_mask.rate + member_mask.packet_life_time
@@ -88,7 +88,7 @@ abbrev pub agrees_with : ℕ → McMemberRecord → ℕ → MulticastGroup → B
 agrees_with mask asked base group =
     mc_member_record_selected (bit_and mask compared) (group_record_of (record { base = base; group = group })) asked
 
--- to one that is not: it takes the greatest MTU, rate and life time that we have and that satisfies what is asked
+-- to one that is not: it takes the greatest MTU, rate and PacketLifeTime that we have and that satisfies what is asked
 abbrev pub mtu_taken : ℕ → McMemberRecord → Option ℕ
 mtu_taken mask asked =
     find (λ mtu. not (asks mask member_mask.mtu) || satisfies asked.mtu_selector mtu asked.mtu) (4 ∷ 3 ∷ 2 ∷ 1 ∷ [])

@@ -54,14 +54,14 @@ abbrev pub CanBeReported : Option Transfer → Type 0
 CanBeReported None = Unit {0}
 CanBeReported (Some transfer) = payload_size transfer.bytes < 2 ^ 32
 
--- whatever bytes come, but a MAD of a transfer: where they are refused, or not answered, all is as it was
+-- whatever bytes come, but a MAD of a transfer: if they are refused, or not answered, all is as it was
 abbrev pub RefusedChangeNothing : Type 0
 RefusedChangeNothing =
     (ports : List SubnetPort) (own : SubnetPort) (payload : List ℕ) (state : Administration) → AllBelowBase 256 payload
     → is_of_transfer payload ≡ false → CanBeReported (table_of own.guid (answer ports own payload state).1.transfers)
     → are_refusals (answer ports own payload state).0 ≡ true → (answer ports own payload state).1 ≡ state
 
--- ---- what each leaves as it was: a Get all, a GetTable groups and services, a Set and a Delete open tables, and a MAD of a
+-- ---- what each leaves as it was: a Get all, a GetTable groups and services, a Set and a Delete transfers in progress, and a MAD of a
 -- transfer groups and services
 pub record LeavesTheRest (payload : List ℕ) (state next : Administration) : Type 0 where
   pub by_get : asks_by Get payload ≡ true → next ≡ state
@@ -88,7 +88,7 @@ pub record IsServiceSet (own : SubnetPort) (request : Request) (state next : SaS
       (service_asked request.component_mask (service_in request.content)) state.services next.services
   pub groups : next.partitions ≡ state.partitions
 
--- so it is after a Set that is not refused, where the port has one place in this base
+-- so it is after a Set that is not refused, if the port has one place in this base
 abbrev pub ServicesSetAreThere : Type 0
 ServicesSetAreThere =
     (ports : List SubnetPort) (own : SubnetPort) (payload : List ℕ) (state : Administration) (place : PortServices)
@@ -128,7 +128,7 @@ HidesFarRequests rule =
 abbrev pub FarRequestsAreNotSeen : Type 0
 FarRequestsAreNotSeen = HidesFarRequests answer
 
--- ---- where a port sees the same in two states, what it sends is answered by the same MADs, and it sees the same after
+-- ---- if a port sees the same in two states, what it sends is answered by the same MADs, and it sees the same after
 pub record AnsweredAlike (sight : ServiceSight) (ports : List SubnetPort) (own : SubnetPort) (payload : List ℕ)
     (s t : Administration) : Type 0 where
   pub mads : (answer ports own payload s).0 ≡ (answer ports own payload t).0

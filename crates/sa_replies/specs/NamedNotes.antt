@@ -48,7 +48,7 @@ pub record VisibleFits (ports : List SubnetPort) (own : SubnetPort) (state : SaS
   pub groups : AreFit (map group_entry (visible_groups own state.partitions))
   pub services : AreFit (map service_entry (visible_services ports own state.services))
 
--- each record comes from the source that stands beside it, by what is remembered; and it fits, where all that is visible does
+-- each record comes from the source that stands beside it, by what is remembered; and it fits, if all that is visible does
 pub record AreNamed (ports : List SubnetPort) (own : SubnetPort) (state : SaState) (entries : List Entry) : Type 0 where
   pub each : AllByRecursion (λ entry. ComesFrom state entry.shown entry.source) entries
   pub fit : VisibleFits ports own state → AreFit entries

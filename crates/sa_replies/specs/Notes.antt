@@ -119,7 +119,7 @@ noted_success ports own state request next =
     else if request.header.method == method_code Set then noted_set own request next
     else from_source (Creator.Port own.guid) request.content
 
--- where the request is refused, from nothing
+-- if the request is refused, from nothing
 abbrev pub noted_reply : List SubnetPort → SubnetPort → SaState → Request → Result Success MadStatus → List NotedByte
 noted_reply ports own state request (Ok (Success.one_reply bytes next)) = noted_success ports own state request next
 noted_reply ports own state request (Ok (Success.whole_table offset bytes)) = []

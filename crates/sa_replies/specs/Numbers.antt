@@ -7,7 +7,7 @@ use Rattle.sa_records.specs.ServiceRecord.{service_data_asked}
 use Rattle.sa_queries.specs.Selected.{asks}
 use Rattle.sa_records.specs.ServiceRecord.{numbers_asked}
 
--- each number is as it is asked, and 0 where the mask does not ask it
+-- each number is as it is asked, and 0 if the mask does not ask it
 abbrev pub IsAsAsked : ℕ → List ℕ → Asked → Type 0
 IsAsAsked mask numbers one =
     field (numbers_asked mask numbers) one.off one.len ≡ (if asks mask one.bits then field numbers one.off one.len else 0)

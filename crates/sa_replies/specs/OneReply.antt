@@ -22,7 +22,7 @@ asks_something payload =
 abbrev pub response_method : ℕ → ℕ
 response_method method = if method == 2 then 0x81 else method + 0x80
 
--- a MAD of our versions and class that repeats what identifies the request. ClassSpecific and SM_Key are 0; where its status is
+-- a MAD of our versions and class that repeats what identifies the request. ClassSpecific and SM_Key are 0; if its status is
 -- not 0 it has no data, and AttributeOffset is 0 too
 pub record IsResponseTo (payload mad : List ℕ) : Type 0 where
   pub size : length mad ≡ 256
@@ -56,7 +56,7 @@ AnswersOnce rule =
 abbrev pub RequestsAreAnsweredOnce : Type 0
 RequestsAreAnsweredOnce = AnswersOnce answer
 
--- ---- what asks for nothing is not answered, but for a MAD of a transfer: a response, a MAD of another class, what is no MAD
+-- ---- what asks for nothing is not answered, except a MAD of a transfer: a response, a MAD of another class, what is no MAD
 abbrev pub IgnoresOthers : AnswerRule → Type 0
 IgnoresOthers rule =
     (ports : List SubnetPort) (own : SubnetPort) (payload : List ℕ) (state : Administration) → asks_something payload ≡ false

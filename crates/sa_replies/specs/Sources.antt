@@ -61,7 +61,7 @@ filled bytes = bytes ++ replicate (200 - length bytes) 0
 abbrev pub HoldsNoted : NotedMad → Type 0
 HoldsNoted one = data_in one.mad ≡ filled (map (λ one. one.byte) one.bytes)
 
--- what a rule for answers with notes owes: so it is with each MAD that answers a MAD, where the numbers of the table that is
+-- what a rule for answers with notes owes: so it is with each MAD that answers a MAD, if the numbers of the table that is
 -- open to the port fit their fields, and the length of the records that are noted for it then can be reported in 32 bits
 abbrev pub NotedRule : Type 0
 NotedRule = List SubnetPort → SubnetPort → List ℕ → Administration → Notes → NotedAnswer

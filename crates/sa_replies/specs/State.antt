@@ -23,8 +23,8 @@ at_start configuration = record {
   transfers = no_transfers configuration.ports;
 }
 
--- ---- values that fit the fields of their records, where a field is no whole number of bytes
--- MTU, rate and life time have 6 bits, SL and Scope 4, and FlowLabel 20
+-- ---- values that fit the fields of their records, if a field is no whole number of bytes
+-- MTU, rate and PacketLifeTime have 6 bits, SL and Scope 4, and FlowLabel 20
 abbrev pub is_fit_group : GroupParameters → Bool
 is_fit_group parameters =
     nat_lt parameters.mtu 64

@@ -1,4 +1,4 @@
--- Which MTU, rate and life time a new group has, of those that we have.
+-- Which MTU, rate and PacketLifeTime a new group has, of those that we have.
 use Rattle.std.specs.Prelude.{ℕ, ◌≡◌, Bool, true, false, not, ◌==◌, ◌||◌, nat_le, List, [], ◌∷◌, Option, Some, None}
 use Rattle.std.specs.List.{list_any}
 use Rattle.sa_records.specs.Component.{satisfies}
@@ -8,7 +8,7 @@ use Rattle.sa_records.specs.declared.mc_member_record.McMemberRecord.{McMemberRe
 use Rattle.sa_queries.specs.Selected.{asks}
 use Rattle.sa_replies.specs.Joins.{life_taken, mtu_taken, rate_taken}
 
--- ---- the greatest of some codes that passes a test, by an order of them; none where none passes
+-- ---- the greatest of some codes that passes a test, by an order of them; none if none passes
 abbrev pub is_one_of : List ℕ → ℕ → Bool
 is_one_of codes code = list_any (λ one. one == code) codes
 
@@ -21,7 +21,7 @@ abbrev pub IsGreatest : List ℕ → (ℕ → Bool) → (ℕ → ℕ → Bool) �
 IsGreatest codes passes at_most (Some taken) = IsGreatestOf codes passes at_most taken
 IsGreatest codes passes at_most None = (code : ℕ) → is_one_of codes code ≡ true → passes code ≡ false
 
--- ---- what we have: MTUs of 256 to 2048 bytes, rates of 2.5, 10 and 5 Gb/s, and one life time
+-- ---- what we have: MTUs of 256 to 2048 bytes, rates of 2.5, 10 and 5 Gb/s, and one PacketLifeTime
 abbrev pub our_mtus : List ℕ
 our_mtus = 1 ∷ 2 ∷ 3 ∷ 4 ∷ []
 
@@ -40,7 +40,7 @@ is_speed_at_most None fast = false
 abbrev pub is_no_faster : ℕ → ℕ → Bool
 is_no_faster a b = is_speed_at_most (speed_of a) (speed_of b)
 
--- ---- what satisfies the request: all where its mask does not ask by it
+-- ---- what satisfies the request: all if its mask does not ask by it
 abbrev pub mtu_fits : ℕ → McMemberRecord → ℕ → Bool
 mtu_fits mask asked mtu = not (asks mask member_mask.mtu) || satisfies asked.mtu_selector mtu asked.mtu
 

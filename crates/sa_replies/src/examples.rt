@@ -38,7 +38,7 @@ pub fn who_only_sends()
     ensures { WhoOnlySends }
 {}
 
-/// What is no ACK of a segment of an open table, no STOP and no ABORT leaves the table open.
+/// A MAD that is no ACK of a segment of the transfer in progress, no STOP and no ABORT leaves the transfer in progress.
 pub fn what_leaves_a_table()
     ensures { WhatLeavesATable }
 {}

@@ -25,7 +25,7 @@ pub fn answers_keep_states()
     ensures { AnswersKeepStates }
 {}
 
-/// Whatever bytes come, but a MAD of a transfer: where each MAD that is answered has a status other than 0, or none is
+/// Whatever bytes come, but a MAD of a transfer: if each MAD that is answered has a status other than 0, or none is
 /// answered, all that is remembered is as it was.
 pub fn refused_change_nothing()
     ensures { RefusedChangeNothing }
@@ -33,7 +33,7 @@ pub fn refused_change_nothing()
 
 /// In each state of a run each request is answered by one MAD: with the versions and the class that are ours, the method of
 /// its response, the TransactionID, AttributeID, AttributeModifier and ComponentMask of the request, ClassSpecific and
-/// SM_Key 0, and, where its status is not 0, AttributeOffset 0 and no data.
+/// SM_Key 0, and, if its status is not 0, AttributeOffset 0 and no data.
 pub fn requests_are_answered_once()
     ensures { RequestsAreAnsweredOnce }
 {}
@@ -43,18 +43,18 @@ pub fn others_are_ignored()
     ensures { OthersAreIgnored }
 {}
 
-/// A Get leaves all that is remembered, a GetTable groups and services, a Set and a Delete open tables, and a MAD of
+/// A Get leaves all that is remembered, a GetTable groups and services, a Set and a Delete transfers in progress, and a MAD of
 /// a transfer groups and services.
 pub fn requests_leave_the_rest()
     ensures { RequestsLeaveTheRest }
 {}
 
-/// A new group has the greatest MTU, rate and life time that we have and that satisfy what is asked.
+/// A new group has the greatest MTU, rate and PacketLifeTime that we have and that satisfy what is asked.
 pub fn the_greatest_is_taken()
     ensures { TheGreatestIsTaken }
 {}
 
-/// Each number in the data of a service that is set is as it is asked, and 0 where it is not asked.
+/// Each number in the data of a service that is set is as it is asked, and 0 if it is not asked.
 pub fn numbers_are_as_asked()
     ensures { NumbersAreAsAsked }
 {}
@@ -69,7 +69,7 @@ pub fn refused_change_no_receivers()
     ensures { RefusedChangeNoReceivers }
 {}
 
-/// After a Set of a service that is not refused the service is there, once, where the port has one place in this
+/// After a Set of a service that is not refused the service is there, once, if the port has one place in this
 /// base; all other services and all groups are as before.
 pub fn services_set_are_there()
     ensures { ServicesSetAreThere }
@@ -87,7 +87,7 @@ pub fn far_requests_are_not_seen()
     ensures { FarRequestsAreNotSeen }
 {}
 
-/// Where a port sees the same in two states, what it sends is answered by the same MADs, and it sees the
+/// If a port sees the same in two states, what it sends is answered by the same MADs, and it sees the
 /// same after: of services those that it may be shown, and so all those of the ports near it.
 pub fn requesters_are_answered_alike()
     ensures { RequestersAreAnsweredAlike }
@@ -104,20 +104,20 @@ pub fn notes_stand_beside()
     ensures { NotesStandBeside }
 {}
 
-/// Where the records that are noted for each port encode the table that is open to it, so it is after whatever a port
+/// If the records that are noted for each port encode the table that is open to it, so it is after whatever a port
 /// sends.
 pub fn notes_encode_tables()
     ensures { NotesEncodeTables }
 {}
 
-/// The bytes that are noted of a MAD which answers a port are its data, whose rest is 0, where the table that is open to
+/// The bytes that are noted of a MAD which answers a port are its data, whose rest is 0, if the table that is open to
 /// the port can be sent, and the length of the records that are noted for it then can be reported.
 pub fn data_is_noted()
     ensures { AnswersNoteTheirData }
 {}
 
 /// The records that are noted of a table come from the sources that they themselves name, when it is opened, and fit their
-/// fields where all that is visible to the port does; its segments have their parts of these, byte for byte with the
+/// fields if all that is visible to the port does; its segments have their parts of these, byte for byte with the
 /// source; and so it is with the record that answers a Get. The reply to a join comes from who made the group, and the
 /// replies to the Set of a service and to a Delete from the port that asks.
 pub fn notes_name_sources()

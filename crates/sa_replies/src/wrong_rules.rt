@@ -3,7 +3,7 @@
 
 ghost use Rattle.sa_replies.specs.WrongRules.{AllNodesReport, AskersAreNotedAlone, DeletesAreNotOfFile, JoinsAreOfTheMaker, KeysAreNotSentBack, LostPlacesAreMissed, NothingNotedIsLess, OneTableReports, OthersAreAnswered, RefusalsKeepNoData, SetsAreNotOfFile, TheFileIsNoSource, TwiceIsNotOnce};
 
-/// With one open table for all ports, a port learns that a port far from it asked for one.
+/// With one transfer in progress for all ports, a port learns that a port far from it asked for a table.
 pub fn one_table_reports()
     ensures { OneTableReports }
 {}
@@ -13,12 +13,12 @@ pub fn all_nodes_report()
     ensures { AllNodesReport }
 {}
 
-/// Where nothing is noted, the bytes that are noted are not those of the data that a port is sent.
+/// If nothing is noted, the bytes that are noted are not those of the data that a port is sent.
 pub fn nothing_noted_is_less()
     ensures { NothingNotedIsLess }
 {}
 
-/// Where all bytes are noted as those of the partition file, a table does not name the ports that its nodes come from.
+/// If all bytes are noted as those of the partition file, a table does not name the ports that its nodes come from.
 pub fn the_file_is_no_source()
     ensures { TheFileIsNoSource }
 {}
@@ -28,17 +28,17 @@ pub fn askers_are_noted_alone()
     ensures { AskersAreNotedAlone }
 {}
 
-/// Where the reply to a Set is noted as the partition file's, a service that is set does not come from its port.
+/// If the reply to a Set is noted as the partition file's, a service that is set does not come from its port.
 pub fn sets_are_not_of_file()
     ensures { SetsAreNotOfFile }
 {}
 
-/// Where the reply to a Delete is noted as the partition file's, it does not come from the port that asks.
+/// If the reply to a Delete is noted as the partition file's, it does not come from the port that asks.
 pub fn deletes_are_not_of_file()
     ensures { DeletesAreNotOfFile }
 {}
 
-/// Where the reply to a Set is noted as that of the port that asks, a group that it joins does not come from who made it.
+/// If the reply to a Set is noted as that of the port that asks, a group that it joins does not come from who made it.
 pub fn joins_are_of_the_maker()
     ensures { JoinsAreOfTheMaker }
 {}

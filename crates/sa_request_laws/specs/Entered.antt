@@ -23,7 +23,7 @@ use Rattle.sa_replies.specs.State.{IsStateOf}
 use Rattle.sa_replies.specs.Taken.{IsGreatestOf, is_no_faster, life_fits, mtu_fits, our_life_times, our_mtus, our_rates, rate_fits}
 use Rattle.sa_request_laws.specs.Registrations.{bits_of_either, groups_at, is_there, without_members, registered, bits_held, is_group, is_registration, partitions_at}
 
--- ---- what a new group is given. Q_Key, TClass, SL and FlowLabel are as asked. MTU, rate and life time are the greatest of
+-- ---- what a new group is given. Q_Key, TClass, SL and FlowLabel are as asked. MTU, rate and PacketLifeTime are the greatest of
 -- ours that satisfy what is asked. HopLimit and Scope are as asked if the mask names them, else 0 and the MGID's own
 pub record IsGivenAsAsked (mask : ℕ) (asked : McMemberRecord) (given : GroupParameters) : Type 0 where
   pub q_key : given.q_key ≡ asked.q_key

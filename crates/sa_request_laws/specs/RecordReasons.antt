@@ -51,7 +51,7 @@ reasons_of_deletion ports own state request =
     reasons_of_owner own request.component_mask (service_in request.content)
     ++ because (not (is_offered own (service_in request.content) state)) no_records ∷ []
 
--- ---- records. Paths are asked for by who sends, and not by another; codes are the standard's
+-- ---- records. A port asks for paths from itself, and from no other; codes are the standard's
 abbrev pub reasons_of_path : SubnetPort → ℕ → PathRecord → List Reason
 reasons_of_path own mask asked =
     because (not (asks mask path_mask.sgid) && not (asks mask path_mask.slid)) insufficient_components

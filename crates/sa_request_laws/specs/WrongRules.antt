@@ -200,7 +200,7 @@ answer_as_multicast ports own payload state = answer ports own (as_multicast pay
 abbrev pub MgidsAreMulticast : Type 0
 MgidsAreMulticast = RequestsAreRefusedBy answer_as_multicast → ⊥
 
--- ---- a wrong GID is a request that is invalid, as where the MGID is judged before it
+-- ---- a wrong GID is a request that is invalid, as if the MGID is judged before it
 abbrev pub with_other_status : ℕ → ℕ → List ℕ → List ℕ
 with_other_status status other mad = if field mad 32 16 == status then put_field mad 32 16 other else mad
 

@@ -18,7 +18,7 @@ pub record WhoHearsAGroup : Type 0 where
       ≡ []
 
 -- ---- what asking brings
--- all segments of a table within the command, under the key of the subnet manager's port that matches
+-- all segments of a table within the command, under the key of the SM port that matches
 abbrev pub WholeTable : Type 0
 WholeTable =
     heard [] (ask 0x111 (nodes_wanted 4))
@@ -45,7 +45,7 @@ ShorterTable =
     ∷ [])
     ∷ []
 
--- after it no table is open: an ACK that would abort one is not answered
+-- after it no transfer is in progress: an ACK that would abort one is not answered
 abbrev pub Closed : Type 0
 Closed =
     heard (ask 0x121 (nodes_wanted 5) ∷ []) (send_mad 0x121 (ack 5 2 1)) ≡ []

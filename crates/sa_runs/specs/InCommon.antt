@@ -59,7 +59,7 @@ StatesDependOnNear =
     → HaveInCommon configuration.ports p (remembered_after configuration commands)
     (remembered_after configuration (commands_of (is_near configuration.ports p) commands))
 
--- what a port is said to see of a state has to be all of that: where it sees the same of two states, they have it in common
+-- what a port is said to see of a state has to be all of that: if it sees the same of two states, they have it in common
 abbrev pub ShowsAll : {V : Type 0} → (ConfigurationState → ℕ → Administration → V) → Type 0
 ShowsAll sight =
     (configuration : ConfigurationState) (p : ℕ) (s t : Administration) → sight configuration p s ≡ sight configuration p t

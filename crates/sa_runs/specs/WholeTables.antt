@@ -27,7 +27,7 @@ AsksForTable configuration own mad state spacing records =
     answer configuration.ports own mad state ≡ answered_with own (request_in mad) state (Ok (Success.whole_table spacing records))
 
 -- what the port is sent when it acknowledges each segment: all segments in their order, from which a receiver has the
--- records; no table is open to it then, and nothing else is remembered otherwise
+-- records; no transfer to it is in progress then, and nothing else is remembered otherwise
 pub record IsBroughtWhole (own : SubnetPort) (state : Administration) (transfer : Transfer) (brought : Answered) : Type 0 where
   pub segments : brought.0 ≡ segment_mads transfer
   pub received : whole_bytes (after_all (Ok nothing) brought.0) ≡ Some transfer.bytes

@@ -21,12 +21,12 @@ pub fn runs_are_isolated()
 
 /// Whatever ports did, and as if the ports near a port alone had done what they did: in each partition of which it is a
 /// member there are the same groups, and the same registrations of the ports near it; these ports have the same services,
-/// and the same table is open to it.
+/// and the same transfer to it is in progress.
 pub fn states_depend_on_near()
     ensures { StatesDependOnNear }
 {}
 
-/// Where a port sees the same of any two states, it has all of that in common.
+/// If a port sees the same of any two states, it has all of that in common.
 pub fn sight_shows_all()
     ensures { SightShowsAll }
 {}
@@ -70,7 +70,7 @@ pub fn data_of_runs_is_noted()
 {}
 
 /// Whatever ports sent and asked, a port that asks for a table is brought all its segments within the command, in their
-/// order, and has its records; no table is open to it after that.
+/// order, and has its records; no transfer to it is in progress after that.
 pub fn tables_are_brought_whole()
     ensures { TablesAreBroughtWhole }
 {}

@@ -3,43 +3,43 @@
 
 ghost use Rattle.sa_runs.specs.WrongRules.{AnswersAreNoted, MakersAreInCommon, MlidsAreInCommon, NoBytesAreLess, NodesAreNoFiles, RegistrationsAreInCommon, SendsAreNoted, WhatIsShownIsLess};
 
-/// Where a port is said to see those services alone that it is shown, it sees the same of two states that have not the
+/// If a port is said to see those services alone that it is shown, it sees the same of two states that have not the
 /// same services of the ports near it.
 pub fn what_is_shown_is_less()
     ensures { WhatIsShownIsLess }
 {}
 
-/// Where no bytes are noted of the MADs that answer, what is noted is not the data of a table.
+/// If no bytes are noted of the MADs that answer, what is noted is not the data of a table.
 pub fn no_bytes_are_less()
     ensures { NoBytesAreLess }
 {}
 
-/// Where nothing is noted of any event, a MAD that answers passes for a packet between two ports.
+/// If nothing is noted of any event, a MAD that answers passes for a packet between two ports.
 pub fn answers_are_noted()
     ensures { AnswersAreNoted }
 {}
 
-/// Where nothing is noted of a `send` to subnet administration, its answer passes for a packet between two ports.
+/// If nothing is noted of a `send` to subnet administration, its answer passes for a packet between two ports.
 pub fn sends_are_noted()
     ensures { SendsAreNoted }
 {}
 
-/// Where nodes are noted as the partition file's, the notes do not name the ports that the records name.
+/// If nodes are noted as the partition file's, the notes do not name the ports that the records name.
 pub fn nodes_are_no_files()
     ensures { NodesAreNoFiles }
 {}
 
-/// Where the MLID of a group is not seen, a port sees the same of two states whose groups have different ones.
+/// If the MLID of a group is not seen, a port sees the same of two states whose groups have different ones.
 pub fn mlids_are_in_common()
     ensures { MlidsAreInCommon }
 {}
 
-/// Where it is not seen who made a group, a port sees the same of two states in which different ports did.
+/// If it is not seen who made a group, a port sees the same of two states in which different ports did.
 pub fn makers_are_in_common()
     ensures { MakersAreInCommon }
 {}
 
-/// Where the registrations in a group are not seen, a port sees the same of two states in one of which it is registered.
+/// If the registrations in a group are not seen, a port sees the same of two states in one of which it is registered.
 pub fn registrations_are_in_common()
     ensures { RegistrationsAreInCommon }
 {}

@@ -1,4 +1,4 @@
--- The keys of a port in the order of their bases. A key table has them in the order of the partitions' numbers.
+-- The keys of a port in the order of their bases. A P_Key table has them in the order of the partitions' numbers.
 use Rattle.std.specs.Prelude.{ℕ, ◌≡◌, Bool, true, nat_le, if◌then◌else◌, List, [], ◌∷◌}
 use Rattle.std.specs.List.{list_any}
 use Rattle.sa_groups.specs.Sound.{pairwise}

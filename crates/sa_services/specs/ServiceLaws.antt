@@ -30,7 +30,7 @@ is_of port base place = (place.port == port) && (place.base == base)
 abbrev pub offered : ℕ → ℕ → ℕ → List PortServices → List Service
 offered port base id services = flat_map (λ place. filter (has_id id) place.services) (filter (is_of port base) services)
 
--- all is as it was but for this ID of this port and base
+-- all is as it was except the service of this ID of this port and base
 abbrev pub is_same : ℕ → ℕ → ℕ → ℕ → ℕ → ℕ → Bool
 is_same port base id p b i = (p == port) && ((b == base) && (i == id))
 
@@ -48,7 +48,7 @@ pub record IsDeleted (port base id : ℕ) (before after : List PortServices) : T
   pub gone : offered port base id after ≡ []
   pub others : AreAsBeforeBut port base id before after
 
--- so it is after a Set, where the port has one place in this base and room there
+-- so it is after a Set, if the port has one place in this base and room there
 abbrev pub SetServicesAreThere : Type 0
 SetServicesAreThere =
     (services : List PortServices) (port base : ℕ) (place : PortServices) (new : Service)
@@ -84,7 +84,7 @@ ShownServicesAreNear =
     (ports : List SubnetPort) (p : ℕ) (services : List PortServices)
     → services_seen ports p (services_near ports p services) ≡ services_seen ports p services
 
--- ---- and where p sees the same of services before what any port does to them, it sees the same after
+-- ---- and if p sees the same of services before what any port does to them, it sees the same after
 abbrev pub StaysAlike : ServiceSight → Type 0
 StaysAlike sight =
     (ports : List SubnetPort) (p : ℕ) (s t : List PortServices) (change : ServiceChange)

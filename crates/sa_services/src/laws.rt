@@ -24,7 +24,7 @@ pub fn places_stay()
     ensures { PlacesStay }
 {}
 
-/// After a Set the service is there, once, where the port has one place in this base and room there; all others are
+/// After a Set the service is there, once, if the port has one place in this base and room there; all others are
 /// as before.
 pub fn set_services_are_there()
     ensures { SetServicesAreThere }
@@ -50,12 +50,12 @@ pub fn shown_services_are_near()
     ensures { ShownServicesAreNear }
 {}
 
-/// Where a port is shown the same services before a Set or a Delete of any port, it is shown the same after.
+/// If a port is shown the same services before a Set or a Delete of any port, it is shown the same after.
 pub fn services_are_seen_alike()
     ensures { ServicesAreSeenAlike }
 {}
 
-/// Where the services of the ports near a port are the same before a Set or a Delete of any port, they are the same
+/// If the services of the ports near a port are the same before a Set or a Delete of any port, they are the same
 /// after.
 pub fn near_services_stay_alike()
     ensures { NearServicesStayAlike }

@@ -3,7 +3,7 @@
 
 ghost use Rattle.sa_services.specs.WrongRules.{ServicesOfPartitionsReport};
 
-/// Where a port is shown all services of its partitions, one limited member shows to another that it is there.
+/// If a port is shown all services of its partitions, one limited member shows to another that it is there.
 pub fn services_of_partitions_report()
     ensures { ServicesOfPartitionsReport }
 {}

@@ -296,7 +296,7 @@ changed_by ports join partition (Some new) None lids distinct can is =
 changed_by ports join partition None None lids distinct can is =
     absurd (false≢true (sym (can.makes (none_found (has_mgid join.mgid) partition.groups is))))
 
--- others receive after a join exactly where the port that joins is one of an adapter, joins as one that receives, and did not
+-- others receive after a join if and only if the port that joins is one of an adapter, joins as one that receives, and did not
 -- receive before
 pub join_changes : (ports : List SubnetPort) (join : Join) (partition : PartitionGroups) → HaveLidsInOrder ports → IsDistinct same_guid ports
     → is_sound_partition ports partition ≡ true

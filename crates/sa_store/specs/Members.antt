@@ -22,7 +22,7 @@ receives_anew join partition = is_receiver join.join_state && not (receives_by j
 abbrev pub place_with_base : List PartitionGroups → ℕ → Option ℕ
 place_with_base partitions base = position (λ partition. partition.base == base) partitions
 
--- a join is not refused: the partition of its base has this place, the port may join, and where there is no group it may make
+-- a join is not refused: the partition of its base has this place, the port may join, and if there is no group it may make
 -- one that fits its record, and an MLID is free
 pub record CanJoin (ports : List SubnetPort) (join : Join) (partitions : List PartitionGroups) (place : ℕ) : Type 0 where
   pub there : place_with_base partitions join.base ≡ Some place

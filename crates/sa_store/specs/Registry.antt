@@ -91,7 +91,7 @@ with_change change state = with_remembered (after_change state.administration.re
 abbrev pub with_partitions : List PartitionGroups → RegistryState → RegistryState
 with_partitions partitions state = with_remembered (record state.administration.remembered { partitions = partitions }) state
 
--- the numbers of the partitions whose receivers are others then
+-- the numbers of the partitions whose receivers changed
 abbrev pub changed_between : RegistryState → RegistryState → List ℕ
 changed_between old new =
     changed_numbers old.configuration.ports old.administration.remembered.partitions new.administration.remembered.partitions

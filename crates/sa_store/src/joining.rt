@@ -20,7 +20,7 @@ use mad_layout::JoinState;
 use std::alloc::{AllocError, Global};
 use std::marker::Model;
 
-/// The port of this GUID joins the group of an MGID in the partition of a base; where there is none, it is made with these
+/// The port of this GUID joins the group of an MGID in the partition of a base; if there is none, it is made with these
 /// parameters.
 #[derive(Drop)]
 pub struct Join {

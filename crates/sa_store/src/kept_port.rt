@@ -110,7 +110,7 @@ impl KeptPort {
         &self.bytes
     }
 
-    /// Puts a service among those of a base, in the place of one of its ServiceID. False, and nothing changes, where there is
+    /// Puts a service among those of a base, in the place of one of its ServiceID. False, and nothing changes, if there is
     /// no room.
     pub(crate) fn set_service(&mut self, base: u16, service: Service) -> Result<bool, AllocError>
         requires { CanChange base self.old }
@@ -125,7 +125,7 @@ impl KeptPort {
         self.services[place].set(service)
     }
 
-    /// Takes the service of a ServiceID away from those of a base. False where there is none.
+    /// Takes the service of a ServiceID away from those of a base. False if there is none.
     pub(crate) fn delete_service(&mut self, base: u16, id: u64) -> bool
         requires { CanChange base self.old }
         ensures found { result ≡ list_any (has_id id) (services_in base self.old.services) }

@@ -33,7 +33,7 @@ pub(crate) const JOIN_STATES: u8 = JoinState::FULL_MEMBER.0
     | JoinState::NON_MEMBER.0
     | JoinState::SEND_ONLY_NON_MEMBER.0;
 
-/// The port of this GUID leaves the group of an MGID in the partition of a base, or in each partition where no base is asked.
+/// The port of this GUID leaves the group of an MGID in the partition of a base, or in each partition if no base is asked.
 #[derive(Drop)]
 pub struct Leave {
     pub(crate) port: u64,
@@ -85,7 +85,7 @@ impl Leave {
 }
 
 impl MlidRange {
-    /// A port leaves its group in this partition; whether others receive what is sent to its groups then. The group goes where
+    /// A port leaves its group in this partition; whether others receive what is sent to its groups then. The group goes if
     /// nothing keeps it. One test reports the full members of the partition, the other the ports of channel adapters.
     pub(crate) fn leave<F: Fn(u64) -> bool, A: Fn(u64) -> bool>(
         &mut self,
@@ -238,7 +238,7 @@ pub(crate) fn is_joined(join_state: JoinState) -> bool
     join_state.0 & JOIN_STATES != 0
 }
 
-/// A port leaves the group in a slot, which goes where nothing keeps it; whether others receive what is sent to it then.
+/// A port leaves the group in a slot, which goes if nothing keeps it; whether others receive what is sent to it then.
 fn leave_slot<F: Fn(u64) -> bool, A: Fn(u64) -> bool>(
     slot: &mut Option<Group>,
     leave: &Leave,

@@ -24,7 +24,7 @@ use pkey_rules::PARTITIONS;
 use std::alloc::AllocError;
 
 impl Store {
-    /// The place of the partition of a base: there is one where a port of the subnet is in it.
+    /// The place of the partition of a base: there is one if a port of the subnet is in it.
     pub fn partition_of(&self, base: u16) -> Option<usize>
         requires { base < 0x8000 }
         ensures value { result ≡ place_with_base self.now.administration.remembered.partitions base }
@@ -41,8 +41,8 @@ impl Store {
             && join.join_state.contains(JoinState::FULL_MEMBER)
     }
 
-    /// A port joins its group in the partition of that place, or makes it; the number of the partition, where its
-    /// receivers are others then.
+    /// A port joins its group in the partition of that place, or makes it; the number of the partition, if its
+    /// receivers changed.
     pub fn join(
         &mut self,
         place: usize,
@@ -79,7 +79,7 @@ impl Store {
             .any(|partition| partition.takes_some(leave))
     }
 
-    /// A port leaves its group in each partition that it names; the numbers of those whose receivers are others then.
+    /// A port leaves its group in each partition that it names; the numbers of those whose receivers changed.
     pub fn leave(&mut self, leave: &Leave) -> ArrayVec<u16, PARTITIONS>
         ensures next { self.new ≡ with_partitions
             (left self.old.configuration.ports leave.now self.old.administration.remembered.partitions) self.old }

@@ -110,7 +110,7 @@ impl ServicesOfBase {
         self.services.as_slice()
     }
 
-    /// Puts a service among them, in the place of one of its ServiceID. False, and nothing changes, where there is no room.
+    /// Puts a service among them, in the place of one of its ServiceID. False, and nothing changes, if there is no room.
     pub(crate) fn set(&mut self, service: Service) -> Result<bool, AllocError>
         requires { pairwise lower_id self.old.services ≡ true }
         ensures room { IfOk result (λ stored. stored ≡ has_room service.service_id self.old.services) }
@@ -131,7 +131,7 @@ impl ServicesOfBase {
         Ok(true)
     }
 
-    /// Takes the service of a ServiceID away. False where there is none.
+    /// Takes the service of a ServiceID away. False if there is none.
     pub(crate) fn delete(&mut self, id: u64) -> bool
         requires { pairwise lower_id self.old.services ≡ true }
         ensures found { result ≡ list_any (has_id id) self.old.services }

@@ -21,7 +21,7 @@ data_with one = record_bytes one ++ replicate (200 - length (record_bytes one)) 
 abbrev pub IsPut : SaRecord → SaRecord → Named → Type 0
 IsPut old new named = data_with new ≡ put_field (data_with old) named.place.off named.place.len named.place.value
 
--- the new record asks by that field too, and its bits are reported; where there is no such field, none are
+-- the new record asks by that field too, and its bits are reported; if there is no such field, none are
 pub record AsksToo (one : Option Named) (old new : SaRecord) (reported : Option ℕ) : Type 0 where
   pub bits : reported ≡ option_map (λ named. named.bits) one
   pub set : IfSome one (IsPut old new)

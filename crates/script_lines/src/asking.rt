@@ -39,7 +39,7 @@ pub(crate) fn asked_in(attribute: SaAttribute, words: Words<'_>) -> Result<SaMad
 }
 
 /// Asks by the field that a word FIELD=VALUE names, and gives its bits of the ComponentMask; none, and nothing is set,
-/// where it names none.
+/// if it names none.
 #[tactic(auto, unfolding(crate::specs::Ask::named_in))]
 fn ask_by_word(asked: &mut SaRecord, word: &[u8]) -> Option<u64>
     requires { RecordFits asked.now }

@@ -11,7 +11,7 @@ use subnet_model::Command;
 use text_words::Words;
 use topo_file::Topology;
 
-/// The command that a line gives, with its LF where it has one and with its comment; none for a line
+/// The command that a line gives, with its LF if it has one and with its comment; none for a line
 /// without words.
 #[tactic(auto, unfolding(crate::specs::Script::command_of, crate::specs::Script::command_in))]
 pub fn command_of(topology: &Topology, line: &[u8]) -> Result<Option<Command>, ScriptCause>

@@ -23,7 +23,7 @@ pub enum ScriptCause {
     /// The payload is to be longer than a packet carries.
     #[error("the payload is longer than a packet carries")]
     PayloadTooLong,
-    /// A field is misspelt or out of its range.
+    /// A field is malformed or out of its range.
     #[error("a field is misspelt or out of its range")]
     BadField,
     /// The two words are not the ends of one cable between two switches.

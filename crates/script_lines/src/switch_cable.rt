@@ -41,7 +41,7 @@ fn cable_encoded(
 }
 
 /// The cable of a topology between the ports of two switches that words name, with its ends in the order of the words;
-/// `UnknownCable` where there is none.
+/// `UnknownCable` if there is none.
 pub fn named_cable(topology: &Topology, one: &[u8], other: &[u8]) -> Result<Cable, ScriptCause>
     ensures is { result ≡ named_cable topology.now one.now other.now }
     ensures there { IfOk result (IsSwitchCable topology.now) }

@@ -32,7 +32,7 @@ further smp = with_pointer (pointer smp + 1) smp
 abbrev pub noted : ℕ → List ℕ → List ℕ
 noted port smp = further (with_return_port (pointer smp) port smp)
 
--- from the subnet manager, where the pointer is 0: by the first port of the path, and with no path to
+-- from the subnet manager, if the pointer is 0: by the first port of the path, and with no path to
 -- the node's own agent
 abbrev pub sent : List ℕ → Step
 sent smp =

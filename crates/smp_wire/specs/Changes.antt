@@ -35,7 +35,7 @@ pub record ChangesAtMost (fabric next : FabricState) (smp : List ℕ) : Type 0 w
   -- never the cables, nor where the subnet manager is
   pub cables : next.cables ≡ fabric.cables
   pub manager : next.manager ≡ fabric.manager
-  -- nothing where there is no walk
+  -- nothing if there is no walk
   pub no_walk : walk_of fabric smp ≡ None → next ≡ fabric
   -- at most the node at its end, and of that at most what the SMP names
   pub nodes : (ends : List PortRef) → walk_of fabric smp ≡ Some ends

@@ -1,4 +1,4 @@
--- What a fabric is: its nodes, with what their agents hold, its cables, those that are cut, and the subnet manager's port.
+-- What a fabric is: its nodes, with what their agents hold, its cables, those that are cut, and the SM port.
 use Rattle.std.specs.Prelude.{ℕ, ◌-◌, ◌==◌, ◌&&◌, nat_le, Bool, true, false, if◌then◌else◌, List, [], ◌++◌, length, slice_get, slice_set, Option, Some, None}
 use Rattle.std.specs.Option.{option_and_then, option_map_or}
 use Rattle.port_model.specs.AdapterState.{AdapterState}

@@ -22,7 +22,7 @@ abbrev pub gives_at : FabricState → PortRef → SmpAttribute → ℕ → Optio
 gives_at fabric at attribute modifier =
     option_and_then (λ node. node_gives node at.port attribute modifier) (slice_get fabric.nodes at.node)
 
--- nothing where there is no walk, or no agent at its end
+-- nothing if there is no walk, or no agent at its end
 abbrev pub gives_along : FabricState → List ℕ → SmpAttribute → ℕ → Option (Result (List ℕ) MadStatus)
 gives_along fabric path attribute modifier = option_and_then (λ at. gives_at fabric at attribute modifier) (end_of fabric path)
 

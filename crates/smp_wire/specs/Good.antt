@@ -88,7 +88,7 @@ pub record IsGood (fabric : FabricState) : Type 0 where
   pub cables : list_all (is_right fabric.nodes) (all_cables fabric) ≡ true
   -- no port has two cables, one that is cut or not
   pub once : IsDistinct is_same_port (flat_map ends_of (all_cables fabric))
-  -- the subnet manager's port is a port of an adapter, and has a cable
+  -- the SM port is a port of an adapter, and has a cable
   pub manager_port : is_port fabric.nodes fabric.manager ≡ true
   pub manager_adapter : is_switch_at fabric.nodes fabric.manager.node ≡ false
   pub manager_cabled : is_cabled fabric.cables fabric.manager ≡ true
@@ -102,7 +102,7 @@ port_info_at (Adapter ports) number = option_map (λ port. port.info) (adapter_p
 abbrev pub info_at : FabricState → PortRef → Option PortInfo
 info_at fabric at = option_and_then (λ node. port_info_at node at.port) (slice_get fabric.nodes at.node)
 
--- a port is Down exactly where it has no cable
+-- a port is Down if and only if it has no cable
 abbrev pub ShowsLinks : FabricState → Type 0
 ShowsLinks fabric =
     (at : PortRef) (info : PortInfo) → is_port fabric.nodes at ≡ true → info_at fabric at ≡ Some info
@@ -112,7 +112,7 @@ ShowsLinks fabric =
 abbrev pub is_up : PortInfo → Bool
 is_up info = nat_le (port_state_code Initialize) info.port_state && nat_le info.port_state (port_state_code Active)
 
--- ---- that switches are joined: a cable may be taken away later, so this stands apart
+-- ---- that switches are joined: a property of its own, since a cable may be taken away later
 -- a walk out of these ports leads from one node to the other
 abbrev pub leads : FabricState → ℕ → List ℕ → ℕ → Bool
 leads fabric a numbers b =

@@ -23,7 +23,7 @@ use Rattle.std.specs.Option.{option_and_then}
 abbrev pub ExchangesKeepGood : Type 0
 ExchangesKeepGood = (fabric : FabricState) (smp : List ℕ) → IsGood fabric → IsGood (exchange_after fabric smp)
 
--- one in which a port is Down exactly where it has no cable stays such a one
+-- one in which a port is Down if and only if it has no cable stays such a one
 abbrev pub ExchangesKeepLinks : Type 0
 ExchangesKeepLinks = (fabric : FabricState) (smp : List ℕ) → ShowsLinks fabric → ShowsLinks (exchange_after fabric smp)
 
@@ -52,7 +52,7 @@ RepliesAnswer =
 abbrev pub PortsAreGood : Type 0
 PortsAreGood = (fabric : FabricState) (at : PortRef) (info : PortInfo) → IsGood fabric → info_at fabric at ≡ Some info → IsGoodInfo info
 
--- and where links show, a port with a cable is Initialize, Armed or Active
+-- and if links show, a port with a cable is Initialize, Armed or Active
 abbrev pub CabledPortsAreUp : Type 0
 CabledPortsAreUp =
     (fabric : FabricState) (at : PortRef) (info : PortInfo) → IsGood fabric → ShowsLinks fabric

@@ -34,7 +34,7 @@ reported_by request reply =
     if not (field reply 33 15 == 0) then Err Refused
     else (if answers request reply then Ok (data_of reply) else Err WrongReply)
 
--- and what is reported where a reply comes or none does
+-- and what is reported if a reply comes or none does
 abbrev pub reported_if : List ℕ → Option (List ℕ) → Result (List ℕ) ReplyFault
 reported_if request reply = option_map_or (reported_by request) reply (Err NoReply)
 
@@ -42,7 +42,7 @@ reported_if request reply = option_map_or (reported_by request) reply (Err NoRep
 abbrev pub reported_of : FabricState → List ℕ → Result (List ℕ) ReplyFault
 reported_of fabric request = reported_if request (exchange_reply fabric request)
 
--- what is reported for what an agent gives: nothing where there is none
+-- what is reported for what an agent gives: nothing if there is none
 abbrev pub reported_for : Option (Result (List ℕ) MadStatus) → Result (List ℕ) ReplyFault
 reported_for None = Err NoReply
 reported_for (Some (Err status)) = Err Refused

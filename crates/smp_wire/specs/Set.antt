@@ -29,17 +29,17 @@ takes_at fabric at attribute modifier wanted =
     option_map (λ taken. taken >>= λ next. Ok (record fabric { nodes = slice_set fabric.nodes at.node next }))
     (option_and_then (λ node. node_takes node at.port attribute modifier wanted) (slice_get fabric.nodes at.node))
 
--- nothing where there is no walk, or no agent at its end
+-- nothing if there is no walk, or no agent at its end
 abbrev pub takes_along : FabricState → List ℕ → SmpAttribute → ℕ → List ℕ → Option (Result FabricState MadStatus)
 takes_along fabric path attribute modifier wanted =
     option_and_then (λ at. takes_at fabric at attribute modifier wanted) (end_of fabric path)
 
--- the fabric after a Set; where it is not taken, as it was
+-- the fabric after a Set; if it is not taken, as it was
 abbrev pub set_along : FabricState → List ℕ → SmpAttribute → ℕ → List ℕ → FabricState
 set_along fabric path attribute modifier wanted =
     option_map_or (λ taken. result_unwrap_or taken fabric) (takes_along fabric path attribute modifier wanted) fabric
 
--- what a Set is answered with: where it is taken, what a Get of the same is answered with from then on
+-- what a Set is answered with: if it is taken, what a Get of the same is answered with from then on
 abbrev pub set_gives : List ℕ → SmpAttribute → ℕ → Result FabricState MadStatus → Option (Result (List ℕ) MadStatus)
 set_gives path attribute modifier (Err status) = Some (Err status)
 set_gives path attribute modifier (Ok next) = gives_along next path attribute modifier

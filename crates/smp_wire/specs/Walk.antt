@@ -34,7 +34,7 @@ abbrev pub last_of : PortRef → List PortRef → PortRef
 last_of here [] = here
 last_of here (there ∷ ends) = last_of there ends
 
--- where a path from the subnet manager's port leads, by which the SMP comes in there
+-- where a path from the SM port leads, by which the SMP comes in there
 abbrev pub end_of : FabricState → List ℕ → Option PortRef
 end_of fabric path = option_map (last_of fabric.manager) (walk fabric.nodes fabric.cables true fabric.manager path)
 
@@ -46,7 +46,7 @@ path_of smp = take (count smp) (drop 129 smp)
 abbrev pub is_sent : List ℕ → Bool
 is_sent smp = is_outgoing smp && ((pointer smp == 0) && nat_le (count smp) 63)
 
--- the walk of an SMP from the subnet manager's port
+-- the walk of an SMP from the SM port
 abbrev pub walk_of : FabricState → List ℕ → Option (List PortRef)
 walk_of fabric smp = if is_sent smp then walk fabric.nodes fabric.cables true fabric.manager (path_of smp) else None
 

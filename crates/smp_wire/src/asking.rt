@@ -19,8 +19,8 @@ use mad_layout::Mad;
 
 /// Gets that part of an attribute of the node at the end of a path: the ports by which its hops leave.
 ///
-/// Over a wire that stands for a good fabric it is what the agent there gives: `NoReply` where there is no
-/// walk or no agent, `Refused` where the agent refuses, and never `WrongReply`. The fabric is as it was.
+/// Over a wire that stands for a good fabric it is what the agent there gives: `NoReply` if there is no
+/// walk or no agent, `Refused` if the agent refuses, and never `WrongReply`. The fabric is as it was.
 pub fn get_attribute<W: SmpWire>(
     wire: &mut W,
     transaction_id: u64,
@@ -41,8 +41,8 @@ pub fn get_attribute<W: SmpWire>(
 /// node has there then.
 ///
 /// Over a wire that stands for a good fabric the fabric changes by what the agent there takes, and by
-/// nothing else; it is reported what a Get of the same would report then. `NoReply` where there is no walk or no
-/// agent, and `Refused` where the agent refuses, leave the fabric as it was; `WrongReply` never comes.
+/// nothing else; it is reported what a Get of the same would report then. `NoReply` if there is no walk or no
+/// agent, and `Refused` if the agent refuses, leave the fabric as it was; `WrongReply` never comes.
 /// The fabric stays good and keeps its shape.
 pub fn set_attribute<W: SmpWire>(
     wire: &mut W,

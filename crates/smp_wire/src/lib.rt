@@ -2,7 +2,7 @@
 //!
 //! [`SmpWire`] is the one contract that everything above rests on. A wire may stand for a fabric (a ghost
 //! member gives its nodes, cables and agents): then [`SmpWire::exchange`] answers as the walk of
-//! `specs/Walk.antt` does, and the fabric changes as that says. Where it stands for none, a call returns,
+//! `specs/Walk.antt` does, and the fabric changes as that says. If it stands for none, a call returns,
 //! and nothing else is promised. [`PlainWire`] keeps a fabric as lists of [`Node`]s and cables and follows
 //! the definition; [`CountingWire`] and [`SilencedWire`] stand round another wire. [`get_attribute`] and
 //! [`set_attribute`] read and set one attribute over any wire, and [`read_reply`] reports what one reply means.

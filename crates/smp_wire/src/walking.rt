@@ -59,7 +59,7 @@ pub struct Arrival {
     pub smp: Mad,
 }
 
-/// Follows the path of an SMP from the subnet manager's port.
+/// Follows the path of an SMP from the SM port.
 pub fn arrive(nodes: &[Node], cables: &[Cable], manager: PortRef, sent: &Mad) -> Option<Arrival>
     requires { count sent.now ≤ 63 }
     ensures { result ≡ option_map (arrival_of manager sent.now) (walk nodes.now cables.now true manager (path_of sent.now)) }

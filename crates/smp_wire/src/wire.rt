@@ -16,9 +16,9 @@ pub trait SmpWire {
 
     /// Sends an SMP, and gives what comes back.
     ///
-    /// Where the wire stands for a fabric, nothing comes if the SMP is not at the start of its way (its
+    /// If the wire stands for a fabric, nothing comes if the SMP is not at the start of its way (its
     /// direction bit is set, its hop pointer is not 0, or its path has more than 63 hops), if no cable leads
-    /// on, if a channel adapter would have to hand it on, or if it asks no agent. Where it stands for none,
+    /// on, if a channel adapter would have to hand it on, or if it asks no agent. If it stands for none,
     /// anything may come, a reply of another request too, and nothing need come.
     ///
     /// Source: IBA volume 1, chapter 14, over the fields of 14.2.1.2.

@@ -12,7 +12,7 @@ use mad_layout::Mad;
 pub struct CountingWire<W: SmpWire + Drop> {
     /// The inner wire.
     pub wire: W,
-    /// How many SMPs went over it, or the greatest number where they are more.
+    /// How many SMPs went over it, or the greatest number if they are more.
     pub count: u64,
 }
 

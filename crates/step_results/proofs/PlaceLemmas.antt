@@ -24,7 +24,7 @@ place-none p xs h =
 pub one_more : (m n : ℕ) → nat_lt m n ≡ nat_lt (1 + m) (suc n)
 one_more m n = grind (arith, nat_tests)
 
--- some element passes exactly where the place of the first is before the end
+-- some element passes if and only if the place of the first is before the end
 pub list_any_place : {X : Type 0} (p : X → Bool) (xs : List X) → list_any p xs ≡ nat_lt (position_or_len p xs) (length xs)
 list_any_place p [] = refl
 list_any_place p (x ∷ xs) = by (p x) refl (list_any_place p xs)

@@ -2,7 +2,7 @@
 use Rattle.std.specs.Prelude.{ℕ, ◌+◌, List, [], ◌∷◌, Result, Ok, Err}
 use Rattle.step_results.specs.Steps.{◌>>=◌}
 
--- a cause with its line, counted from 1; 0 where it is of no line, but of the text as a whole
+-- a cause with its line, counted from 1; 0 if it is of no line, but of the text as a whole
 pub record AtLine (Cause : Type 0) : Type 0 where
   pub line : ℕ
   pub cause : Cause

@@ -83,7 +83,7 @@ module _ (inventory : InventoryState) (routes : RoutesState) (old : RegistryStat
   abbrev ports : List SubnetPort
   ports = inventory.configuration.ports
 
-  -- what comes to the subnet manager's port, of a packet that is for it
+  -- what comes to the SM port, of a packet that is for it
   abbrev IsOf : SendCommand → SubnetPort → Type 0
   IsOf command sender =
       map reported deliveries
@@ -110,7 +110,7 @@ none_came : (deliveries : List DeliveryState) (key : Option ℕ) (manager : Subn
 none_came deliveries None manager packet none came = refl
 none_came deliveries (Some key) manager packet none came = absurd (let empty = sym (ap (map reported) none) ∙ came in cc)
 
--- what came is the packet, at the subnet manager's port
+-- what came is the packet, at the SM port
 record IsThat (manager : SubnetPort) (packet : Packet) (request : DeliveryState) (key : Option ℕ) : Type 0 where
   some : ℕ
   key_is : key ≡ Some some

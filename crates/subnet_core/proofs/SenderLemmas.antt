@@ -110,7 +110,7 @@ commands_name_senders inventory is script commands given =
     All-weaker (NamesWhatIsThere inventory.plan) (NamesSender inventory.configuration.ports) (names_sender inventory is) commands
     (commands_name_what_is_there inventory.plan script commands given)
 
--- ---- the subnet manager's port is the first of the list, and a channel adapter's
+-- ---- the SM port is the first of the list, and a channel adapter's
 pub record IsManager (ports : List SubnetPort) (manager : SubnetPort) : Type 0 where
   pub first : find (λ port. port.lid == manager_lid) ports ≡ Some manager
   pub named : port_with_guid ports manager.guid ≡ Some manager

@@ -31,7 +31,7 @@ use Rattle.subnet_sends.specs.declared.event.Event.{Event}
 use Rattle.updn_routes.specs.Subnet.{RoutesState}
 
 -- ---- one request: the MADs that answer it, and what the port that asked receives
--- under the key by which the subnet manager's port answers; without one nothing comes of it
+-- under the key by which the SM port answers; without one nothing comes of it
 abbrev pub AnswersUnder : Option ℕ → SubnetPort → Answered → Administration → Answer → Administration → Type 0
 AnswersUnder (Some key) own answered old given new =
     (given.mads.items ≡ answered.0) × (map event_of given.events.items ≡ map (reply_to own key) answered.0) × (new ≡ answered.1)
@@ -88,7 +88,7 @@ pub record StepsTo (inventory : InventoryState) (routes next : RoutesState) (old
   pub stands : Stands inventory next new left
 
 -- the subnet after it: who is in it stays; the routes stay unless a cable is to be cut or mended, and cables are in place as the
--- definition says; what is remembered is the definition's; where no port has the command's GUID, or that port refuses to send, or
+-- definition says; what is remembered is the definition's; if no port has the command's GUID, or that port refuses to send, or
 -- the command is to a cable and changes none, all stays
 pub record IsNext (old : SubnetState) (command : Command) (new : SubnetState) : Type 0 where
   pub inventory : new.inventory ≡ old.inventory

@@ -35,7 +35,7 @@ pub record SubnetState : Type 0 where
 abbrev pub up_in : SubnetState → BroughtUpState
 up_in subnet = record { routes = subnet.routes; fabric = subnet.fabric }
 
--- where it is not broken, its fabric stands with the cables that are in place, with the masks of exactly those who receive what
+-- if it is not broken, its fabric stands with the cables that are in place, with the masks of exactly those who receive what
 -- is sent to groups by the memberships held
 abbrev pub StaysUp : SubnetState → Type 0
 StaysUp subnet =
@@ -58,7 +58,7 @@ pub record IsStarted (subnet : SubnetState) : Type 0 where
   pub whole : subnet.is_broken ≡ false
 
 -- ---- and one that is not
--- from the switch of this name no legal path leads to the port of that node and number; all pairs before it, by their
+-- from the switch of this name no up/down path leads to the port of that node and number; all pairs before it, by their
 -- LIDs, have one
 pub record HasNoPathOf (inventory : InventoryState) (switch node : List ℕ) (number : ℕ) : Type 0 where
   pub from : SubnetPort
@@ -94,7 +94,7 @@ Becomes (Ok inventory) None = (up : BroughtUpState) × IsUp inventory up
 Becomes (Ok inventory) (Some fault) = IsStopped inventory fault
 Becomes (Err fault) stop = Unit {0}
 
--- the same, with the fabric and the routes in it where it is up
+-- the same, with the fabric and the routes in it if it is up
 abbrev pub Turns : Result InventoryState RunFault → Result BroughtUpState RunFault → Type 0
 Turns (Ok inventory) (Ok up) = IsUp inventory up
 Turns (Ok inventory) (Err fault) = IsStopped inventory fault

@@ -7,7 +7,7 @@ use Rattle.subnet_model.specs.declared.command.Command.TheVariants.{Ask, Cable, 
 use Rattle.topo_file.specs.Topology.{TopologyState}
 use Rattle.updn_routes.specs.Subnet.{RoutesState}
 
--- a command to cut a cable, or to mend it, changes them where the topology can be brought up with those that are in place then;
+-- a command to cut a cable, or to mend it, changes them if the topology can be brought up with those that are in place then;
 -- all others leave them
 abbrev pub IsCabledAfter : TopologyState → Command → (was next : CablingState) → Type 0
 IsCabledAfter plan (Send command) was next = next ≡ was

@@ -66,7 +66,7 @@ two_runs_of topology partitions first second port stop = do
   scripts ← two_scripts_of inventory.plan first second port
   Ok (two_runs inventory.configuration scripts)
 
--- a fault of a script, where that is the second
+-- a fault of a script, if that is the second
 abbrev pub of_second : RunFault → RunFault
 of_second (Script line cause) = SecondScript line cause
 of_second fault = fault

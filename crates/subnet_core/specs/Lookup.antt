@@ -8,6 +8,6 @@ use Rattle.subnet_model.specs.declared.subnet_port.SubnetPort.{SubnetPort}
 abbrev pub found_in : List SubnetPort → (ℕ → Option ℕ) → ℕ → Option SubnetPort
 found_in ports place_of guid = option_and_then (λ place. slice_get ports place) (place_of guid)
 
--- it is the first of that GUID, and there is none where none is listed
+-- it is the first of that GUID, and there is none if none is listed
 abbrev pub Finds : List SubnetPort → (ℕ → Option ℕ) → Type 0
 Finds ports place_of = (guid : ℕ) → found_in ports place_of guid ≡ port_with_guid ports guid

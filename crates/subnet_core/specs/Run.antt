@@ -24,7 +24,7 @@ pub record ReportState : Type 0 where
 abbrev pub parsed : TopologyState → ℕ → List ℕ → Result (Option Command) RunFault
 parsed plan number line = of_text Script (on_line number (command_of plan line))
 
--- what is reported of these commands, one after the other from the start, where subnet administration answers
+-- what is reported of these commands, one after the other from the start, if subnet administration answers
 abbrev pub reported_of : ConfigurationState → List Command → ReportState
 reported_of configuration commands = record {
   ports = configuration.ports;

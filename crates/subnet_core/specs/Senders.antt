@@ -53,7 +53,7 @@ pub record IsAnswered (was left : FabricState) (sender : ℕ) (packet : Packet) 
   pub back : AreSentBack left deliveries events
 
 pub record SendComes (was left : FabricState) (command : SendCommand) (events : List Event) : Type 0 where
-  -- where no port of a channel adapter has its GUID, nothing happens
+  -- if no port of a channel adapter has its GUID, nothing happens
   pub nobody : (HasPort was.nodes command.port_guid → ⊥) → events ≡ []
   pub refused : (refusal : Refusal) → Stamps was command (Err refusal) → events ≡ Refused command.port_guid refusal ∷ []
   -- what is for subnet administration is answered; all else is received where the fabric delivers it

@@ -75,7 +75,7 @@ pub record CarriesOut (X : Type 0) (inventory : InventoryState) (answer : Result
   pub ends : EndsSo inventory answer read left taken old new
 
 -- ---- from the texts of topology and partitions on
--- where no subnet comes up nothing is read and nothing is written
+-- if no subnet comes up nothing is read and nothing is written
 abbrev pub DoesNotBegin : {X : Type 0} → Result X RunFault → Result InventoryState RunFault → Type 0
 DoesNotBegin (Ok done) given = ⊥
 DoesNotBegin (Err fault) given = FailsWith (Becomes given) (fault_in fault) (up_from given)

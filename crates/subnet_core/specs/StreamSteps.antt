@@ -48,7 +48,7 @@ abbrev pub or_later : Result (Option Command) ScriptCause → ℕ → Option (At
 or_later (Ok command) number later = later
 or_later (Err cause) number later = Some (record { line = number; cause = cause })
 
--- the first that is at fault, where they are counted from this number
+-- the first that is at fault, if they are counted from this number
 unfoldable pub first_fault : TopologyState → ℕ → List (List ℕ) → Option (AtLine ScriptCause)
 first_fault plan number [] = None
 first_fault plan number (line ∷ rest) = or_later (command_of plan line) number (first_fault plan (number + 1) rest)
@@ -115,7 +115,7 @@ unfoldable pub begun_behind : (begun : List ℕ) → List ℕ → List ℕ
 begun_behind begun [] = begun
 begun_behind begun (byte ∷ bytes) = if is_line_end byte then begun_behind [] bytes else begun_behind (begun ++ byte ∷ []) bytes
 
--- what is begun, where something is, is the last line
+-- what is begun, if something is, is the last line
 abbrev pub rest_of : List ℕ → List (List ℕ)
 rest_of [] = []
 rest_of (byte ∷ bytes) = (byte ∷ bytes) ∷ []

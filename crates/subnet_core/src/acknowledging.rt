@@ -8,7 +8,7 @@ use mad_layout::{Header, Mad, Method, RmppFlags, RmppHeader, RmppKind, SA_DATA_B
 use rmpp_core::{RMPP_VERSION, SEGMENT_PAYLOAD, sa_mad};
 use std::alloc::{AllocError, Global};
 
-/// The MADs by which a port acknowledges those that answer it: one for each segment of a table, in order, and none where
+/// The MADs by which a port acknowledges those that answer it: one for each segment of a table, in order, and none if
 /// the first is no first segment of a table.
 ///
 /// Source: IBA volume 1, chapter 13.

@@ -181,7 +181,7 @@ fn asked_once(
     }
 }
 
-/// What comes of a request of the port of a GUID that the fabric delivers so: where the subnet manager's port received it,
+/// What comes of a request of the port of a GUID that the fabric delivers so: if the SM port received it,
 /// its MADs are carried back.
 fn answered(
     alloc: Global,

@@ -19,7 +19,7 @@ pub enum RunFault {
     /// The first fault of the topology.
     #[error("topology line {line}: {cause}")]
     Topology {
-        /// The line, counted from 1; 0 where the fault is of the text as a whole.
+        /// The line, counted from 1; 0 if the fault is of the text as a whole.
         line: usize,
         /// What is wrong.
         cause: TopologyCause,
@@ -35,7 +35,7 @@ pub enum RunFault {
     /// The sweep did not find the fabric. A simulated one it finds, unless a cable is too far away.
     #[error("{0}")]
     Sweep(SweepFault),
-    /// From a switch that carries adapters' ports no legal path leads to one of these. Of all such pairs this is the first,
+    /// From a switch that carries adapters' ports no up/down path leads to one of these. Of all such pairs this is the first,
     /// by the switch's LID and then by the port's.
     #[error("no legal path leads from a switch to a port")]
     NoLegalPath {
@@ -60,7 +60,7 @@ pub enum RunFault {
         /// What is wrong.
         cause: ScriptCause,
     },
-    /// The first fault of the second script, where two are compared.
+    /// The first fault of the second script, if two are compared.
     #[error("second script line {line}: {cause}")]
     SecondScript {
         /// The line, counted from 1.
@@ -104,7 +104,7 @@ pub enum StepFault {
     /// Out of memory.
     #[error("out of memory")]
     NoMemory,
-    /// Memory was refused in an earlier step.
+    /// An allocation failed in an earlier step.
     #[error("memory was refused in an earlier step")]
     Broken,
 }

@@ -40,7 +40,7 @@ impl<'a> PortIndex<'a> {
         PortIndex { ports, places }
     }
 
-    /// The port of that GUID, if one is listed: the first, where there are several.
+    /// The port of that GUID, if one is listed: the first, if there are several.
     pub(crate) fn port_with_guid(&self, guid: u64) -> Option<&SubnetPort>
         ensures { option_copied result ≡ port_with_guid self.now guid }
     {

@@ -102,7 +102,7 @@ impl Subnet {
         &self.inventory
     }
 
-    /// Its one fabric. Where the subnet is not broken it stands with the cables that are in place, with the masks of exactly
+    /// Its one fabric. If the subnet is not broken it stands with the cables that are in place, with the masks of exactly
     /// those who receive what is sent to groups: commands change nothing else of it.
     pub fn fabric(&self) -> &Fabric
         ensures value { result.now ≡ self.now.fabric }
@@ -166,8 +166,8 @@ impl Subnet {
     }
 
     /// Carries out one command over the fabric, and answers its events in order. What is for subnet administration is
-    /// answered, and the port that asks acknowledges each segment of a table; where a command changes who receives what is
-    /// sent to groups, the masks of the fabric's switches follow. A cable is cut, or mended, where the topology can be brought up
+    /// answered, and the port that asks acknowledges each segment of a table; if a command changes who receives what is
+    /// sent to groups, the masks of the fabric's switches follow. A cable is cut, or mended, if the topology can be brought up
     /// with what is in place then, and the fabric is swept and set up anew; else all stays. That is no event.
     ///
     /// Once an allocation failed the subnet is broken for good: every later step answers `Broken` and changes nothing. Its

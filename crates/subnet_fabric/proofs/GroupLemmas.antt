@@ -1,4 +1,4 @@
--- A fabric that is brought up, with the masks of groups in its switches, is the fabric of the list of ports and these groups.
+-- A fabric that is brought up, with MFTs of groups in its switches, is the fabric of the list of ports and these groups.
 use Rattle.std.proofs.Common.{ℕ, ◌≡◌, ◌∙◌, subst, sym, Bool, true, false, List, length, Option, Some, None}
 use Rattle.std.specs.Option.{option_map_or}
 use Rattle.std.proofs.lemmas.Bool.{false≢true}

@@ -1,4 +1,4 @@
--- The keys of an end port are of different partitions, so a key table that holds them means them.
+-- The keys of an end port are of different partitions, so a P_Key table that holds them means them.
 use Rattle.std.proofs.Common.{ℕ, ◌≡◌, ◌-◌, ◌==◌, ◌∙◌, ap, refl, not, true, false, nat_eq, List, [], ◌∷◌, ◌++◌, length, replicate, Option, Some, None, arith}
 use Rattle.std.specs.List.{AllByRecursion, IsDistinct, cons_option, list_all}
 use Rattle.std.proofs.lemmas.Bool.{and_parts, leb-true}

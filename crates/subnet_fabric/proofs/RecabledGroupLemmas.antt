@@ -1,4 +1,4 @@
--- Masks of groups in a fabric that is up with some of its cables.
+-- MFTs of groups in a fabric that is up with some of its cables.
 use Rattle.std.proofs.Common.{ℕ, ◌≡◌, ◌∙◌, ap, refl, subst, sym, Bool, false, List, [], map, slice_get, Option, Some, None, option_map}
 use Rattle.std.specs.List.{All}
 use Rattle.std.specs.Option.{option_map_or}

@@ -1,4 +1,4 @@
--- What is wanted of a port before and after a cable is cut or mended: the same, but for the two ports of that cable.
+-- What is wanted of a port before and after a cable is cut or mended: the same, except the two ports of that cable.
 use Rattle.std.proofs.Common.{ℕ, ◌≡◌, ◌-◌, ◌==◌, not, ◌∙◌, ap, ap₂, refl, sym, Bool, true, false, if◌then◌else◌, List, slice_get, Option, Some, None, option_map}
 use Rattle.std.specs.Option.{option_and_then, option_map_or}
 use Rattle.std.proofs.lemmas.Bool.{false≢true}

@@ -31,7 +31,7 @@ pub record BroughtUpState : Type 0 where
   pub fabric : FabricState
 
 -- ---- why it does not
--- between a switch and a port there is no legal path, and between no earlier pair, by their LIDs
+-- between a switch and a port there is no up/down path, and between no earlier pair, by their LIDs
 abbrev pub HasNoPath : TopologyState → ℕ → ℕ → Type 0
 HasNoPath plan switch port = HasNoPathFrom (fabric_of plan) (root_guids plan) switch port
 

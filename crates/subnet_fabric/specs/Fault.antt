@@ -1,4 +1,4 @@
--- What the faults of its parts become where a fabric is not brought up.
+-- What the faults of its parts become if a fabric is not brought up.
 use Rattle.subnet_fabric.specs.declared.fault.FabricFault.{FabricFault}
 use Rattle.subnet_fabric.specs.declared.fault.FabricFault.TheVariants.{NoMemory, Sweep, NoLegalPath}
 use Rattle.sweep.specs.declared.fault.SweepFault.{SweepFault}

@@ -30,7 +30,7 @@ AFabricIsBroughtUpAsListed =
     (plan : TopologyState) (partitions : List Partition) (fabric : FabricState) → IsSound plan → ArePartitions partitions
     → IsBroughtUpOf plan (all_keys (ports_of partitions plan)) fabric → IsFabricOf (ports_of partitions plan) nobody fabric
 
--- with the masks of groups it is the fabric of the list and these groups
+-- with MFTs of groups it is the fabric of the list and these groups
 abbrev pub AFabricWithGroupsIsAsListed : Type 0
 AFabricWithGroupsIsAsListed =
     (plan : TopologyState) (partitions : List Partition) (routes : RoutesState) (fabric : FabricState) (receives : ℕ → ℕ → Bool)
@@ -39,13 +39,13 @@ AFabricWithGroupsIsAsListed =
     → IsFabricOf (ports_of partitions plan) (by_guid routes.lids receives) (all_masks_pushed routes receives fabric)
 
 -- ---- one thing becomes of a topology's fabric
--- where a cable is too far, no pair is reported that has no path, and the fabric does not come up
+-- if a cable is too far, no pair is reported that has no path, and the fabric does not come up
 abbrev pub TooFarExcludesTheRest : Type 0
 TooFarExcludesTheRest =
     (plan : TopologyState) (keys : List (List ℕ)) (fabric : FabricState) (switch port : ℕ) → IsTooFar (fabric_of plan)
     → (HasNoPath plan switch port → ⊥) × (IsBroughtUpOf plan keys fabric → ⊥)
 
--- where a pair has no path, the fabric does not come up, whatever the keys
+-- if a pair has no path, the fabric does not come up, whatever the keys
 abbrev pub NoPathExcludesComingUp : Type 0
 NoPathExcludesComingUp =
     (plan : TopologyState) (keys : List (List ℕ)) (fabric : FabricState) (switch port : ℕ) → IsSound plan

@@ -22,7 +22,7 @@ use Rattle.updn_routes.specs.Subnet.{RoutesState, guids_of, homes_of, rows_of}
 abbrev pub port_in : TopologyState → GraphState → PortRef → PortRef
 port_in plan graph at = port (unwrap_or (position (λ switch. switch.guid == guid_at plan.nodes at.node) graph.switches) 0) at.port
 
--- the graph once the cable between two ports of its switches is cut, or mended, where it may be
+-- the graph once the cable between two ports of its switches is cut, or mended, if it may be
 abbrev pub planned : Bool → PortRef → PortRef → GraphState → GraphState
 planned true a b graph = with_cable a b graph
 planned false a b graph = without a b graph
@@ -47,7 +47,7 @@ pub record ArePlannedOver (fabric : FabricState) (roots : List ℕ) (routes : Ro
   pub made : AreRoutesOf (rows_of routes.graph) (guids_of routes.graph) roots (homes_of routes.graph routes.lids) routes.between
   pub chosen : AreChosenFrom roots routes
 
--- what routes over a layout of a fabric come to: each port is reached, or a pair has no legal path
+-- what routes over a layout of a fabric come to: each port is reached, or a pair has no up/down path
 abbrev pub RoutesGive : FabricState → List ℕ → Planned → Type 0
 RoutesGive fabric roots (Routed routes) =
     ((switch port : ℕ) → HasNoPathFrom fabric roots switch port → ⊥) × ArePlannedOver fabric roots routes

@@ -23,14 +23,14 @@ use Rattle.subnet_fabric.specs.SetUp.{IsSetUpBy}
 abbrev pub with_cables : List Cable → TopologyState → TopologyState
 with_cables cables plan = record plan { cables = cables }
 
--- the fabric but for the cables that are cut, and with no bit set in any multicast forwarding table
+-- the fabric except the cables that are cut, and with no bit set in any MFT
 abbrev pub cleared : SwitchState → SwitchState
 cleared held = record held { masks = replicate 3 (replicate MULTICAST_TABLE 0) }
 
 abbrev pub base_of : FabricState → FabricState
 base_of fabric = with_switches (λ guid. cleared) (record fabric { cut = [] })
 
--- some of these cables are cut; but for those, and for what is sent to groups, the fabric is that of the topology with the
+-- some of these cables are cut; except for those, and for what is sent to groups, the fabric is that of the topology with the
 -- others alone, at power-up, set up by these routes with these keys
 pub record IsUpWith (plan : TopologyState) (cabling : CablingState) (roots : List ℕ) (keys : List (List ℕ)) (routes : RoutesState)
     (fabric : FabricState) : Type 0 where
@@ -64,7 +64,7 @@ masks_in (Switch held) = held.masks
 masks_in (Adapter ports) = []
 
 -- and after a cable is cut or mended, and the fabric is set up again, with those that are there then: nothing of the time before
--- is left, but for the masks, which stay
+-- is left, except the masks, which stay
 abbrev pub RecabledIsAsBroughtUp : Type 0
 RecabledIsAsBroughtUp =
     (plan : TopologyState) (cabling : CablingState) (before roots : List ℕ) (keys : List (List ℕ)) (routes next : RoutesState)

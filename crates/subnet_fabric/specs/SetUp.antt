@@ -65,7 +65,7 @@ pub record IsSetUpBy (was : FabricState) (roots : List ℕ) (keys : List (List �
   pub is : fabric ≡ all_pushed routes keys was
 
 -- ---- why it does not
--- between a switch and a port there is no legal path, and between no earlier pair, by their LIDs
+-- between a switch and a port there is no up/down path, and between no earlier pair, by their LIDs
 pub record HasNoPathFrom (fabric : FabricState) (roots : List ℕ) (switch port : ℕ) : Type 0 where
   pub graph : GraphState
   pub laid : IsLaidOut fabric graph
@@ -99,7 +99,7 @@ abbrev pub RoutesAre : FabricState → List ℕ → Result RoutesState FabricFau
 RoutesAre fabric roots (Ok routes) = AreRoutesOver fabric roots routes
 RoutesAre fabric roots (Err fault) = IsNotSetUp fabric roots fault
 
--- where it is not set up, it is as it was
+-- if it is not set up, it is as it was
 abbrev pub SetsUp : FabricState → List ℕ → List (List ℕ) → FabricState → Result RoutesState FabricFault → Type 0
 SetsUp was roots keys left (Ok routes) = IsSetUpBy was roots keys routes left
 SetsUp was roots keys left (Err fault) = IsNotSetUp was roots fault × (left ≡ was)

@@ -22,7 +22,7 @@ abbrev pub CanComeUp : TopologyState → Type 0
 CanComeUp plan = CanBeSetUp (fabric_of plan) (root_guids plan)
 
 -- ---- which cables are in place
--- those that are there where the cable between these ports is cut, or mended; cables to channel adapters stay
+-- those that are there if the cable between these ports is cut, or mended; cables to channel adapters stay
 abbrev pub cabling_after : TopologyState → PortRef → PortRef → Bool → CablingState → CablingState
 cabling_after plan a b up was =
     if is_switch_at plan.nodes a.node && is_switch_at plan.nodes b.node then cabling_with up a b was else was

@@ -29,7 +29,7 @@ MasksLetItStand =
     (plan : TopologyState) (keys : List (List ℕ)) (routes : RoutesState) (receives : ℕ → ℕ → Bool) (fabric : FabricState)
     → IsStanding plan keys routes fabric → IsStanding plan keys routes (all_masks_pushed routes receives fabric)
 
--- whichever cables are cut, with the keys of the listed ports and with masks of groups it is the fabric of the list and of these
+-- whichever cables are cut, with the keys of the listed ports and with MFTs of groups it is the fabric of the list and of these
 -- groups
 abbrev pub AStandingFabricIsAsListed : Type 0
 AStandingFabricIsAsListed =

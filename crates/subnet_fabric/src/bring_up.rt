@@ -32,7 +32,7 @@ impl Model for BroughtUp {
 
 /// The fabric of a topology, with the keys of its end ports, which stand in order of LID.
 ///
-/// `Sweep` exactly where a cable is too far from the subnet manager for any SMP, and `NoLegalPath` where the topology's
+/// `Sweep` if and only if a cable is too far from the SM for any SMP, and `NoLegalPath` if and only if the topology's
 /// roots leave a port without a way. Nothing else is refused but memory.
 pub fn bring_up_fabric(
     alloc: Global,

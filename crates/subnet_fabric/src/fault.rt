@@ -15,7 +15,7 @@ pub enum FabricFault {
     /// The sweep did not find the fabric.
     #[error("the sweep did not find the fabric")]
     Sweep(SweepFault),
-    /// From a switch that carries adapters' ports no legal path leads to one of these. Of all such pairs this is the first,
+    /// From a switch that carries adapters' ports no up/down path leads to one of these. Of all such pairs this is the first,
     /// by the switch's LID and then by the port's.
     #[error("no legal path leads from a switch to a port")]
     NoLegalPath {

@@ -12,25 +12,25 @@ pub fn a_fabric_is_brought_up_as_listed()
     ensures { AFabricIsBroughtUpAsListed }
 {}
 
-/// A fabric that is brought up, with the masks of groups in its switches, is the fabric of the topology's list of ports and
+/// A fabric that is brought up, with MFTs of groups in its switches, is the fabric of the topology's list of ports and
 /// of these groups: so what it delivers to a group is what the list says of those that are in it.
 pub fn a_fabric_with_groups_is_as_listed()
     ensures { AFabricWithGroupsIsAsListed }
 {}
 
-/// Where some cable of a topology's fabric is too far for any SMP, no pair is reported that has no legal path, and the fabric
+/// If some cable of a topology's fabric is too far for any SMP, no pair is reported that has no up/down path, and the fabric
 /// does not come up.
 pub fn too_far_excludes_the_rest()
     ensures { TooFarExcludesTheRest }
 {}
 
-/// Where some pair of a sound topology has no legal path, its fabric does not come up, in whatever order a sweep may find
+/// If some pair of a sound topology has no up/down path, its fabric does not come up, in whatever order a sweep may find
 /// its switches.
 pub fn no_path_excludes_coming_up()
     ensures { NoPathExcludesComingUp }
 {}
 
-/// The pair of LIDs that is reported to have no legal path is one, in whatever order a sweep may find the switches.
+/// The pair of LIDs that is reported to have no up/down path is one, in whatever order a sweep may find the switches.
 pub fn one_pair_has_no_path()
     ensures { OnePairHasNoPath }
 {}
@@ -52,8 +52,8 @@ pub fn brought_up_is_up_with_all()
     ensures { BroughtUpIsUpWithAll }
 {}
 
-/// A fabric that is up with some of its cables stays so when the masks of groups are pushed into all its switches, and then
-/// nothing is left of the masks before.
+/// A fabric that is up with some of its cables stays so when MFTs of groups are pushed into all its switches, and then
+/// nothing is left of the entries before.
 pub fn masks_keep_it_up()
     ensures { MasksKeepItUp }
 {}

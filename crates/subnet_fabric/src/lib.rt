@@ -1,7 +1,7 @@
 //! The simulated fabric of a topology, brought up: its ports named by LIDs, its tables filled, its keys in place.
 //!
-//! [`set_up`] sweeps any good fabric, assigns LIDs, computes routes from the roots and pushes ports, key tables and linear
-//! forwarding tables (IBA volume 1, chapter 14): `specs/SetUp.antt` says what the fabric is then, and why it may not be set
+//! [`set_up`] sweeps any good fabric, assigns LIDs, computes routes from the roots and pushes ports, P_Key tables and
+//! LFTs (IBA volume 1, chapter 14): `specs/SetUp.antt` says what the fabric is then, and why it may not be set
 //! up. [`bring_up_fabric`] powers the fabric of a topology up and sets it up (`specs/BringUp.antt`). That it is
 //! the fabric of the list of end ports, so that packets go as the list reports, is the law
 //! [`a_fabric_is_brought_up_as_listed`]; that one thing becomes of a topology's fabric say

@@ -52,7 +52,7 @@ pub fn manage<W: SmpWire>(
 }
 
 /// Sets up the fabric behind a wire: sweeps it, names its end ports by LIDs, computes routes from the roots, which are named
-/// by their GUIDs, and pushes ports, key tables and linear forwarding tables. Its end ports have to be those that are asked
+/// by their GUIDs, and pushes ports, P_Key tables and LFTs. Its end ports have to be those that are asked
 /// for; their GUIDs and their keys stand in order of LID. Switches that do not enforce partitions are no fault: it counts their
 /// ports.
 ///

@@ -1,5 +1,5 @@
 //! How a fabric that is up is set up again after a cable of it is cut, or mended. That is planned first ([`plan`]), so that nothing
-//! changes where the fabric could not be set up again.
+//! changes if the fabric could not be set up again.
 
 ghost use Rattle.subnet_fabric.specs.Standing.{IsStanding, Recables};
 
@@ -15,10 +15,10 @@ use topo_file::Topology;
 use updn_routes::Routes;
 
 /// Cuts the cable between two switches of a topology's fabric that is up, or mends it, and sets the fabric up again, as from
-/// power-up: the new routes, or none where all stays as it is. The keys of the end ports stand in order of LID.
+/// power-up: the new routes, or none if all stays as it is. The keys of the end ports stand in order of LID.
 ///
-/// All stays where there is no such cable that can be cut, or mended; where switches would not be joined any more, or a cable
-/// would be too far from the subnet manager for any SMP; and where the topology's roots would leave a port without a way. The
+/// All stays if there is no such cable that can be cut, or mended; if switches would not be joined any more, or a cable
+/// would be too far from the subnet manager for any SMP; and if the topology's roots would leave a port without a way. The
 /// masks of multicast forwarding tables stay in either case. It can only run out of memory; then some of the fabric may have
 /// changed.
 pub fn recable(

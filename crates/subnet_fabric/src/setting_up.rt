@@ -18,11 +18,11 @@ use table_push::{known_to_lead_home, push_all};
 use updn_routes::{Routes, routes};
 
 /// Sets up a good fabric whose links show and whose switches are joined, whatever was pushed before: sweeps it, names its end
-/// ports by LIDs, computes routes from the roots, which are named by their GUIDs, and pushes ports, key tables and linear
-/// forwarding tables. The keys of the end ports stand in order of LID.
+/// ports by LIDs, computes routes from the roots, which are named by their GUIDs, and pushes ports, P_Key tables and
+/// LFTs. The keys of the end ports stand in order of LID.
 ///
-/// `Sweep` exactly where a cable is too far from the subnet manager for any SMP or the fabric is too big, and `NoLegalPath`
-/// where the roots leave a port without a way; then, and if an allocation fails, the fabric is as it was.
+/// `Sweep` if and only if a cable is too far from the SM for any SMP or the fabric is too big, and `NoLegalPath` if and only
+/// if the roots leave a port without a path; then, and if an allocation fails, the fabric is as it was.
 pub fn set_up(
     alloc: Global,
     fabric: &mut Fabric,

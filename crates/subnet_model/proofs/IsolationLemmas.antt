@@ -141,7 +141,7 @@ no_reply_at : (p : ℕ) (own : SubnetPort) (key : ℕ) (mads : List (List ℕ)) 
 no_reply_at p own key [] other = refl
 no_reply_at p own key (mad ∷ mads) other = rw other (no_reply_at p own key mads other)
 
--- ---- an administrator that keeps ports apart
+-- ---- an SA that keeps ports apart
 -- where what p sees stays the same, what is alike to it stays so
 moved : {S V : Type 0} {is_sound : S → Bool} {sees : ℕ → S → V} (p : ℕ) (s t after : S) → Alike is_sound sees p s t → is_sound after ≡ true → sees p after ≡ sees p s
     → Alike is_sound sees p after t
@@ -424,7 +424,7 @@ received_slids ports p has_joined command sender found held = elim (cases_Bool (
     arrived : List PortEvent
     arrived = received_by (reaches_joined has_joined command) ports sender command
 
--- the subnet manager's port is near whomever it answers
+-- the SM port is near whomever it answers
 shares_with_manager : (ports : List SubnetPort) (own : SubnetPort) (key answering : ℕ) (manager : SubnetPort) → find (λ port. port.lid == 1) ports ≡ Some manager
     → find (λ held. matches held key) manager.keys ≡ Some answering → holds key own.keys ≡ true → shares_with ports own manager.guid ≡ true
 shares_with_manager ports own key answering manager there matching held =

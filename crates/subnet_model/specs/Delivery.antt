@@ -26,23 +26,23 @@ refusal_of sender command =
     then Some ReservedDlid
     else None
 
--- a packet reaches the adapter port of its destination LID, and another than its sender that has joined a multicast
--- group of that LID, if that port holds a key that matches the packet's
+-- a packet reaches a port of an adapter that holds a key which matches the packet's, if the port has the destination LID, or has
+-- joined a multicast group of that LID and is not the sender
 abbrev pub reaches_joined : (ℕ → Bool) → SendCommand → SubnetPort → Bool
 reaches_joined has_joined command port =
     ((has_joined port.guid && not (port.guid == command.port_guid)) || (port.lid == command.dlid))
     && (not (is_switch_type port.node_type) && accepts command.p_key port.keys)
 
--- whom it reaches where no port has joined a group
+-- whom it reaches if no port has joined a group
 abbrev pub reaches : SendCommand → SubnetPort → Bool
 reaches command port = reaches_joined (λ guid. false) command port
 
 -- ---- subnet administration
--- what is sent to the subnet manager's port, and to the queue pair of general services, is for it
+-- what is sent to the SM port, and to the queue pair of general services, is for it
 abbrev pub is_for_sa : SendCommand → Bool
 is_for_sa command = (command.dlid == manager_lid) && is_general_services command.destination_qp
 
--- the key by which the subnet manager's port answers what travels under this key: the one of its own that matches
+-- the key by which the SM port answers what travels under this key: the one of its own that matches
 abbrev pub key_that_matches : ℕ → Option SubnetPort → Option ℕ
 key_that_matches key (Some manager) = find (λ held. matches held key) manager.keys
 key_that_matches key None = None

@@ -2,7 +2,7 @@
 use Rattle.std.specs.Prelude.{ℕ, ◌+◌, ◌&&◌, not, List, map, count_by, if◌then◌else◌, nat_lt}
 use Rattle.pkey_rules.specs.declared.end_port.EndPort.{EndPort}
 
--- the subnet manager's port has LID 1, the others follow from 2 in order of their GUIDs
+-- the SM port has LID 1, the others follow from 2 in order of their GUIDs
 abbrev pub lid_of : List EndPort → EndPort → ℕ
 lid_of ports port =
     if port.is_sm

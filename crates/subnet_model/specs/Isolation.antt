@@ -11,7 +11,7 @@ use Rattle.subnet_model.specs.Report.{answered_in_turn, report_by}
 use Rattle.subnet_model.specs.Restriction.{commands_of, events_at}
 use Rattle.subnet_model.specs.Source.{HaveSlidsNear}
 
--- two sound states are alike to the port of this GUID where it sees the same of them
+-- two sound states are alike to the port of this GUID if it sees the same of them
 pub record Alike {S V : Type 0} (is_sound : S → Bool) (sees : ℕ → S → V) (p : ℕ) (s t : S) : Type 0 where
   pub left_sound : is_sound s ≡ true
   pub right_sound : is_sound t ≡ true
@@ -47,16 +47,16 @@ module _ {S V : Type 0} (configuration : ConfigurationState) (administrator : Ad
         → sees p (reaction own mad s).1 ≡ sees p (reaction own mad t).1
     pub groups : (p mlid : ℕ) (s t : S) → Alike is_sound sees p s t → administrator.receives s mlid p ≡ administrator.receives t mlid p
 
-  -- an administrator keeps ports apart
+  -- an SA keeps ports apart
   pub record KeepsApart : Type 0 where
     pub sound : StaysSound
     pub unseen : IsUnseen
     pub alike : IsServedAlike
 
--- A step keeps a port to itself, where some states are alike to that port: a command of a port that is far from it
--- brings it no event, and leaves a state that is alike to whatever was alike before; a near one brings it the same
--- events in states that are alike, and leaves states that are alike. The start is alike to itself; of a list of events
--- those are its own that are its own in the parts.
+-- A step keeps a port to itself, where `alike` says which states are alike to that port. A command of a port far from it brings it
+-- no event, and leaves a state that is alike to each that was alike before. A command of a port near it brings it the same events
+-- in states that are alike, and leaves states that are alike. The start is alike to itself. Of two lists of events together its own
+-- events are those of the first and then those of the second.
 pub record Isolates {S C E : Type 0} (start : S) (step : S → C → List E × S) (alike : S → S → Type 0)
     (is_near : C → Bool) (own_events : List E → List E) : Type 0 where
   pub far : (s t : S) (c : C) → is_near c ≡ false → alike s t

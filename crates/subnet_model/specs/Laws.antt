@@ -42,7 +42,7 @@ RestrictionsDropCables =
     (in_set : ℕ → Bool) (command : CableCommand) (commands : List Command)
     → commands_of in_set (Cable command ∷ commands) ≡ commands_of in_set commands
 
--- where no two ports have one LID, the port of a LID near p is near p
+-- if no two ports have one LID, the port of a LID near p is near p
 abbrev pub ThePortOfALidIsNear : Type 0
 ThePortOfALidIsNear =
     (ports : List SubnetPort) (p lid : ℕ) → IsDistinct same_lid ports → is_lid_near ports p lid ≡ true

@@ -34,7 +34,7 @@ abbrev pub unless_refused : {S : Type 0} → Option Refusal → ℕ → S → Li
 unless_refused (Some refusal) guid state happens = (record { port_guid = guid; what = Refused refusal } ∷ [], state)
 unless_refused None guid state happens = happens
 
--- ---- what is for subnet administration comes to it at the subnet manager's port, and its answers to the port that asked
+-- ---- what is for subnet administration comes to it at the SM port, and its answers to the port that asked
 -- one MAD after another, each answered from what is remembered after the one before
 abbrev pub answered_in_turn : {S : Type 0} → (List ℕ → S → List (List ℕ) × S) → List (List ℕ) → S → List (List ℕ) × S
 answered_in_turn answer [] state = ([], state)
@@ -56,7 +56,7 @@ reply_to own key mad = record {
   what = Received (record { slid = manager_lid; dlid = own.lid; p_key = key; destination_qp = general_services_qp; payload = mad });
 }
 
--- where no key of the subnet manager's port matches the packet's, it does not come to subnet administration
+-- if no key of the SM port matches the packet's, it does not come to subnet administration
 abbrev pub replied : {S : Type 0} → SubnetPort → Option ℕ → S → List (List ℕ) × S → List PortEvent × S
 replied own (Some key) state answered = (map (reply_to own key) answered.0, answered.1)
 replied own None state answered = ([], state)

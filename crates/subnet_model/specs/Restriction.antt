@@ -5,7 +5,7 @@ use Rattle.subnet_model.specs.declared.command.Command.{Command}
 use Rattle.subnet_model.specs.declared.command.Command.TheVariants.{Ask, Cable, Send}
 use Rattle.subnet_model.specs.declared.event.PortEvent.{PortEvent}
 
--- the port that acts, by its GUID; none where a cable is cut or mended
+-- the port that acts, by its GUID; none if a cable is cut or mended
 abbrev pub actor : Command → Option ℕ
 actor (Send command) = Some command.port_guid
 actor (Ask command) = Some command.port_guid

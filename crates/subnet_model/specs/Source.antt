@@ -23,7 +23,7 @@ HasSlidNear ports p (Refused refusal) = Unit {0}
 abbrev pub HaveSlidsNear : List SubnetPort → ℕ → List PortEvent → Type 0
 HaveSlidsNear ports p events = All (λ event. HasSlidNear ports p event.what) (events_at p events)
 
--- ---- where no two ports have one LID, a SLID names one port
+-- ---- if no two ports have one LID, a SLID names one port
 abbrev pub same_lid : SubnetPort → SubnetPort → Bool
 same_lid a b = a.lid == b.lid
 

@@ -5,7 +5,7 @@ ghost use Rattle.subnet_model.specs.Groups.{GroupsReachOthers};
 ghost use Rattle.subnet_model.specs.Laws.{EveryKeeperIsolates, RestrictionsDropCables, SlidsNameTheirPorts, SourcesAreRead, ThePortOfALidIsNear};
 ghost use Rattle.subnet_model.specs.WrongRules.{DestinationsAreNoSources, NotAllComesFromNear};
 
-/// Whoever answers what is asked of the subnet administration: where it keeps ports apart, so does a subnet. A command
+/// Whoever answers what is asked of the subnet administration: if it keeps ports apart, so does a subnet. A command
 /// of a port that is far from another brings that one no event, and leaves a state that is alike to it; one of a port
 /// near it brings it the same events in states that are alike, and leaves them alike.
 pub fn every_keeper_isolates<S, V>()
@@ -22,18 +22,18 @@ pub fn groups_reach_others()
     ensures { GroupsReachOthers }
 {}
 
-/// A LID that only one port has is that port's: where it is the LID of a port near another, that port is
+/// A LID that only one port has is that port's: if it is the LID of a port near another, that port is
 /// near it.
 pub fn the_port_of_a_lid_is_near()
     ensures { ThePortOfALidIsNear }
 {}
 
-/// Where no two ports have one LID, what a port receives comes from the ports near it.
+/// If no two ports have one LID, what a port receives comes from the ports near it.
 pub fn slids_name_their_ports()
     ensures { SlidsNameTheirPorts }
 {}
 
-/// Where no two ports have one LID, a packet comes from near a port if and only if its SLID is the LID of a port near it.
+/// If no two ports have one LID, a packet comes from near a port if and only if its SLID is the LID of a port near it.
 pub fn sources_are_read()
     ensures { SourcesAreRead }
 {}

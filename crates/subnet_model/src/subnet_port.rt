@@ -8,7 +8,7 @@ use pkey_rules::{KeyTable, PARTITIONS};
 /// their LIDs.
 #[derive(Debug, Drop)]
 pub struct SubnetPort {
-    /// Its address within the subnet, from 1; the subnet manager's port has 1.
+    /// Its address within the subnet, from 1; the SM port has 1.
     pub lid: u16,
     /// Its GUID.
     pub guid: u64,

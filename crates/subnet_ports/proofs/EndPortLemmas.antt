@@ -59,7 +59,7 @@ count_less : {X : Type 0} (f h : X → Bool) → ((x : X) → cond (f x) 1 0 ≤
 count_less f h each [] = lit≤ tt
 count_less f h each (x ∷ xs) = omega (arith, each x, count_less f h each xs, counted f x xs, counted h x xs)
 
--- ---- the order: the subnet manager's port first, then by GUID
+-- ---- the order: the SM port first, then by GUID
 abbrev key_by : Bool → ℕ → ℕ
 key_by is_sm guid = cond is_sm 0 (1 + guid)
 

@@ -121,7 +121,7 @@ any_end graph guid =
     (any_map (adapter_end graph.manager) (λ (port : EndPort). port.guid == guid) graph.ports ∙ sym (any_map end_of_adapter (λ (end : FabricPort). end.guid == guid) graph.ports))
     ∙ sym (list_any-append (λ (end : FabricPort). end.guid == guid) (map end_of_switch graph.switches) (map end_of_adapter graph.ports))
 
--- a GUID has a LID exactly where an end port of the graph has it
+-- a GUID has a LID if and only if an end port of the graph has it
 with_lid : (graph : GraphState) (guids : List ℕ) (guid : ℕ) → AreLids (end_ports graph) guids
     → has_guid guid guids ≡ list_any (λ (end : FabricPort). end.guid == guid) (end_ports_in graph)
 with_lid graph guids guid are =

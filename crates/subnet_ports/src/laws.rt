@@ -3,7 +3,7 @@
 
 ghost use Rattle.subnet_ports.specs.Laws.{EndPortsAreTheFabrics, EndPortsStandInOrder, SweepsFindWhatIsListed};
 
-/// Of every sound topology, under whatever partitions: LIDs count from 1, the subnet manager's port has 1 and
+/// Of every sound topology, under whatever partitions: LIDs count from 1, the SM port has 1 and
 /// the others follow in order of GUID; the ports are the end ports of the topology, each once.
 pub fn end_ports_stand_in_order()
     ensures { EndPortsStandInOrder }

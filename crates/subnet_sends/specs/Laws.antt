@@ -32,7 +32,7 @@ PortsStampAsReported =
 abbrev pub reported : DeliveryState → PortEvent
 reported delivered = record { port_guid = delivered.port; what = Received delivered.packet }
 
--- what the fabric delivers of a packet is what the subnet reports, where these ports receive what is sent to groups
+-- what the fabric delivers of a packet is what the subnet reports, if these ports receive what is sent to groups
 abbrev pub DeliveriesAreWhatIsReported : Type 0
 DeliveriesAreWhatIsReported =
     (ports : List SubnetPort) (receives : ℕ → ℕ → Bool) (fabric : FabricState) (command : SendCommand) (sender : SubnetPort)

@@ -31,7 +31,7 @@ sent_to_reply request key mad = record {
   payload = mad;
 }
 
--- these events come of one MAD: those that the fabric delivers, and none where the port will not send it
+-- these events come of one MAD: those that the fabric delivers, and none if the port will not send it
 pub record ComesOfReply (fabric : FabricState) (command : SendCommand) (events : List Event) : Type 0 where
   pub nobody : (HasPort fabric.nodes command.port_guid → ⊥) → events ≡ []
   pub refused : (refusal : Refusal) → Stamps fabric command (Err refusal) → events ≡ []
@@ -45,7 +45,7 @@ ComeOfReplies fabric request key (mad ∷ mads) events =
     × ComeOfReplies fabric request key mads rest × (events ≡ first ++ rest)
 
 -- ---- in the fabric of a list of ports
--- a request of a listed port that the subnet manager's port received, which has a key that matches the one it travels under
+-- a request of a listed port that the SM port received, which has a key that matches the one it travels under
 pub record IsRequestOf (ports : List SubnetPort) (own : SubnetPort) (request : DeliveryState) (key : ℕ) : Type 0 where
   pub manager : SubnetPort
   pub first : find (λ port. port.lid == manager_lid) ports ≡ Some manager
@@ -64,7 +64,7 @@ RepliesAreAsListed fabric request key mads events =
     (ports : List SubnetPort) (receives : ℕ → ℕ → Bool) (own : SubnetPort) → IsFabricOf ports receives fabric
     → IsRequestOf ports own request key → map event_of events ≡ map (reply_to own key) mads
 
--- what is for subnet administration comes to the subnet manager's port, exactly where that has a key that matches
+-- a packet for subnet administration comes to the SM port if and only if that has a key that matches
 abbrev pub received_under : Option ℕ → SubnetPort → Packet → List PortEvent
 received_under (Some key) manager packet = record { port_guid = manager.guid; what = Received packet } ∷ []
 received_under None manager packet = []

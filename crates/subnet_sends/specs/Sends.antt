@@ -64,12 +64,12 @@ pub record AreReceived (fabric : FabricState) (sender : ℕ) (packet : Packet) (
 
 -- this comes of the command
 pub record ComesOf (fabric : FabricState) (command : SendCommand) (sent : Sent) : Type 0 where
-  -- where no port of a channel adapter has its GUID, nothing happens
+  -- if no port of a channel adapter has its GUID, nothing happens
   pub nobody : (HasPort fabric.nodes command.port_guid → ⊥) → AreEvents sent []
   pub refused : (refusal : Refusal) → Stamps fabric command (Err refusal)
       → AreEvents sent (Refused command.port_guid refusal ∷ [])
   pub carried : (packet : Packet) → Stamps fabric command (Ok packet) → AreReceived fabric command.port_guid packet (events_in sent)
-  -- it is a request exactly where it is for subnet administration
+  -- it is a request if and only if it is for subnet administration
   pub request : (packet : Packet) → Stamps fabric command (Ok packet) → is_request sent ≡ is_for_sa command
 
 -- ---- in the fabric of a list of ports this is what the list reports
@@ -118,7 +118,7 @@ pub record ComesOfAsk (fabric : FabricState) (command : AskCommand) (sent : Sent
   pub asked : (at : PortRef) (own : AdapterState) → adapter_at fabric.nodes at ≡ Some own → own.port_guid ≡ command.port_guid
       → AsksBy fabric command.port_guid (given_to_ask own command) sent
 
--- in the fabric of a list of ports: a request under the key by which the port asks, where it has one
+-- in the fabric of a list of ports: a request under the key by which the port asks, if it has one
 abbrev pub AsksAsListed : List SubnetPort → (ℕ → ℕ → Bool) → SubnetPort → AskCommand → Option ℕ → Sent → Type 0
 AsksAsListed ports receives own command (Some key) sent = IsAsListed ports receives own (sent_to_ask command key) None sent
 AsksAsListed ports receives own command None sent =

@@ -15,8 +15,8 @@ pub fn deliveries_are_what_is_reported()
     ensures { DeliveriesAreWhatIsReported }
 {}
 
-/// In the fabric of a list of ports, what is for subnet administration comes to the subnet manager's port and to no other,
-/// exactly where that has a key that matches the packet's.
+/// In the fabric of a list of ports, a packet for subnet administration comes to the SM port and to no other,
+/// if and only if that has a key that matches the packet's.
 pub fn requests_come_to_the_manager()
     ensures { RequestsComeToTheManager }
 {}

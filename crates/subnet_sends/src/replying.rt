@@ -16,8 +16,8 @@ use pkey_rules::PKey;
 use std::alloc::{AllocError, Global};
 use subnet_model::SubnetPort;
 
-/// The key under which the subnet manager's port answers what travels under this key: the one of its own that matches. None
-/// where it has none, and does not accept the packet.
+/// The key under which the SM port answers what travels under this key: the one of its own that matches. None
+/// if it has none, and does not accept the packet.
 pub fn manager_key(ports: &[SubnetPort], key: PKey) -> Option<PKey>
     ensures { result ≡ manager_key ports.now key }
 {

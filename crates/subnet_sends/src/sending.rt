@@ -60,7 +60,7 @@ pub fn ask(alloc: Global, fabric: &Fabric, command: &AskCommand) -> Result<Sent,
     }
 }
 
-/// The packet by which the port asks: under the key of a full member of the default partition where it holds that, else
+/// The packet by which the port asks: under the key of a full member of the default partition if it holds that, else
 /// of a limited one.
 fn asked(fabric: &Fabric, from: PortRef, command: &AskCommand) -> Result<Packet, Refusal>
     requires { is_some (adapter_at fabric.now.nodes from) ≡ true }

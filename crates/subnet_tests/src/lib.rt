@@ -1,5 +1,5 @@
 //! Tests of whole runs, through public calls alone. They say what no clause
-//! does: what faults say in words, worked ways of packets, and that calls succeed where memory is there.
+//! does: what faults say in words, worked ways of packets, and that calls succeed if memory is there.
 #![tactic(auto)]
 
 #[cfg(test)]

@@ -83,7 +83,7 @@ h1/1 stamps 0x0004 0x0005 0xffff
 A in 2 drops top
 ",
     ),
-    // In the key table of port 2 byte 1 is of the default partition's key.
+    // In the P_Key table of port 2 byte 1 is of the default partition's key.
     (
         TWO_SWITCHES,
         &[(PKeyTable, 2 << 16, &[1], 1, &[0])],

@@ -286,7 +286,7 @@ module _ (fabric : FabricState) (graph : GraphState) (good : IsGood fabric) (lay
       by_far place number node at None far has = absurd (none_in one has)
       by_far place number node at (Some there) far has = by_kind place number node at there far (is_switch_at fabric.nodes there.node) refl has
 
-  -- ---- the subnet manager's port
+  -- ---- the SM port
   pub first : (there : PortRef) × (far_end fabric.cables fabric.manager ≡ Some there)
   first = far_of fabric.cables fabric.manager good.manager_cabled
 

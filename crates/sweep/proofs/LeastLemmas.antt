@@ -108,7 +108,7 @@ reached fabric found deep h here (number ∷ numbers) ends asked shallow is walk
     (goes fabric there numbers some goes_on switch)) goes_on switch))
     walked
 
--- ---- and so from the subnet manager's port
+-- ---- and so from the SM port
 asked_to : (fabric : FabricState) (found : List Found) (i count : ℕ) (one : Found) → IsDiscovery fabric found → IsAsked fabric found i count
     → StandsAt found i one → IsAskedTo fabric found (length one.path)
 asked_to fabric found i count one so_far asked here k some there near = by (nat_le i k) refl

@@ -1,4 +1,4 @@
--- The first two steps of a sweep over a good fabric: the subnet manager's port, and the switch at its cable.
+-- The first two steps of a sweep over a good fabric: the SM port, and the switch at its cable.
 use Rattle.std.proofs.Common.{ℕ, ◌≡◌, ◌∙◌, ap, refl, sym, ◌==◌, ◌||◌, not, Bool, true, false, if◌then◌else◌, List, [], ◌∷◌, ◌++◌, length, slice_get}
 use Rattle.std.proofs.Common.{Option, Some, None, option_map, Result, Ok, Err}
 use Rattle.std.specs.Option.{ok_or, option_and_then, option_map_or}
@@ -71,7 +71,7 @@ pub switch_at : (fabric : FabricState) (at : PortRef) (seen : Seen) (name path :
     → switch_shown seen name path ≡ switch_of fabric (record { node = at.node; path = path })
 switch_at fabric at seen name path switch is named = switch_by fabric at (slice_get fabric.nodes at.node) seen name path refl switch is named
 
--- ---- the cable of the subnet manager's port
+-- ---- the cable of the SM port
 second_is : (x : Bool) → false || x ≡ true → x ≡ true
 second_is x h = h
 

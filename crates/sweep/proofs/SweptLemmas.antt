@@ -1,4 +1,4 @@
--- The graph of a good fabric is whole exactly where a sweep of the fabric finds all of it.
+-- The graph of a good fabric is whole if and only if a sweep of the fabric finds all of it.
 use Rattle.std.proofs.Common.{◌≡◌, ℕ, ◌⊎◌, Bool, true, false, ◌==◌, ◌||◌, List, [], ◌∷◌, get_or}
 use Rattle.std.proofs.Common.{Option, Some, None, option_map, slice_get, refl, sym, ap, subst, ◌∙◌, inl, inr, arith}
 use Rattle.std.specs.Bool.{Decides}

@@ -263,7 +263,7 @@ graph_joined fabric found good so_far =
         let at = at_place found (suc k) within in
         rw (near_there fabric found (suc k) at.0 good so_far at.1 (so_far.joined (suc k) at.0 (omega arith) at.1)) (or-true (suc k == 0))
 
--- ---- the subnet manager's port is among the ports
+-- ---- the SM port is among the ports
 manager_port : (fabric : FabricState) (at : PortRef) (manager : ℕ) (o : Option Seen) → is_switch_at fabric.nodes fabric.manager.node ≡ false
     → seen_at fabric fabric.manager ≡ o → option_map (λ seen. seen.port_guid) o ≡ Some manager
     → list_any (λ port. port.port_guid == manager) (port_to fabric at fabric.manager) ≡ true

@@ -14,7 +14,7 @@ use Rattle.fabric_parts.specs.declared.limits.TheConstants.{ADAPTER_PORTS, SWITC
 use Rattle.sweep.specs.declared.path.TheConstants.{PATH_HOPS}
 
 pub record GraphState : Type 0 where
-  -- the GUID of the subnet manager's port
+  -- the GUID of the SM port
   pub manager : ℕ
   pub switches : List GraphSwitch
   -- for each switch its links to other switches, by port; the other ends name switches by their places in that list
@@ -111,5 +111,5 @@ pub record IsGraph (graph : GraphState) : Type 0 where
   pub agree : all_agree graph.ports ≡ true
   -- no two ends of packets have one GUID
   pub guids : IsDistinct (λ a b. a == b) (end_guids graph.switches graph.ports)
-  -- the subnet manager's port is among them
+  -- the SM port is among them
   pub manager_there : list_any (λ port. port.port_guid == graph.manager) graph.ports ≡ true

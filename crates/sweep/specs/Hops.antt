@@ -1,4 +1,4 @@
--- How far the parts of a fabric are from the subnet manager's port, in cables.
+-- How far the parts of a fabric are from the SM port, in cables.
 use Rattle.std.specs.Prelude.{ℕ, ◌≡◌, ◌≤◌, true, List, ◌∷◌, length, Some}
 use Rattle.std.specs.List.{Contains}
 use Rattle.fabric_parts.specs.declared.cable.Cable.{Cable}
@@ -6,7 +6,7 @@ use Rattle.fabric_parts.specs.declared.cable.PortRef.{PortRef}
 use Rattle.smp_wire.specs.FabricState.{FabricState, is_switch_at}
 use Rattle.smp_wire.specs.Walk.{end_of}
 
--- some path that leaves by the subnet manager's port ends at that switch after so many hops or less
+-- some path that leaves by the SM port ends at that switch after so many hops or less
 pub record IsWithin (fabric : FabricState) (hops node : ℕ) : Type 0 where
   pub switch : is_switch_at fabric.nodes node ≡ true
   pub rest : List ℕ

@@ -12,13 +12,13 @@ use Rattle.sweep.specs.OfFabric.{IsLayoutOf, guid_at, nodes_of, placed, ports_at
 use Rattle.sweep.specs.Recabled.{IsWhole, MayBeCabled, with_cable, without}
 use Rattle.sweep.specs.Seen.{name_at, seen_at}
 
--- an end port is the graph's exactly where it is the fabric's, whatever its node holds
+-- an end port is the graph's if and only if it is the fabric's, whatever its node holds
 abbrev pub GraphsHaveTheEndPorts : Type 0
 GraphsHaveTheEndPorts =
     (fabric : FabricState) (graph : GraphState) (end : FabricPort) → IsGood fabric → IsLayoutOf graph fabric
     → Contains (end_ports_in graph) end ↔ ((at : PortRef) × (end_port_in fabric at ≡ Some end))
 
--- a graph is whole exactly where a sweep of its fabric finds all of it: where cables join the switches, and none is too far
+-- a graph is whole if and only if a sweep of its fabric finds all of it: if cables join the switches, and none is too far
 abbrev pub WholeGraphsAreSwept : Type 0
 WholeGraphsAreSwept =
     (fabric : FabricState) (graph : GraphState) → IsGood fabric → IsLayoutOf graph fabric
@@ -55,8 +55,8 @@ pub record IsCut (whole cut : FabricState) (a b : PortRef) : Type 0 where
 abbrev pub in_graph : {graph : GraphState} {fabric : FabricState} → IsLayoutOf graph fabric → PortRef → PortRef
 in_graph layout at = placed (nodes_of layout.found) at
 
--- where a cable between switches of a good fabric is cut, it can be taken from the graph, and the graph without it is that of
--- what is left; and where it is mended, it can be put into the graph, and the graph with it is that of the fabric then
+-- if a cable between switches of a good fabric is cut, it can be taken from the graph, and the graph without it is that of
+-- what is left; and if it is mended, it can be put into the graph, and the graph with it is that of the fabric then
 abbrev pub GraphsAreRecabled : Type 0
 GraphsAreRecabled =
     (whole cut : FabricState) (a b : PortRef) (graph : GraphState) → IsGood whole → IsCut whole cut a b

@@ -23,7 +23,7 @@ abbrev pub StandsAt : List Found → ℕ → Found → Type 0
 StandsAt found k one = slice_get found k ≡ Some one
 
 -- what is known of the first ports of a switch: the switches behind them were found, one hop further away at most; and
--- where that is further than an SMP goes, so were the switches at the other ends of their cables, near enough
+-- if that is further than an SMP goes, so were the switches at the other ends of their cables, near enough
 pub record IsKnownBehind (fabric : FabricState) (found : List Found) (one : Found) (count : ℕ) : Type 0 where
   pub found_behind : (number : ℕ) (there : PortRef) → 1 ≤ number → number ≤ count
       → far_end fabric.cables (port one.node number) ≡ Some there → is_switch_at fabric.nodes there.node ≡ true
@@ -45,7 +45,7 @@ pub record IsDiscovery (fabric : FabricState) (found : List Found) : Type 0 wher
   pub are : list_all (is_switch_at fabric.nodes) (nodes_of found) ≡ true
   pub few : length found ≤ SWITCHES
   pub lead : All (Leads fabric) found
-  -- the first switch is the one that the subnet manager's port is attached to
+  -- the first switch is the one that the SM port is attached to
   pub first : PortRef
   pub first_cable : far_end fabric.cables fabric.manager ≡ Some first
   pub first_found : is_found found 1 first.node ≡ true

@@ -57,11 +57,11 @@ pub record MayBeCabled (graph : GraphState) (a b : PortRef) : Type 0 where
   pub second_free : is_free graph.rows b ≡ true
 
 -- ---- whether the cables serve to sweep it
--- the place of the switch to which the subnet manager's port is attached
+-- the place of the switch to which the SM port is attached
 abbrev pub manager_switch : GraphState → ℕ
 manager_switch graph = unwrap_or (option_map (λ port. port.at.node) (find (λ port. port.port_guid == graph.manager) graph.ports)) 0
 
--- some path from the subnet manager's port comes to that switch that a hop can be added to: its first hop leads to the
+-- some path from the SM port comes to that switch that a hop can be added to: its first hop leads to the
 -- subnet manager's switch, and so a walk of two hops less than a path has at most leads on from there
 pub record IsNear (rows : List (List GraphLink)) (from place : ℕ) : Type 0 where
   pub steps : List ℕ

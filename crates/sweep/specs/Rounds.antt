@@ -8,7 +8,7 @@ use Rattle.sweep.specs.declared.graph.GraphPort.{GraphPort}
 use Rattle.sweep.specs.declared.path.TheConstants.{PATH_HOPS}
 use Rattle.sweep.specs.Joined.{is_next_to, is_walk_by}
 
--- the distance of a switch, where it is found
+-- the distance of a switch, if it is found
 abbrev pub found_at : List (Option ℕ) → ℕ → Option ℕ
 found_at found s = get_or found s None
 
@@ -16,7 +16,7 @@ abbrev pub is_exactly : Option ℕ → ℕ → Bool
 is_exactly None k = false
 is_exactly (Some j) k = j == k
 
--- one that is not found yet is at that distance where it is come to
+-- one that is not found yet is at that distance if it is come to
 abbrev pub or_further : Option ℕ → Bool → ℕ → Option ℕ
 or_further (Some j) come distance = Some j
 or_further None come distance = if come then Some distance else None

@@ -1,4 +1,4 @@
--- Where a sweep begins: at the subnet manager's port, and the switch that its cable leads to.
+-- Where a sweep begins: at the SM port, and the switch that its cable leads to.
 use Rattle.std.specs.Prelude.{◌≡◌, true, [], ◌∷◌, Some, option_map, Result, Ok, Err}
 use Rattle.fabric_parts.specs.Cable.{far_end}
 use Rattle.fabric_parts.specs.declared.cable.PortRef.{PortRef}

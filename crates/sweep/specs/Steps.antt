@@ -38,7 +38,7 @@ PortIsAsked fabric here path was next row more result =
     IsSweepable fabric → (found : List Found) (one : Found) (count : ℕ) → path ≡ one.path → IsAtPort fabric found one count was row here
     → Comes fabric (λ _. GoesOn fabric found here.node here.port next more) result
 
--- its cable is one hop too far for an SMP: the link is known where it was seen from its other end
+-- its cable is one hop too far for an SMP: the link is known if it was seen from its other end
 abbrev pub LinkIsTurned : FabricState → (here : PortRef) → SurveyState → (row more : List GraphLink) → Result (Unit {0}) SweepFault → Type 0
 LinkIsTurned fabric here survey row more result =
     IsSweepable fabric → (found : List Found) (one : Found) (count : ℕ) (there : PortRef) → IsAtPort fabric found one count survey row here

@@ -83,7 +83,7 @@ fn is_right_switch(switch: &GraphSwitch) -> bool
         && switch.path.len() <= PATH_HOPS
 }
 
-/// How many ports the switch at that place has; none, where there is no switch.
+/// How many ports the switch at that place has; none, if there is no switch.
 pub(crate) fn count_at(switches: &[GraphSwitch], place: usize) -> u8
     ensures { result ≡ count_at switches.now place }
 {
@@ -93,7 +93,7 @@ pub(crate) fn count_at(switches: &[GraphSwitch], place: usize) -> u8
     }
 }
 
-/// The links of the switch at that place; none, where there is no switch.
+/// The links of the switch at that place; none, if there is no switch.
 pub(crate) fn links_at(rows: &[GraphRow], place: usize) -> &[GraphLink]
     ensures { result.now ≡ get_or rows.now place [] }
 {
@@ -189,7 +189,7 @@ pub(crate) fn is_switch_port(switches: &[GraphSwitch], at: PortRef) -> bool
     1 <= at.port && at.port <= count_at(switches, at.node)
 }
 
-/// How many hops the path to the switch at that place has; none, where there is no switch.
+/// How many hops the path to the switch at that place has; none, if there is no switch.
 fn hops_to(switches: &[GraphSwitch], place: usize) -> usize
     ensures { result ≡ hops_to switches.now place }
 {

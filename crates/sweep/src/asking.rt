@@ -41,7 +41,7 @@ fn get<W: SmpWire>(
 
 /// What is seen of the node at the end of a path, and of the port there.
 ///
-/// Over a wire that stands for a good fabric it is what stands there, or `NoReply` where the path ends nowhere.
+/// Over a wire that stands for a good fabric it is what stands there, or `NoReply` if the path ends nowhere.
 pub(crate) fn look<W: SmpWire>(
     wire: &mut W,
     transaction_id: &mut u64,
@@ -59,7 +59,7 @@ pub(crate) fn look<W: SmpWire>(
 
 /// The name of the node at the end of a path.
 ///
-/// Over a wire that stands for a good fabric it is the node's, or `NoReply` where the path ends nowhere.
+/// Over a wire that stands for a good fabric it is the node's, or `NoReply` if the path ends nowhere.
 pub(crate) fn name_of<W: SmpWire>(
     wire: &mut W,
     transaction_id: &mut u64,
@@ -77,7 +77,7 @@ pub(crate) fn name_of<W: SmpWire>(
 
 /// Whether that port of the switch at the end of a path has a cable: whether its link is not Down.
 ///
-/// Over a wire that stands for a good fabric whose links show, it is so exactly where there is a cable.
+/// Over a wire that stands for a good fabric whose links show, it is so if and only if there is a cable.
 pub(crate) fn has_link<W: SmpWire>(
     wire: &mut W,
     transaction_id: &mut u64,

@@ -28,7 +28,7 @@ use std::alloc::Global;
 /// Where a sweep begins.
 #[derive(Drop)]
 pub(crate) struct Origin {
-    /// The GUID of the subnet manager's port.
+    /// The GUID of the SM port.
     pub manager: u64,
     /// The switch that its cable leads to.
     pub switch: GraphSwitch,
@@ -54,9 +54,9 @@ struct Behind {
     path: Path,
 }
 
-/// The subnet manager's port, learned by an SMP of no hop, and the switch that its cable leads to.
+/// The SM port, learned by an SMP of no hop, and the switch that its cable leads to.
 ///
-/// `WrongReply` where the first is no port of a channel adapter, or the second no switch.
+/// `WrongReply` if the first is no port of a channel adapter, or the second no switch.
 pub(crate) fn start<W: SmpWire>(
     wire: &mut W,
     transaction_id: &mut u64,
@@ -94,10 +94,10 @@ pub(crate) fn start<W: SmpWire>(
     })
 }
 
-/// Finds a fabric over a wire: learns the subnet manager's port, leaves by that port, and goes from switch to
+/// Finds a fabric over a wire: learns the SM port, leaves by that port, and goes from switch to
 /// switch in the order of their discovery, and on each from port to port.
 ///
-/// It returns over every wire, and what it gives is a graph whose switches are joined. `WrongReply` where replies
+/// It returns over every wire, and what it gives is a graph whose switches are joined. `WrongReply` if replies
 /// are none of such a graph.
 pub fn sweep<W: SmpWire>(alloc: Global, wire: &mut W) -> Result<Graph, SweepFault>
     ensures joined { IfOk result (λ graph. AllJoined graph.rows) }

@@ -43,7 +43,7 @@ impl SweepFault {
     }
 }
 
-/// What a sweep stops with where a request reported nothing: a refusal too is a wrong reply.
+/// What a sweep stops with if a request reported nothing: a refusal too is a wrong reply.
 pub(crate) fn fault_of(fault: ReplyFault) -> SweepFault
     ensures { result ≡ fault_of fault }
 {

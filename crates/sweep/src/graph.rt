@@ -164,7 +164,7 @@ impl Model for Graph {
 }
 
 impl Graph {
-    /// The GUID of the subnet manager's port.
+    /// The GUID of the SM port.
     pub fn manager(&self) -> u64
         ensures { result ≡ self.now.manager }
     {

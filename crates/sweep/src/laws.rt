@@ -15,14 +15,14 @@ pub fn graphs_have_the_end_ports()
     ensures { GraphsHaveTheEndPorts }
 {}
 
-/// The graph of a good fabric is whole exactly where a sweep of that fabric finds all of it: where cables join all
-/// switches, and no cable is too far from the subnet manager's port for an SMP.
+/// The graph of a good fabric is whole if and only if a sweep of that fabric finds all of it: if cables join all
+/// switches, and no cable is too far from the SM port for an SMP.
 pub fn whole_graphs_are_swept()
     ensures { WholeGraphsAreSwept }
 {}
 
-/// Where a cable between two switches of a good fabric is cut, it can be taken from the graph, and the graph without it is
-/// that of what is left; and where it is mended, it can be put into the graph, and the graph with it is that of the fabric
+/// If a cable between two switches of a good fabric is cut, it can be taken from the graph, and the graph without it is
+/// that of what is left; and if it is mended, it can be put into the graph, and the graph with it is that of the fabric
 /// then.
 pub fn graphs_are_recabled()
     ensures { GraphsAreRecabled }

@@ -1,6 +1,6 @@
 //! The sweep: a fabric found over a wire.
 //!
-//! [`sweep`] is the one call: it learns the subnet manager's port, leaves by that port, and goes from switch to
+//! [`sweep`] is the one call: it learns the SM port, leaves by that port, and goes from switch to
 //! switch in the order of their discovery. PortInfo reports whether a port has a cable, NodeInfo and
 //! NodeDescription what is behind it (IBA volume 1, 14.2.5.3 and chapter 14).
 //! Over a wire that stands for a good fabric the [`Graph`] is that fabric's, as `specs/OfFabric.antt` says;

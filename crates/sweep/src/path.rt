@@ -13,7 +13,7 @@ use std::marker::Model;
 /// Source: IBA volume 1, 14.2.1.2.
 pub const PATH_HOPS: usize = MAX_HOPS as usize;
 
-/// A path from the subnet manager's port: the ports by which its hops leave.
+/// A path from the SM port: the ports by which its hops leave.
 #[derive(Debug, Drop)]
 pub struct Path {
     ports: ArrayVec<u8, PATH_HOPS>,

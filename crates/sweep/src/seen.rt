@@ -22,7 +22,7 @@ pub struct Seen {
     pub local_port_num: u8,
 }
 
-/// What NodeInfo reports, or `WrongReply` where no node of a fabric shows it: a type that is none, a number of
+/// What NodeInfo reports, or `WrongReply` if no node of a fabric shows it: a type that is none, a number of
 /// ports that no such node has, a port that the node has not.
 #[tactic(auto, unfolding(crate::specs::Seen::seen_of))]
 pub fn seen_of(info: &NodeInfo) -> Result<Seen, SweepFault>

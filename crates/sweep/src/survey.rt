@@ -54,7 +54,7 @@ impl Survey {
         way_to(self.switches.as_slice(), place)
     }
 
-    /// How many ports the switch at that place has; none, where there is no switch.
+    /// How many ports the switch at that place has; none, if there is no switch.
     pub(crate) fn count_at(&self, place: usize) -> u8
         ensures { result ≡ count_at self.now.switches place }
     {
@@ -68,7 +68,7 @@ impl Survey {
         self.switches.place_of(guid)
     }
 
-    /// Adds a switch whose GUID is new, and gives its place. `TooManyNodes` where there is no room.
+    /// Adds a switch whose GUID is new, and gives its place. `TooManyNodes` if there is no room.
     pub(crate) fn add_switch(&mut self, switch: GraphSwitch) -> Result<usize, SweepFault>
         requires new { position (λ known. known.guid == switch.guid) self.old.switches ≡ None }
         ensures place { IfOk result (λ place. place ≡ length self.old.switches) }
@@ -85,7 +85,7 @@ impl Survey {
         Ok(place)
     }
 
-    /// Adds a port. `TooManyNodes` where there is no room.
+    /// Adds a port. `TooManyNodes` if there is no room.
     pub(crate) fn add_port(&mut self, port: GraphPort) -> Result<(), SweepFault>
         ensures ok { OnOk result (self.new ≡ record self.old { ports = self.old.ports ++ port ∷ [] }) }
         ensures room { OnOk result (length self.old.ports < ADAPTER_PORTS) }
@@ -115,7 +115,7 @@ impl Survey {
         seen_from(&self.rows, there)
     }
 
-    /// The graph of what was found. `WrongReply` where that is none, since replies contradict one another.
+    /// The graph of what was found. `WrongReply` if that is none, since replies contradict one another.
     pub(crate) fn into_graph(self, alloc: Global, manager: u64) -> Result<Graph, SweepFault>
         ensures ok { IfOk result (λ graph. graph ≡ graph_with manager self.switches self.rows self.ports) }
         ensures wrong { IsErrOf result WrongReply → IsGraph (graph_with manager self.switches self.rows self.ports) → ⊥ }

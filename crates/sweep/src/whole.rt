@@ -23,7 +23,7 @@ impl Graph {
         Ok(serve(&self.rows, &self.ports, &found))
     }
 
-    /// The place of the switch to which the subnet manager's port is attached.
+    /// The place of the switch to which the SM port is attached.
     fn manager_switch(&self) -> usize
         ensures { result ≡ manager_switch self.now }
     {
@@ -41,7 +41,7 @@ fn switch_of(ports: &[GraphPort], guid: u64) -> Option<usize>
         .map(|port| port.at.node)
 }
 
-/// How many cables lead from the switch at that place to each, where some do. It can only run out of memory.
+/// How many cables lead from the switch at that place to each, if some do. It can only run out of memory.
 fn distances(
     alloc: Global,
     rows: &[GraphRow],
@@ -82,7 +82,7 @@ fn spread(rows: &[GraphRow], found: &mut [Option<usize>], round: usize)
     }
 }
 
-/// Notes the distance of the switches at the other ends of links, where they are not found yet.
+/// Notes the distance of the switches at the other ends of links, if they are not found yet.
 fn reach(links: &[GraphLink], found: &mut [Option<usize>], distance: usize)
     ensures { (t : ℕ) → t < length found.old → found_at found.new t
         ≡ or_further (found_at found.old t) (list_any (λ link. link.to.node == t) links.now) distance }

@@ -25,7 +25,7 @@ use Rattle.switch_model.specs.SwitchState.{SwitchState, num_ports}
 abbrev pub part_at : {X : Type 0} → ℕ → List X → Result X MadStatus
 part_at number parts = ok_or (slice_get parts number) InvalidField
 
--- the modifier of a key table: the port in its high half, the block in its low half
+-- the modifier of a P_Key table: the port in its high half, the block in its low half
 abbrev pub key_port : ℕ → ℕ
 key_port modifier = modifier / 2 ^ 16
 

@@ -11,12 +11,12 @@ use Rattle.switch_model.specs.SwitchState.{SwitchState}
 
 -- the port of that number before and after
 pub record PortChangesAtMost (smp : List ℕ) (number : ℕ) (old new : SwitchPort) : Type 0 where
-  -- PortInfo only where it asks for this port's, and never a field that cannot be set
+  -- PortInfo only if it asks for this port's, and never a field that cannot be set
   pub info : (attribute_asked smp ≢ Ok PortInfo) ⊎ (number ≢ modifier_of smp) → new.info ≡ old.info
   pub unsettable : unsettable (nat_lt 0 number) new.info ≡ unsettable (nat_lt 0 number) old.info
-  -- a port is Down where it was Down
+  -- a port is Down if it was Down
   pub down : is_down new.info ≡ is_down old.info
-  -- the key table only where it asks for this port's, and then in the block that it names
+  -- the P_Key table only if it asks for this port's, and then in the block that it names
   pub keys : (attribute_asked smp ≢ Ok PKeyTable) ⊎ (number ≢ key_port (modifier_of smp)) → new.keys ≡ old.keys
   pub key_block : DiffersInBlock 32 (key_block (modifier_of smp)) old.keys new.keys
 
@@ -34,12 +34,12 @@ pub record ChangesAtMost (held next : SwitchState) (smp : List ℕ) : Type 0 whe
   pub node_guid : next.node_guid ≡ held.node_guid
   pub description : next.description ≡ held.description
   pub num_ports : length next.ports ≡ length held.ports
-  -- SwitchInfo only where it asks for SwitchInfo, and then LinearFDBTop alone
+  -- SwitchInfo only if it asks for SwitchInfo, and then LinearFDBTop alone
   pub info : attribute_asked smp ≢ Ok SwitchInfo → next.info ≡ held.info
   pub top : without_top next.info ≡ without_top held.info
   pub ports : (number : ℕ) (none : SwitchPort)
       → PortChangesAtMost smp number (get_or held.ports number none) (get_or next.ports number none)
-  -- the linear forwarding table only where it asks for that, and then in the block that it names
+  -- the linear forwarding table only if it asks for that, and then in the block that it names
   pub linear : attribute_asked smp ≢ Ok LinearForwardingTable → next.linear ≡ held.linear
   pub linear_block : DiffersInBlock 64 (modifier_of smp) held.linear next.linear
   pub positions : length next.masks ≡ length held.masks

@@ -1,5 +1,5 @@
--- Where a switch sends a data packet (IBA volume 1, chapter 14), by what SMPs wrote: LinearFDBTop, the linear
--- forwarding table, and each port's enforcement bits and key table. No port's state is looked at, and a packet may
+-- Where a switch sends a data packet (IBA volume 1, chapter 14), by what SMPs wrote: LinearFDBTop, the LFT,
+-- and each port's enforcement bits and P_Key table. No port's state is looked at, and a packet may
 -- leave by the port at which it came in.
 use Rattle.std.specs.Prelude.{ℕ, ◌≡◌, ◌≢◌, ◌≤◌, Bool, true, false, not, ◌==◌, ◌&&◌, ◌||◌, nat_le, if◌then◌else◌, List, slice_get, Option, Some, None}
 use Rattle.std.specs.Option.{option_and_then, option_map_or}
@@ -33,7 +33,7 @@ linear_entry_of held lid = if nat_le lid held.info.linear_fdb_top then slice_get
 abbrev pub leaves_by : List SwitchPort → ℕ → ℕ → Option ℕ
 leaves_by ports p_key out = if not (out == 0) && passes_outbound ports out p_key then Some out else None
 
--- the port by which a unicast packet that came in at this port leaves; none where the switch discards it, or takes it
+-- the port by which a unicast packet that came in at this port leaves; none if the switch discards it, or takes it
 -- itself
 abbrev pub out_port : SwitchState → ℕ → Packet → Option ℕ
 out_port held in_port packet =

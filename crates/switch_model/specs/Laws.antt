@@ -44,7 +44,7 @@ LinksKeepGood =
     (lids multicast_lids number : ℕ) (up : Bool) (held : SwitchState) → IsGoodSwitch lids multicast_lids held
     → IsGoodSwitch lids multicast_lids (with_link number up held)
 
--- the port there shows its link then, Down where no cable is, and the other ports are what they were
+-- the port there shows its link then, Down if no cable is, and the other ports are what they were
 pub record ShowsLink (number : ℕ) (up : Bool) (held : SwitchState) (port : SwitchPort) : Type 0 where
   pub there : slice_get (with_link number up held).ports number ≡ Some (port_linked up port)
   pub down : is_down (linked up port.info) ≡ not up
@@ -91,7 +91,7 @@ UnicastGoesByEntries =
     (held : SwitchState) (in_port : ℕ) (packet : Packet) (out : ℕ) → is_multicast packet.dlid ≡ false
     → (sends_out held in_port packet out ≡ true) ↔ IsSentOut held in_port packet out
 
--- a packet to a group leaves by each port whose bit is set in the masks of its LID, but for the one where it came in, unless
+-- a packet to a group leaves by each port whose bit is set in the masks of its LID, except the one where it came in, unless
 -- the enforcement of one of the two ports is against it
 abbrev pub MulticastGoesByMasks : Type 0
 MulticastGoesByMasks =

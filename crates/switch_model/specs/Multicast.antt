@@ -1,5 +1,5 @@
 -- Where a switch sends a packet to a multicast LID (IBA volume 1, chapter 14), by what SMPs wrote: the multicast
--- forwarding table, and each port's enforcement bits and key table. No port's state is looked at.
+-- forwarding table, and each port's enforcement bits and P_Key table. No port's state is looked at.
 use Rattle.std.specs.Prelude.{ℕ, ◌≡◌, ◌≢◌, ◌-◌, ◌/◌, ◌%◌, Bool, true, false, not, ◌==◌, ◌&&◌, if◌then◌else◌, List, slice_get, Option, None}
 use Rattle.std.specs.Int.{bit_at}
 use Rattle.std.specs.List.{list_any}
@@ -27,7 +27,7 @@ has_bit lid masks = option_map_or (λ mask. not (mask == 0)) (mask_of lid masks)
 abbrev pub has_bits : List (List ℕ) → ℕ → Bool
 has_bits masks lid = list_any (has_bit lid) masks
 
--- ---- a packet to a group that came in at this port leaves by that one too: by each whose bit is set, but for the one where
+-- ---- a packet to a group that came in at this port leaves by that one too: by each whose bit is set, except the one if
 -- it came in, unless the enforcement of one of the two ports is against it
 abbrev pub copies_out : SwitchState → ℕ → Packet → ℕ → Bool
 copies_out held in_port packet out =

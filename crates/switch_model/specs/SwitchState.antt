@@ -16,7 +16,7 @@ pub record SwitchState : Type 0 where
   -- NodeDescription's 64 bytes
   pub description : List ℕ
   pub info : SwitchInfo
-  -- from port 0 on, each with its information and its key table
+  -- from port 0 on, each with its information and its P_Key table
   pub ports : List SwitchPort
   -- for each LID the port that leads there
   pub linear : List ℕ

@@ -4,7 +4,7 @@ ghost use Rattle.std.specs.Prelude.{◌≡◌};
 ghost use Rattle.switch_model.specs.declared.multicast_table.TheConstants.{POSITIONS};
 ghost use Rattle.switch_model.specs.Laws.{FatesReportWaysOut, GoodSwitchesGiveAttributes, LinksKeepGood, LinksShow, MulticastGoesByMasks, NewSwitchesAreGood, PortsHaveTheirLinks, SmpsAreReadAlike, SmpsChangeWhatTheyName, SmpsKeepGood, SmpsSettle, UnicastGoesByEntries, UnseenComesBack};
 
-/// An SMP changes at most what it names, and each port is Down afterwards exactly where it was Down. Like
+/// An SMP changes at most what it names, and each port is Down afterwards if and only if it was Down. Like
 /// the laws below it does nothing: its contract is the law.
 pub fn smps_change_what_they_name()
     ensures { SmpsChangeWhatTheyName }
@@ -55,18 +55,18 @@ pub fn unicast_goes_by_entries()
     ensures { UnicastGoesByEntries }
 {}
 
-/// A packet to a multicast LID leaves by each port whose bit the masks of that LID have, but for the port where it came in, and
+/// A packet to a multicast LID leaves by each port whose bit the masks of that LID have, except the port where it came in, and
 /// nothing else counts but the enforcement of the two ports.
 pub fn multicast_goes_by_masks()
     ensures { MulticastGoesByMasks }
 {}
 
-/// A unicast packet leaves by a port exactly where its fate says so, by that port.
+/// A unicast packet leaves by a port if and only if its fate says so, by that port.
 pub fn fates_report_ways_out()
     ensures { FatesReportWaysOut }
 {}
 
-/// How many positions the masks of a switch have, written out. The number is ours: three positions of 16 ports have
+/// How many positions the MFT of a switch has, written out. The number is ours: three positions of 16 ports have
 /// room for 36 ports and port 0.
 pub fn the_numbers()
     ensures positions { POSITIONS ≡ 3 }

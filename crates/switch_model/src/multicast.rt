@@ -40,7 +40,7 @@ impl<const LFT: usize, const MFT: usize> Switch<LFT, MFT> {
         is_in_masks(self.masks(), lid, number)
     }
 
-    /// Whether some bit is set in its masks of a LID; where none is, that of no port is.
+    /// Whether some bit is set in its masks of a LID; if none is, that of no port is.
     pub fn has_bits(&self, lid: u16) -> bool
         ensures { result ≡ has_bits self.now.masks lid }
     {

@@ -33,7 +33,7 @@ pub fn get_port_info(
     Ok(shown_at(in_port, &ports[number].info))
 }
 
-/// The block of a port's key table that the modifier names.
+/// The block of a port's P_Key table that the modifier names.
 pub fn get_keys(modifier: u32, ports: &[SwitchPort]) -> Result<[u8; 64], MadStatus>
     ensures { result ≡ get_keys modifier ports.now }
 {
@@ -63,7 +63,7 @@ pub fn set_port_info(
     Ok(())
 }
 
-/// Sets the block of a port's key table that the modifier names.
+/// Sets the block of a port's P_Key table that the modifier names.
 #[tactic(auto, using(crate::proofs::PortLemmas::set_fits))]
 pub fn set_keys(modifier: u32, wanted: &[u8; 64], ports: &mut [SwitchPort]) -> Result<(), MadStatus>
     requires { AllFit ports.old }
@@ -80,7 +80,7 @@ pub fn set_keys(modifier: u32, wanted: &[u8; 64], ports: &mut [SwitchPort]) -> R
     Ok(())
 }
 
-/// What the port of that number shows of its link from then on: up, where a cable leads there, or down.
+/// What the port of that number shows of its link from then on: up, if a cable leads there, or down.
 #[tactic(auto, using(crate::proofs::PortLemmas::set_fits))]
 pub fn set_link(number: usize, up: bool, ports: &mut [SwitchPort])
     requires there { number < length ports.old }

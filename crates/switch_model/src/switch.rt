@@ -94,7 +94,7 @@ impl<const LFT: usize, const MFT: usize> Switch<LFT, MFT> {
         self.ports.len() - 1
     }
 
-    /// Answers an SMP that came in at that port, in its place, or gives no reply and leaves it, where it
+    /// Answers an SMP that came in at that port, in its place, or gives no reply and leaves it, if it
     /// asks no agent of subnet management. Port 0 is where the SMP comes from the switch itself.
     #[tactic(auto, unfolding(crate::specs::Agent::agent_reply, crate::specs::Agent::agent_after))]
     pub fn agent(&mut self, in_port: u8, smp: &mut Mad) -> bool
@@ -125,7 +125,7 @@ impl<const LFT: usize, const MFT: usize> Switch<LFT, MFT> {
         set_link(usize::from(number), up, &mut self.ports);
     }
 
-    /// The port by which a data packet that came in at that port leaves, if it leaves: none where the switch
+    /// The port by which a data packet that came in at that port leaves, if it leaves: none if the switch
     /// discards it, or takes it itself since the LID is its own. Port 0 is where the packet comes from the switch
     /// itself.
     pub fn unicast_out(&self, in_port: u8, packet: &Packet) -> Option<u8>

@@ -16,7 +16,7 @@ use pkey_rules::{PARTITIONS, PKey, stored_accepts};
 pub struct SwitchPort {
     /// What a subnet manager reads and sets of it.
     pub info: PortInfo,
-    /// The words of its key table as they were written.
+    /// The words of its P_Key table as they were written.
     pub keys: [u16; PARTITIONS],
 }
 

@@ -1,4 +1,4 @@
--- Key tables, written block by block.
+-- P_Key tables, written block by block.
 use Rattle.std.proofs.Common.{ℕ, ◌≡◌, ◌+◌, ◌*◌, ◌/◌, ◌<◌, ◌≤◌, ◌==◌, ◌&&◌, ◌∙◌, ap, refl, sym, subst, Bool, true, false, if◌then◌else◌, List, [], ◌∷◌, suc, get_or, ◌++◌, length, take, drop, Option, Some, Result, Ok, nat_lt, arith}
 use Rattle.std.specs.List.{list_all}
 use Rattle.std.specs.Str.{bytes_eq}

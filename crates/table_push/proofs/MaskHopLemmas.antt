@@ -128,7 +128,7 @@ bit_within routes receives place mlid number is = by (slice_get (masks_of routes
         omega (arith, few, count)
 
 module _ (routes : RoutesState) (fabric : FabricState) (graph : IsGraph routes.graph) (of : IsGraphOf routes.graph fabric) (receives : ℕ → ℕ → Bool) (has : HasMasksOf routes receives fabric) where
-  -- ---- the masks of a switch
+  -- ---- the MFT entries of a switch
   record Holds (place : ℕ) (found : Found) : Type 0 where
     held : SwitchState
     there : slice_get fabric.nodes found.node ≡ Some (Switch held)

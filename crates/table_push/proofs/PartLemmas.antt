@@ -1,4 +1,4 @@
--- A part of ports, as their key tables, that changes by the GUID of their node and their number there.
+-- A part of ports, as their P_Key tables, that changes by the GUID of their node and their number there.
 use Rattle.std.proofs.Common.{ℕ, ◌≡◌, ◌+◌, ◌-◌, ◌==◌, ◌&&◌, ◌∙◌, ap, refl, sym, Bool, true, false, if◌then◌else◌, List, [], ◌∷◌, map, slice_get, slice_set, Option, Some, None, option_map, arith}
 use Rattle.std.proofs.lemmas.Bool.{eq-eqb, eqb-false}
 use Rattle.std.proofs.lemmas.Simd.{map-map}

@@ -1,4 +1,4 @@
--- Key tables of ports that a path leads to.
+-- P_Key tables of ports that a path leads to.
 use Rattle.std.proofs.Common.{ℕ, ◌≡◌, ◌+◌, ◌-◌, ◌*◌, ◌/◌, ◌%◌, ◌^◌, ◌<◌, ◌≤◌, ◌==◌, ◌⊎◌, inl, inr, ◌∙◌, ap, refl, sym, subst, Bool, true, false, List, length, get_or, slice_get, slice_set, Option, Some, None, Ok, ◌&&◌, nat_le, arith}
 use Rattle.std.specs.Option.{option_map_or}
 use Rattle.std.proofs.lemmas.Bool.{and_parts, ne_eqb}

@@ -1,4 +1,4 @@
--- What a fabric has whose ports, key tables and linear tables were pushed in turn.
+-- What a fabric has whose ports, P_Key tables and LFTs were pushed in turn.
 use Rattle.std.proofs.Common.{ℕ, ◌≡◌, ◌-◌, ◌<◌, ◌==◌, ◌∙◌, ap, refl, sym, subst, true, false, List, [], map, length, slice_get, Option, Some, None, option_map, unwrap_or, arith}
 use Rattle.std.specs.List.{range_with_len}
 use Rattle.std.specs.Option.{option_and_then, option_map_or}

@@ -60,7 +60,7 @@ switches_unseen change only = record { kind = kind; guid = guid; count = count; 
     seen number (Switch held) = ap (λ (s : SwitchState). seen_in (Switch s) number) (only held.node_guid held).3
     seen number (Adapter ports) = refl
 
--- ---- key tables, and PortInfo
+-- ---- P_Key tables, and PortInfo
 -- a part of a channel adapter's port that a sweep doesn't see
 record IsUnseenPart {X : Type 0} (part : PortPart X) : Type 0 where
   port_guid : (x : X) (port : AdapterState) → (part.adapter.put x port).port_guid ≡ port.port_guid

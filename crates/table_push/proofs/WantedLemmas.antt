@@ -1,4 +1,4 @@
--- Which key tables are wanted, and a fabric in which some of them are written.
+-- Which P_Key tables are wanted, and a fabric in which some of them are written.
 use Rattle.std.proofs.Common.{ℕ, ◌≡◌, ◌==◌, ◌&&◌, ◌||◌, ◌∙◌, ap, refl, sym, subst, Bool, true, false, if◌then◌else◌, List, slice_get, Option, Some, None, Result, Ok, option_map, unwrap_or}
 use Rattle.std.specs.Option.{option_and_then, option_map_or}
 use Rattle.std.proofs.lemmas.Bool.{and_from, and_parts, eq-eqb, eqb-true, false≢true, or_parts}

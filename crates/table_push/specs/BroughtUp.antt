@@ -40,7 +40,7 @@ AreGiven keys port own = slice_get keys (port.info.lid - 1) ≡ Some own
 pub record IsBroughtUp (routes : RoutesState) (keys : List (List ℕ)) (fabric : FabricState) : Type 0 where
   pub good : IsGood fabric
   pub graph : IsGraphOf routes.graph fabric
-  -- each switch has its own linear table, up to the last LID
+  -- each switch has its own LFT, up to the last LID
   pub tables : (node : ℕ) (held : SwitchState) → slice_get fabric.nodes node ≡ Some (Switch held)
       → HasItsTable routes held × (held.info.linear_fdb_top ≡ length routes.lids)
   -- each port of a channel adapter that has a cable has its LID, is Active, and has the keys that are given to the LID

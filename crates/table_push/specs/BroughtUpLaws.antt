@@ -19,7 +19,7 @@ use Rattle.table_push.specs.Pushed.{ArePushed, all_pushed}
 use Rattle.updn_routes.specs.Subnet.{RoutesState}
 use Rattle.updn_routes.specs.Tree.{AreDepths}
 
--- where keys are given to each LID, the fabric forwards packets by their LIDs
+-- if keys are given to each LID, the fabric forwards packets by their LIDs
 abbrev pub BroughtUpForwardsByLid : Type 0
 BroughtUpForwardsByLid =
     (routes : RoutesState) (keys : List (List ℕ)) (fabric : FabricState) → RoutesLeadHome routes → length keys ≡ length routes.lids
@@ -35,7 +35,7 @@ abbrev pub AreOfGroups : (receives : ℕ → ℕ → Bool) → Type 0
 AreOfGroups receives =
     (mlid lid : ℕ) → receives mlid lid ≡ true → (is_multicast mlid ≡ true) × (mlid < FIRST_MULTICAST_LID + MULTICAST_TABLE)
 
--- where switches have the masks of a test besides, the fabric forwards packets by the multicast LIDs of that test
+-- if switches have the masks of a test besides, the fabric forwards packets by the multicast LIDs of that test
 abbrev pub BroughtUpForwardsByMlid : Type 0
 BroughtUpForwardsByMlid =
     (routes : RoutesState) (roots : List ℕ) (keys : List (List ℕ)) (fabric : FabricState) (receives : ℕ → ℕ → Bool)

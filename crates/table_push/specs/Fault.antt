@@ -29,7 +29,7 @@ abbrev pub heard : {X : Type 0} → Result X ReplyFault → Result X PushFault
 heard (Ok x) = Ok x
 heard (Err fault) = Err (fault_of fault)
 
--- PortState of PortInfo (14.2.5.6), 0 where no change of it is asked
+-- PortState of PortInfo (14.2.5.6), 0 if no change of it is asked
 abbrev pub state_of : List ℕ → ℕ
 state_of bytes = field bytes 260 4
 
@@ -41,7 +41,7 @@ without_state bytes = put_field bytes 260 4 (port_state_code NoChange)
 abbrev pub with_state_change : List ℕ → List ℕ → List ℕ
 with_state_change wanted reported = put_field reported 93 1 (field wanted 93 1)
 
--- what of the bytes that a reply carries is compared: a state that was not asked for counts for nothing, and PortStateChange
+-- what of the bytes that a reply carries is compared: a state that was not asked for is ignored, and PortStateChange
 -- never counts
 unfoldable pub compared : SmpAttribute → List ℕ → List ℕ → List ℕ
 compared attribute.PortInfo wanted reported = if state_of wanted == port_state_code NoChange then without_state reported else reported

@@ -1,4 +1,4 @@
--- What is pushed into key tables (IBA volume 1, 14.2.5.7): the keys of each end port at that port, and their full
+-- What is pushed into P_Key tables (IBA volume 1, 14.2.5.7): the keys of each end port at that port, and their full
 -- form at the port of a switch that it is attached to, which lets in and out what the end port may send and take.
 use Rattle.std.specs.Prelude.{ℕ, ◌-◌, ◌==◌, ◌&&◌, ◌||◌, Bool, true, false, if◌then◌else◌, List, ◌++◌, find, length, map, replicate, slice_get, unwrap_or, Option, option_map, Result, Ok, Err}
 use Rattle.std.specs.List.{list_any}
@@ -56,7 +56,7 @@ keys_wanted routes keys guid number =
     option_map_or (λ place. switch_keys routes keys guid place number) (place_of routes.graph.switches guid)
     (adapter_keys routes keys guid number)
 
--- where none is wanted the table stays
+-- if none is wanted the table stays
 abbrev pub keys_pushed : RoutesState → List (List ℕ) → FabricState → FabricState
 keys_pushed routes keys fabric = with_keys (λ guid number held. unwrap_or (keys_wanted routes keys guid number) held) fabric
 

@@ -59,7 +59,7 @@ HasMasksOf routes receives fabric =
     (node place : ℕ) (held : SwitchState) → slice_get fabric.nodes node ≡ Some (Switch held)
     → place_of routes.graph.switches held.node_guid ≡ Some place → held.masks ≡ masks_of routes receives place
 
--- where the masks are those of one test, and the other differs from it for the partition alone, a push of that MLID range makes
+-- if the masks are those of one test, and the other differs from it for the partition alone, a push of that MLID range makes
 -- all of them those of the other
 abbrev pub MlidRangesMakeTheWhole : Type 0
 MlidRangesMakeTheWhole =

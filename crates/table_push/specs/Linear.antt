@@ -9,8 +9,8 @@ use Rattle.table_push.specs.Nodes.{with_switches}
 use Rattle.updn_routes.specs.Routes.{next_hop}
 use Rattle.updn_routes.specs.Subnet.{RoutesState, place_of}
 
--- 0 for the switch's own LID, the port of an adapter that is attached to it, else the chosen way; and 0xFF, no port, where there
--- is none and where nobody has the LID
+-- 0 for the switch's own LID, the port of an adapter that is attached to it, else the chosen way; and 0xFF, no port, if there
+-- is none and if nobody has the LID
 abbrev pub linear_entry : RoutesState → ℕ → ℕ → ℕ
 linear_entry routes place lid = unwrap_or (next_hop routes.between place lid) 255
 

@@ -36,7 +36,7 @@ abbrev pub ports_by : (ℕ → ℕ → SwitchPort → SwitchPort) → (ℕ → �
 ports_by of_switch of_adapter (Switch held) = Switch (record held { ports = numbered (of_switch held.node_guid) 0 held.ports })
 ports_by of_switch of_adapter (Adapter ports) = Adapter (numbered (of_adapter (node_guid (Adapter ports))) 1 ports)
 
--- each key table changes by what its port says
+-- each P_Key table changes by what its port says
 abbrev pub keys_by : (ℕ → ℕ → List ℕ → List ℕ) → Node → Node
 keys_by change =
     ports_by (λ guid number port. record port { keys = change guid number port.keys })

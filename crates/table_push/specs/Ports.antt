@@ -1,5 +1,5 @@
 -- What is pushed into PortInfo (IBA volume 1, 14.2.5.6) and SwitchInfo (chapter 14): the prefix and the LIDs of each end
--- port, that each port with a cable carries packets, where partitions are enforced, and how far linear tables reach.
+-- port, that each port with a cable carries packets, where partitions are enforced, and how far LFTs reach.
 use Rattle.std.specs.Prelude.{ℕ, ◌*◌, ◌^◌, ◌≡◌, ◌==◌, ◌&&◌, ◌||◌, nat_le, nat_lt, Bool, true, false, if◌then◌else◌, List, [], get_or, length, Option, Some, None}
 use Rattle.std.specs.List.{list_any, range_with_len}
 use Rattle.std.specs.Option.{is_some, option_map_or}
@@ -30,7 +30,7 @@ abbrev pub with_end_set : Option ℕ → PortInfo → PortInfo
 with_end_set None info = info
 with_end_set (Some lid) info = record info { gid_prefix = 0xfe80 * 2 ^ 48; lid = lid; lmc = 0; master_sm_lid = 1 }
 
--- a port of a switch lets in and out what its key table reports, or all
+-- a port of a switch lets in and out what its P_Key table reports, or all
 abbrev pub enforces : Option Bool → PortInfo → PortInfo
 enforces None info = info
 enforces (Some on) info = record info { partition_enforcement_inbound = on; partition_enforcement_outbound = on }

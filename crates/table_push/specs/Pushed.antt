@@ -1,4 +1,4 @@
--- A fabric to which ports, key tables and linear forwarding tables are pushed, one after another.
+-- A fabric to which ports, P_Key tables and LFTs are pushed, one after another.
 use Rattle.std.specs.Prelude.{ℕ, ◌≡◌, List, Option, Some, Result}
 use Rattle.std.specs.Result.{IsOk}
 use Rattle.smp_wire.specs.FabricState.{FabricState}

@@ -1,4 +1,4 @@
--- What the agents of a fabric have once ports, key tables and linear forwarding tables are pushed, in the terms of the
+-- What the agents of a fabric have once ports, P_Key tables and LFTs are pushed, in the terms of the
 -- routes and of the keys given, without any push.
 use Rattle.std.specs.Prelude.{ℕ, ◌*◌, ◌-◌, ◌<◌, ◌^◌, ◌≡◌, ◌==◌, false, true, List, length, slice_get, Option, Some, option_map}
 use Rattle.std.specs.Option.{option_and_then}
@@ -24,7 +24,7 @@ use Rattle.table_push.specs.Pushed.{all_pushed}
 use Rattle.updn_routes.specs.Subnet.{RoutesState}
 
 -- ---- what a port has
--- its key table
+-- its P_Key table
 abbrev pub port_keys_at : Node → ℕ → Option (List ℕ)
 port_keys_at (Switch held) number = option_map (λ port. port.keys) (slice_get held.ports number)
 port_keys_at (Adapter ports) number = option_map (λ port. port.keys) (adapter_port ports number)
@@ -32,7 +32,7 @@ port_keys_at (Adapter ports) number = option_map (λ port. port.keys) (adapter_p
 abbrev pub keys_at : FabricState → PortRef → Option (List ℕ)
 keys_at fabric at = option_and_then (λ node. port_keys_at node at.port) (slice_get fabric.nodes at.node)
 
--- the PortInfo of that port of the node with that GUID, and its key table
+-- the PortInfo of that port of the node with that GUID, and its P_Key table
 abbrev pub InfoIs : FabricState → (guid number : ℕ) → (PortInfo → Type 0) → Type 0
 InfoIs fabric guid number Is =
     (at : PortRef) (info : PortInfo) → guid_at fabric at.node ≡ guid → at.port ≡ number → info_at fabric at ≡ Some info → Is info
@@ -50,7 +50,7 @@ pub record IsEndPort (lid : ℕ) (info : PortInfo) : Type 0 where
 abbrev pub IsActive : PortInfo → Type 0
 IsActive info = info.port_state ≡ port_state_code Active
 
--- it lets in and out what its key table reports
+-- it lets in and out what its P_Key table reports
 abbrev pub Enforces : PortInfo → Type 0
 Enforces info = (info.partition_enforcement_inbound ≡ true) × (info.partition_enforcement_outbound ≡ true)
 

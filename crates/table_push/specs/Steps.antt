@@ -20,7 +20,7 @@ use Rattle.table_push.specs.declared.ports.Round.{Round}
 use Rattle.updn_routes.specs.Subnet.{RoutesState}
 
 -- ---- one Set
--- where the agent at the end of the path takes these bytes, and then gives what was wanted, that is done
+-- if the agent at the end of the path takes these bytes, and then gives what was wanted, that is done
 abbrev pub TakesAndGives : FabricState → (left : Option FabricState) → (path : List ℕ) → SmpAttribute → (modifier : ℕ) → (wanted : List ℕ)
     → Result (Unit {0}) PushFault → Type 0
 TakesAndGives fabric left path attribute modifier wanted result =
@@ -34,7 +34,7 @@ SetsBlock fabric left path position partition block result =
     TakesAndGives fabric left path MulticastForwardingTable (position * 268435456 + partition) (word_bytes block) result
 
 -- ---- ports
--- where a round is over at the ports that pass a test, it is at those that pass one more too
+-- if a round is over at the ports that pass a test, it is at those that pass one more too
 abbrev pub SetsUpMore : RoutesState → Round → (stood left : Option FabricState) → (more : ℕ → ℕ → Bool) → Result (Unit {0}) PushFault → Type 0
 SetsUpMore routes round stood left more result =
     (fabric : FabricState) (there : ℕ → ℕ → Bool) → IsGraphOf routes.graph fabric → IsGood fabric → ShowsLinks fabric
@@ -51,14 +51,14 @@ SetsUpCable routes round stood left place result =
     (port : GraphPort) → slice_get routes.graph.ports place ≡ Some port
     → SetsUpMore routes round stood left (λ guid number. at_cable routes.graph.switches guid number port) result
 
--- where it is at those of the switches, it is at all
+-- if it is at those of the switches, it is at all
 abbrev pub SetsUpRest : RoutesState → Round → (stood left : Option FabricState) → Result (Unit {0}) PushFault → Type 0
 SetsUpRest routes round stood left result =
     (fabric : FabricState) → IsGraphOf routes.graph fabric → IsGood fabric → ShowsLinks fabric
     → Stands stood fabric (with_infos (changed_where round (at_switches_before routes.graph (length routes.graph.switches)) routes) fabric)
     → Leaves result left fabric (with_infos (changed_in round routes) fabric)
 
--- ---- key tables
+-- ---- P_Key tables
 -- that block of the table of a port is one of these words, and all else is as it was
 abbrev pub PutsBlock : (stood left : Option FabricState) → (path : List ℕ) → (asked block : ℕ) → (words : List ℕ)
     → Result (Unit {0}) PushFault → Type 0
@@ -66,12 +66,12 @@ PutsBlock stood left path asked block words result =
     ForSome stood (λ fabric. (guid number : ℕ) → IsGood fabric → LeadsToPort fabric path asked guid number
     → Leaves result left fabric (with_keys (on_port guid number (with_block 32 block words)) fabric))
 
--- where it is reported that the bytes wanted are there, they are
+-- if it is reported that the bytes wanted are there, they are
 abbrev pub SaysWhetherThere : Result Bool PushFault → (given wanted : List ℕ) → Type 0
 SaysWhetherThere (Ok there) given wanted = there ≡ true → given ≡ wanted
 SaysWhetherThere (Err fault) given wanted = ⊥
 
--- where the ports that pass a test have their tables, those at both ends of the cable of the port of a channel adapter at
+-- if the ports that pass a test have their tables, those at both ends of the cable of the port of a channel adapter at
 -- that place get theirs too
 abbrev pub PutsKeysAtCable : RoutesState → (keys : List (List ℕ)) → (stood left : Option FabricState) → (place : ℕ)
     → Result (Unit {0}) PushFault → Type 0
@@ -81,7 +81,7 @@ PutsKeysAtCable routes keys stood left place result =
     → Leaves result left fabric
     (with_keys (keys_where (λ guid number. there guid number || at_cable routes.graph.switches guid number port) routes keys) fabric)
 
--- where the ports 0 of switches have theirs, all get them
+-- if the ports 0 of switches have theirs, all get them
 abbrev pub PutsKeysAtCables : RoutesState → (keys : List (List ℕ)) → (stood left : Option FabricState)
     → Result (Unit {0}) PushFault → Type 0
 PutsKeysAtCables routes keys stood left result =

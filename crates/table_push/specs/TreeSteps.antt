@@ -71,7 +71,7 @@ IsTree routes tree count =
     (get_or tree.ups s 0) (get_or tree.ends s 0)
 
 -- ---- one multicast LID
--- these bits, where some switch of the set is marked
+-- these bits, if some switch of the set is marked
 abbrev pub where_meets : (switches set bits : ℕ) → ℕ
 where_meets switches set bits = if meets switches set then bits else 0
 

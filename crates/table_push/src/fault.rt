@@ -35,7 +35,7 @@ impl PushFault {
     }
 }
 
-/// What a push stops with where a request reported nothing.
+/// What a push stops with if a request reported nothing.
 pub(crate) fn fault_of(fault: ReplyFault) -> PushFault
     ensures { result ≡ fault_of fault }
 {
@@ -71,7 +71,7 @@ fn as_set(attribute: SmpAttribute, wanted: &[u8; 64], reported: &[u8; 64]) -> Re
     }
 }
 
-/// What of the bytes that a reply carries is compared: a PortState that was not asked for counts for nothing, and
+/// What of the bytes that a reply carries is compared: a PortState that was not asked for is ignored, and
 /// PortStateChange never counts, since a switch clears it if 1 is written.
 #[tactic(auto, unfolding(crate::specs::Fault::compared))]
 fn compared(attribute: SmpAttribute, wanted: &[u8; 64], reported: &[u8; 64]) -> [u8; 64]
@@ -122,7 +122,7 @@ pub(crate) fn taken_of(wanted: &[u8; 64], reported: &[u8; 64]) -> Result<Taken, 
     }
 }
 
-/// PortInfo of a port that does not enforce partitions, but for that as these bytes.
+/// PortInfo of a port that does not enforce partitions: these bytes with both enforcement bits 0.
 fn without_enforcement(bytes: &[u8; 64]) -> [u8; 64]
     ensures { result ≡ without_enforcement bytes.now }
 {

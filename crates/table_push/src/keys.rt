@@ -1,4 +1,4 @@
-//! Key tables.
+//! P_Key tables.
 
 ghost use Rattle.std.specs.Prelude.{ℕ, ◌≡◌, ◌≤◌, ◌<◌, List, length, option_map, Some, Ok, true, unwrap_or};
 ghost use Rattle.std.specs.Option.{ForSome};
@@ -19,7 +19,7 @@ use pkey_rules::{KeyTable, PARTITIONS, PKey, base_of, key_of};
 use smp_wire::{ReplyFault, SmpWire, get_attribute};
 use updn_routes::Routes;
 
-/// Writes the key tables: of each end port its own keys, which stand in `keys` in order of LID, and of each port of a
+/// Writes the P_Key tables: of each end port its own keys, which stand in `keys` in order of LID, and of each port of a
 /// switch that a port of a channel adapter is attached to the full form of each of that port's keys, so that the switch lets
 /// in and out what that port may send and take. Behind them the table is empty; of the blocks that are to be empty only those
 /// are written that hold something. A port that does not have a block that is to be empty is left as it is.
@@ -41,7 +41,7 @@ pub fn push_keys<W: SmpWire>(
     to_cables(wire, &mut transaction_id, routes, keys)
 }
 
-/// Sets the key table of port 0 of each switch.
+/// Sets the P_Key table of port 0 of each switch.
 fn to_switches<W: SmpWire>(
     wire: &mut W,
     transaction_id: &mut u64,
@@ -66,7 +66,7 @@ fn to_switches<W: SmpWire>(
     Ok(())
 }
 
-/// Sets the key tables at both ends of each cable between a switch and a channel adapter.
+/// Sets the P_Key tables at both ends of each cable between a switch and a channel adapter.
 fn to_cables<W: SmpWire>(
     wire: &mut W,
     transaction_id: &mut u64,
@@ -86,7 +86,7 @@ fn to_cables<W: SmpWire>(
     Ok(())
 }
 
-/// Sets the key tables of a port of a channel adapter, and of the port of a switch that it is attached to.
+/// Sets the P_Key tables of a port of a channel adapter, and of the port of a switch that it is attached to.
 fn to_cable<W: SmpWire>(
     wire: &mut W,
     transaction_id: &mut u64,
@@ -117,7 +117,7 @@ fn to_cable<W: SmpWire>(
     set_some(wire, transaction_id, path.as_slice(), 0, own)
 }
 
-/// Sets the key table of a port, if there is one to set.
+/// Sets the P_Key table of a port, if there is one to set.
 fn set_some<W: SmpWire>(
     wire: &mut W,
     transaction_id: &mut u64,
@@ -153,7 +153,7 @@ fn table_of(
     }
 }
 
-/// Sets the key table of a port of the node at the end of a path, block by block. A switch is asked for its port of
+/// Sets the P_Key table of a port of the node at the end of a path, block by block. A switch is asked for its port of
 /// that number; a port of a channel adapter is asked for port 0, itself.
 fn set_table<W: SmpWire>(
     wire: &mut W,
@@ -175,7 +175,7 @@ fn set_table<W: SmpWire>(
     Ok(())
 }
 
-/// Puts a block of a key table where it belongs. An empty block, of which most tables have some, is set only where the port
+/// Puts a block of a P_Key table where it belongs. An empty block, of which most tables have some, is set only if the port
 /// holds something there.
 fn put_block<W: SmpWire>(
     wire: &mut W,
@@ -261,7 +261,7 @@ fn block_at(table: &[u16; PARTITIONS], block: usize) -> [u8; 64]
     bytes
 }
 
-/// A key table as words: these keys, or their full forms, and empty places behind them.
+/// A P_Key table as words: these keys, or their full forms, and empty places behind them.
 fn words_of(keys: &KeyTable<PARTITIONS>, full: bool) -> [u16; PARTITIONS]
     ensures { result ≡ key_table full keys.now }
 {

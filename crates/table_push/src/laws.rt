@@ -17,7 +17,7 @@ pub fn pushes_keep_the_graph()
     ensures { PushesKeepTheGraph }
 {}
 
-/// Once ports, key tables and linear tables are pushed in turn, each port of a channel adapter has its LID and the keys
+/// Once ports, P_Key tables and LFTs are pushed in turn, each port of a channel adapter has its LID and the keys
 /// that are given for it, the port that it is attached to lets in and out what these keys allow, and each switch forwards each
 /// LID along the chosen way.
 pub fn brought_up_is_as_routed()
@@ -52,7 +52,7 @@ pub fn masks_keep_what_is_up()
 {}
 
 /// Over the good fabric of the routes' graph, the three pushes, one after another, bring it up: each switch has its own
-/// linear table, each port of a channel adapter its LID and the keys that are given to that, and each port of a switch
+/// LFT, each port of a channel adapter its LID and the keys that are given to that, and each port of a switch
 /// before one the full form of these keys. And they keep the end ports that the agents show.
 pub fn pushes_bring_up()
     ensures up { PushesBringUp }
@@ -66,12 +66,12 @@ pub fn pushes_forget()
     ensures replace { PushesReplace }
 {}
 
-/// The masks of a switch have the bit of a port for a multicast LID exactly where a receiver is reached by that port.
+/// An MFT entry of a switch has the bit of a port if and only if a receiver of that multicast LID is reached by that port.
 pub fn masks_are_read()
     ensures { MasksAreRead }
 {}
 
-/// The MLID range of a partition is that of the receivers of its own multicast LIDs. So where masks are those of some
+/// The MLID range of a partition is that of the receivers of its own multicast LIDs. So if masks are those of some
 /// receivers, and receivers change for one partition alone, a push of that MLID range makes the whole table that of the new
 /// ones: the fabric is the one to which all masks of the new ones were pushed.
 pub fn mlid_ranges_are_of_the_whole()

@@ -19,7 +19,7 @@ use smp_wire::SmpWire;
 use updn_routes::Routes;
 
 /// Writes the linear forwarding tables of all switches, whole: for each LID the next hop of the routes, and 0xFF
-/// where there is none and where nobody has the LID.
+/// if there is none and if nobody has the LID.
 ///
 /// Over a wire that stands for the graph's fabric these tables stand there then, and all else is as it was.
 pub fn push_linear<W: SmpWire>(wire: &mut W, routes: &Routes) -> Result<(), PushFault>

@@ -156,7 +156,7 @@ pub(crate) enum Next {
     Neither,
 }
 
-/// What comes next, where these do in either list: of two that differ the one with the lower multicast LID, and then LID.
+/// What comes next, if these do in either list: of two that differ the one with the lower multicast LID, and then LID.
 fn next_of(gone: Option<GroupReceiver>, come: Option<GroupReceiver>) -> Next
     ensures { IsNext gone come result }
 {

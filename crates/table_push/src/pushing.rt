@@ -17,7 +17,7 @@ use pkey_rules::{KeyTable, PARTITIONS};
 use smp_wire::SmpWire;
 use updn_routes::Routes;
 
-/// Writes what a subnet manager writes when it brings a fabric up: ports, then key tables, then linear forwarding tables.
+/// Writes what a subnet manager writes when it brings a fabric up: ports, then P_Key tables, then LFTs.
 /// The keys of the end ports stand in order of LID. It stops at the first exchange that is at fault. A port that takes all but
 /// that it enforces partitions is no fault: [`push_all_counting`] counts these.
 ///

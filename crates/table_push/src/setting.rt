@@ -13,7 +13,7 @@ use smp_wire::{ReplyFault, SmpWire, get_attribute, set_attribute};
 /// Sets that part of an attribute of the node at the end of a path to these bytes, under the next TransactionID, so
 /// that a late reply is distinguished from its own.
 ///
-/// Where the agent there takes them, and then has what is compared, it is done and the fabric is the one that it leaves.
+/// If the agent there takes them, and then has what is compared, it is done and the fabric is the one that it leaves.
 pub(crate) fn set<W: SmpWire>(
     wire: &mut W,
     transaction_id: &mut u64,
@@ -35,7 +35,7 @@ pub(crate) fn set<W: SmpWire>(
 /// Sets PortInfo of a port of the node at the end of a path to these bytes, and returns what the port takes. If the agent
 /// there refuses, it is asked what the port has: that may be what was set. Each SMP has the next TransactionID.
 ///
-/// Where the agent takes them, and then has what is compared, the port takes all and the fabric is the one that it leaves.
+/// If the agent takes them, and then has what is compared, the port takes all and the fabric is the one that it leaves.
 pub(crate) fn set_port_info<W: SmpWire>(
     wire: &mut W,
     transaction_id: &mut u64,

@@ -225,7 +225,7 @@ pub(crate) fn blocks_of(
     [words_at(&bits, 0), words_at(&bits, 1), words_at(&bits, 2)]
 }
 
-/// The masks of a switch.
+/// The MFT entries of a switch, one for each multicast LID of an MLID range.
 fn bits_of(masks: &[[u64; SWITCHES]; WORDS_PER_BLOCK], place: usize) -> [u64; WORDS_PER_BLOCK]
     requires { place < 64 }
     ensures { result ≡ map (λ row. get_or row place 0) masks.now }

@@ -10,7 +10,7 @@ use std::alloc::Global;
 use std::test::Fail;
 
 /// A fat tree of so many leaf switches, and as many spine switches, whose GUIDs are 2000 and those behind it, in decimal.
-/// The subnet manager's port is attached to port 1 of the first leaf.
+/// The SM port is attached to port 1 of the first leaf.
 pub fn fat_tree_of(alloc: Global, leaves: u16) -> Result<Fabric, Fail>
     requires some { 0 < leaves }
     requires few { leaves ≤ 32 }

@@ -8,7 +8,7 @@ use Rattle.text_streams.specs.Writing.{AppendsPart, TakesSome}
 abbrev pub ShortTextsEnd : Type 0
 ShortTextsEnd = (bytes : List ℕ) → length bytes < READS → IsEndless (Some bytes) → ⊥
 
--- where another byte was written, or one too many, that is no part of a text; and a write of nothing takes none
+-- if another byte was written, or one too many, that is no part of a text; and a write of nothing takes none
 pub record OthersAreNoPart : Type 0 where
   pub another : AppendsPart (Some []) (Some (codes "b")) (codes "a") → ⊥
   pub twice : AppendsPart (Some []) (Some (codes "aa")) (codes "a") → ⊥

@@ -10,7 +10,7 @@ AppendsPart old new text = (n : ℕ) × Appends old new (take n text)
 abbrev pub TakesSome : {E : Type 0} → Result ℕ E → List ℕ → Type 0
 TakesSome result bytes = MatchResult result (λ n. 0 < length bytes → 0 < n) (λ _. ⊥)
 
--- a line is there as far as it went out, and whole where nothing is refused
+-- a line is there as far as it went out, and whole if nothing is refused
 pub record Writes (is_sure : Bool) (old new : Option (List ℕ)) (line : List ℕ) : Type 0 where
   pub part : AppendsPart old new line
   pub whole : is_sure ≡ true → Appends old new line

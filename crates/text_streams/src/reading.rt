@@ -76,7 +76,7 @@ pub enum TextSize {
     Big,
 }
 
-/// All the bytes that a reader has left, or `None` where a read fails, or no end comes within
+/// All the bytes that a reader has left, or `None` if a read fails, or no end comes within
 /// [`READS`] reads. An interrupted read counts, and is tried again.
 pub fn read_to_end<R: Reader>(
     alloc: Global,

@@ -10,7 +10,7 @@ use std::io::Write;
 
 /// Where texts go.
 ///
-/// Its ghost members are what a contract may know of it: `contents` is the bytes that it holds, where
+/// Its ghost members are what a contract may know of it: `contents` is the bytes that it holds, if
 /// they are known, and `is_sure` whether it refuses nothing.
 pub trait Output {
     ghost contents: { Self → Option (List ℕ) };

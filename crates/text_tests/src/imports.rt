@@ -54,7 +54,7 @@ Ca 1 \"H-00000000000000a0\" # \"host\"
 [1](a1) \"H-00000000000000b0\"[1] (b1) # lid 1 lmc 0 \"host\" lid 4 4xEDR
 ";
 
-/// None where the text is no discovery.
+/// None if the text is no discovery.
 fn imported(
     alloc: Global,
     text: &str,

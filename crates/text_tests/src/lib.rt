@@ -1,7 +1,7 @@
 //! Tests of the configuration texts, through their public calls alone.
 //!
 //! They say what no clause says and what the program does not print: what is read of worked texts, by
-//! which MAD a line asks, which cable a line cuts or mends, and that a text is read where memory is
+//! which MAD a line asks, which cable a line cuts or mends, and that a text is read if memory is
 //! there. Texts that are refused, and listings, stand in `tests/`.
 #![tactic(auto)]
 

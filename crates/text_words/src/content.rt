@@ -14,7 +14,7 @@ const TAB: u8 = b'\t';
 
 const COMMENT: u8 = b'#';
 
-/// What a line says: the line without its LF, its comment and the CR before them. `None` where a byte
+/// What a line says: the line without its LF, its comment and the CR before them. `None` if a byte
 /// stands in the line that may not: an LF before its end, or outside its comment any byte but printable
 /// ASCII, a tab, and a CR before the comment or the LF.
 pub(crate) fn plain_content(line: &[u8]) -> Option<&[u8]>

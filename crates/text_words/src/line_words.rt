@@ -24,7 +24,7 @@ impl<'a> Model for Words<'a> {
 }
 
 impl<'a> Words<'a> {
-    /// The words of a line, with its LF where it has one and with its comment. `None` where a byte
+    /// The words of a line, with its LF if it has one and with its comment. `None` if a byte
     /// stands in the line that may not: an LF before its end, or outside its comment any byte but
     /// printable ASCII, a tab, and a CR before the comment or the LF.
     pub fn of(line: &'a [u8]) -> Option<Words<'a>>

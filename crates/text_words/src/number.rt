@@ -4,7 +4,7 @@ ghost use Rattle.std.specs.Prelude.{◌≡◌, ◌≤◌, ◌<◌, length, Some,
 ghost use Rattle.text_words.specs.Number.{digits_in, digit_step, number_in, u16_in};
 
 /// The number that a word encodes, in decimal digits or as `0x` and hexadecimal digits of either
-/// case; none where it is encoded otherwise or past 128 bits.
+/// case; none if it is encoded otherwise or past 128 bits.
 pub fn number_in(word: &[u8]) -> Option<u128>
     ensures { result ≡ number_in word.now }
 {
@@ -24,7 +24,7 @@ pub fn u16_in(word: &[u8]) -> Option<u16>
     }
 }
 
-/// The number that digits of this radix encode; none where there are none, or one is no such digit, or the number is past
+/// The number that digits of this radix encode; none if there are none, or one is no such digit, or the number is past
 /// 128 bits.
 pub fn digits_in(radix: u32, digits: &[u8]) -> Option<u128>
     requires low { 2 ≤ radix }
@@ -41,7 +41,7 @@ pub fn digits_in(radix: u32, digits: &[u8]) -> Option<u128>
     }
 }
 
-/// The number that digits encode, by steps of 64 bits; none where these do not find it.
+/// The number that digits encode, by steps of 64 bits; none if these do not find it.
 fn narrow_digits_in(radix: u32, digits: &[u8]) -> Option<u64>
     requires low { 2 ≤ radix }
     requires high { radix ≤ 36 }

@@ -103,7 +103,7 @@ root_is nodes roots (word ∷ []) made h =
     subst (IsNewRoot nodes roots) (same_ok place.0 made own.1) (not-false (is_switch_at nodes place.0) switch.0, own.0)
 root_is nodes roots (word ∷ more ∷ rest) made h = absurd cc
 
--- a manager's port is one of an adapter
+-- an SM port is one of an adapter
 manager_is : (so_far : DraftState) (number : ℕ) (words : List (List ℕ)) (made : _)
     → manager_of so_far.nodes so_far.manager number words ≡ Ok made → is_manager_port so_far.nodes made.port ≡ true
 unfolding manager_of manager_encoded

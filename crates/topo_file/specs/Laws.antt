@@ -10,12 +10,12 @@ use Rattle.topo_file.specs.Node.{IsGuidOf, IsWithin, is_one_too_many, shares_gui
 abbrev pub ConnectedMeansJoined : Type 0
 ConnectedMeansJoined = (nodes : List Node) (cables : List Cable) → is_connected nodes cables ≡ true ↔ AllJoined nodes cables
 
--- behind nodes within the limits one more is taken exactly where the limits then still hold: no sooner refused, and no later
+-- behind nodes within the limits one more is taken if and only if the limits then still hold: no sooner refused, and no later
 abbrev pub LimitsAreMet : Type 0
 LimitsAreMet =
     (limits : Limits) (nodes : List Node) (node : Node) → IsWithin limits nodes
     → is_one_too_many limits nodes node.node_type node.ports ≡ false ↔ IsWithin limits (nodes ++ node ∷ [])
 
--- two nodes are reported to share a GUID exactly where some GUID is one of both
+-- two nodes are reported to share a GUID if and only if some GUID is one of both
 abbrev pub SharedGuidsAreReported : Type 0
 SharedGuidsAreReported = (a b : Node) → shares_guid a b ≡ true ↔ ((guid : ℕ) × IsGuidOf a guid × IsGuidOf b guid)

@@ -23,7 +23,7 @@ place_of name nodes = position (λ node. bytes_eq name node.name) nodes
 abbrev pub is_switch_at : List Node → ℕ → Bool
 is_switch_at nodes place = option_map_or is_switch (slice_get nodes place) false
 
--- the name of the node there; no name where there is none
+-- the name of the node there; no name if there is none
 abbrev pub name_at : List Node → ℕ → List ℕ
 name_at nodes place = option_map_or (λ node. node.name) (slice_get nodes place) []
 
@@ -35,7 +35,7 @@ ports_at nodes place = option_map_or (λ node. node.ports) (slice_get nodes plac
 abbrev pub port_guid : Node → ℕ → ℕ
 port_guid node number = node.guid + number
 
--- of a port of the adapter there; 0, which is no GUID, where there is no node
+-- of a port of the adapter there; 0, which is no GUID, if there is no node
 abbrev pub port_guid_at : List Node → PortRef → ℕ
 port_guid_at nodes port = option_map_or (λ node. port_guid node port.port) (slice_get nodes port.node) 0
 

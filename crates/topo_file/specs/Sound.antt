@@ -28,7 +28,7 @@ is_manager_port nodes port = not (is_switch_at nodes port.node) && is_port nodes
 abbrev pub ends_at_ports : List Node → Cable → Bool
 ends_at_ports nodes cable = is_port nodes cable.first && is_port nodes cable.second
 
--- a manager's port, where there is one, is a port of an adapter
+-- an SM port, if there is one, is a port of an adapter
 abbrev pub on_adapter : List Node → Option Manager → Bool
 on_adapter nodes None = true
 on_adapter nodes (Some manager) = is_manager_port nodes manager.port

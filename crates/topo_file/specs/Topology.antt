@@ -26,7 +26,7 @@ use Rattle.topo_file.specs.Node.{place_of, is_switch_at, lacks_guids, is_one_too
 use Rattle.topo_file.specs.Cable.{port_at, may_join}
 use Rattle.topo_file.specs.Connectivity.{is_connected}
 
--- a topology: its nodes, cables and roots in the order of their lines, and the subnet manager's port. A root is the
+-- a topology: its nodes, cables and roots in the order of their lines, and the SM port. A root is the
 -- place of its switch among the nodes.
 pub record TopologyState : Type 0 where
   pub nodes : List Node

@@ -17,7 +17,7 @@ use fabric_parts::{Cable, Limits, NodeType, PortRef};
 use std::alloc::Global;
 use std::marker::Model;
 
-/// The subnet manager's port, and the line that places it there.
+/// The SM port, and the line that places it there.
 #[derive(Clone, Copy, Debug)]
 pub(crate) struct Manager {
     pub(crate) port: PortRef,

@@ -10,7 +10,7 @@ use thiserror::Error;
 #[derive(Clone, Copy, Debug, PartialEq, Eq, Error)]
 pub enum TopologyCause {
     /// The line has a bad character, an unknown first word, too few or too many words, or a word
-    /// that is misspelt or out of its range.
+    /// that is malformed or out of its range.
     #[error("the line is malformed")]
     Malformed,
     /// A node of this name is declared already, or is a root already.
@@ -40,7 +40,7 @@ pub enum TopologyCause {
     /// The node is one switch or one adapter port too many.
     #[error("the node is past the limit on switches or adapter ports")]
     OverLimit,
-    /// The subnet manager's port has no cable.
+    /// The SM port has no cable.
     #[error("the subnet manager's port has no cable")]
     ManagerUncabled,
     /// The root is no switch.

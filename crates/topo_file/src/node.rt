@@ -80,7 +80,7 @@ impl Node {
     }
 }
 
-/// The name of the node there, or no name where there is none.
+/// The name of the node there, or no name if there is none.
 pub fn name_at(nodes: &[Node], place: usize) -> &[u8]
     ensures value { result.now ≡ name_at nodes.now place }
     ensures short { length result.now ≤ NAME_BYTES }

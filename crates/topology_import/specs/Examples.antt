@@ -81,7 +81,7 @@ two_ports_text = codes "# fabric import, from ibnetdiscover\nswitch a_switch_of_
 pub record PortsAreImported : Type 0 where
   -- the subnet manager is on the port that is asked for
   pub asked : import_of two_ports (Some 258) ≡ Ok two_ports_text
-  -- a router's port is none, and where nothing is asked for and the text reports none there is none
+  -- a router's port is none, and if nothing is asked for and the text reports none there is none
   pub of_a_router : import_of two_ports (Some 513) ≡ Err (record { line = 0; cause = UnknownManager })
   pub of_none : import_of two_ports None ≡ Err (record { line = 0; cause = UnknownManager })
 

@@ -17,7 +17,7 @@ use Rattle.topology_import.specs.Ends.{ends, firsts, is_port_guid}
 use Rattle.topology_import.specs.Nodes.{guid_fault}
 use Rattle.topology_import.specs.Text.{planned_nodes, source_of, text_of}
 
--- ---- the subnet manager's port: that of this GUID, or else the one at which the text was printed
+-- ---- the SM port: that of this GUID, or else the one at which the text was printed
 abbrev pub asked_for : Option ℕ → Option ℕ → Option ℕ
 asked_for manager initiator = if is_some manager then manager else initiator
 
@@ -28,7 +28,7 @@ if_end_port ends None = Err UnknownManager
 abbrev pub manager_of : DiscoveryState → Option ℕ → Result ℕ ImportCause
 manager_of discovery manager = if_end_port (ends discovery) (asked_for manager discovery.initiator)
 
--- ---- a text is given only where what a reader of it gives is the topology that was meant
+-- ---- a text is given only if what a reader of it gives is the topology that was meant
 abbrev pub judged : DiscoveryState → List PortLine → List Planned → List CableMeant → ℕ → List ℕ → Result TopologyState (AtLine TopologyCause)
     → Result (List ℕ) (AtLine ImportCause)
 judged discovery ends nodes cables manager text (Ok plan) =

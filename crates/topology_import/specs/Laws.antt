@@ -65,7 +65,7 @@ pub record IsGiven (discovery : DiscoveryState) (manager : Option ℕ) (text : L
   pub nodes : are_as_planned (planned_nodes discovery) plan.nodes ≡ true
   pub is_of : IsTopologyOf discovery guid plan
 
--- where this test lets a topology pass, it is that of the discovery
+-- if this test lets a topology pass, it is that of the discovery
 abbrev pub ReportsOthers : (DiscoveryState → List Planned → ℕ → TopologyState → Bool) → Type 0
 ReportsOthers test =
     (discovery : DiscoveryState) (planned : List Planned) (manager : ℕ) (plan : TopologyState) → IsSound discovery

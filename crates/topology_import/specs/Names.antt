@@ -12,7 +12,7 @@ use Rattle.topology_import.specs.declared.planned.Planned.{Planned}
 abbrev pub name_at : List Node → ℕ → List ℕ
 name_at nodes place = option_map_or (λ node. node.name) (slice_get nodes place) []
 
--- `_` stands for each byte that a name may not have; 32 bytes are enough, and where there is none it is a `node`
+-- `_` stands for each byte that a name may not have; 32 bytes are enough, and if there is none it is a `node`
 abbrev pub name_byte : ℕ → ℕ
 name_byte byte = if is_name_byte byte then byte else 95
 

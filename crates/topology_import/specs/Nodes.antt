@@ -14,7 +14,7 @@ use Rattle.topology_import.specs.declared.fault.ImportCause.TheVariants.{GuidTak
 use Rattle.topology_import.specs.Ends.{ends, firsts, guid_of, ports_from}
 
 -- ---- switches, in the order of the discovery
--- the GUID of its port 0, or where that is not reported its node's
+-- the GUID of its port 0, or if that is not reported its node's
 abbrev pub switch_guid : Node → ℕ
 switch_guid node = unwrap_or node.port_guid node.id.guid
 

@@ -108,7 +108,7 @@ text_with discovery ends nodes cables manager =
 abbrev pub text_of : DiscoveryState → ℕ → List ℕ
 text_of discovery manager = text_with discovery (ends discovery) (planned_nodes discovery) (cables_meant discovery) manager
 
--- ---- the line of the discovery from which a line of the text was made, both counted from 1; 0 where there is none
+-- ---- the line of the discovery from which a line of the text was made, both counted from 1; 0 if there is none
 abbrev pub cable_source : List CableMeant → ℕ → ℕ
 cable_source cables place = option_map_or (λ cable. cable.line) (slice_get cables place) 0
 

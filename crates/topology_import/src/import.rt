@@ -24,7 +24,7 @@ use netdiscover_file::{Discovery, PortLine};
 use std::alloc::Global;
 use topo_file::TopoFault;
 
-/// The GUID of the subnet manager's port, if it is that of an end port.
+/// The GUID of the SM port, if it is that of an end port.
 fn if_end_port(ends: &EndList, guid: Option<u64>) -> Result<u64, ImportCause>
     ensures { result ≡ if_end_port ends.now guid }
 {
@@ -86,7 +86,7 @@ struct Wanted<'a> {
     ends: &'a EndList,
     nodes: &'a PlannedList,
     cables: &'a [CableMeant],
-    /// The GUID of the subnet manager's port.
+    /// The GUID of the SM port.
     manager: u64,
 }
 
@@ -147,7 +147,7 @@ fn text_read(
     read_back(alloc, &wanted, text)
 }
 
-/// The topology text of a discovery, with the subnet manager on the port of that GUID or, where none is given, on the one at
+/// The topology text of a discovery, with the subnet manager on the port of that GUID or, if none is given, on the one at
 /// which the discovery was made; or the first fault, with its line.
 ///
 /// `specs/Import.antt` says which. Besides, an allocation can fail.

@@ -4,7 +4,7 @@
 //! `specs/Import.antt` says which text that is: over the end ports and adapters of `specs/Ends.antt`, the nodes of
 //! `specs/Nodes.antt` with the names of `specs/Names.antt`, and the cables of `specs/Cables.antt`, encoded as `specs/Text.antt` says. If the fabric is
 //! too large to be simulated, the text says so by `specs/Sizes.antt`.
-//! A text is given only where the topology that is read of it is that of the discovery, as `specs/Agreement.antt` says.
+//! A text is given only if the topology that is read of it is that of the discovery, as `specs/Agreement.antt` says.
 #![tactic(auto)]
 
 mod agreement;

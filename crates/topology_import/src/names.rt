@@ -14,7 +14,7 @@ use netdiscover_file::Node;
 use std::alloc::{AllocError, Global};
 use text_parts::push_decimal;
 
-/// The name of the node there as it stands, or no name where there is none.
+/// The name of the node there as it stands, or no name if there is none.
 pub(crate) fn name_at(nodes: &[Node], place: usize) -> &[u8]
     ensures { result.now ≡ name_at nodes.now place }
 {

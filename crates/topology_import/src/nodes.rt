@@ -11,7 +11,7 @@ use netdiscover_file::{Discovery, Node, PortLine};
 use std::alloc::{AllocError, Global};
 use std::marker::Model;
 
-/// A node of the topology, but for its name.
+/// A node of the topology, except its name.
 #[derive(Clone, Copy)]
 pub(crate) struct Meant {
     pub(crate) node_type: NodeType,
@@ -23,7 +23,7 @@ pub(crate) struct Meant {
     pub(crate) line: usize,
 }
 
-/// The GUID of a switch's port 0, or where that is not reported the node's.
+/// The GUID of a switch's port 0, or if that is not reported the node's.
 fn switch_guid(node: &Node) -> u64
     ensures { result ≡ switch_guid node.now }
 {

@@ -142,7 +142,7 @@ impl PlannedList {
     }
 }
 
-/// The name of the node there, or no name where there is none.
+/// The name of the node there, or no name if there is none.
 fn name_at(nodes: &[Planned], place: usize) -> &[u8]
     ensures { result.now ≡ option_map_or (λ node. node.name) (slice_get nodes.now place) [] }
 {

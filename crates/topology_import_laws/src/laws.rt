@@ -10,37 +10,37 @@ pub fn others_are_reported()
     ensures { OthersAreReported }
 {}
 
-/// Where adapters may have any ports besides, one may have a port that was not discovered.
+/// If adapters may have any ports besides, one may have a port that was not discovered.
 pub fn ends_are_wanted()
     ensures { EndsAreWanted }
 {}
 
-/// Where no line is asked for its cable, an end port may have none.
+/// If no line is asked for its cable, an end port may have none.
 pub fn lines_are_wanted()
     ensures { LinesAreWanted }
 {}
 
-/// Where lines of switches are not asked for theirs, two switches may have none.
+/// If lines of switches are not asked for theirs, two switches may have none.
 pub fn switches_are_joined_too()
     ensures { SwitchesAreJoinedToo }
 {}
 
-/// Where no cable is asked for its lines, ports may be joined that no lines join.
+/// If no cable is asked for its lines, ports may be joined that no lines join.
 pub fn cables_are_wanted()
     ensures { CablesAreWanted }
 {}
 
-/// Where the subnet manager may be anywhere, it may be on no port at all.
+/// If the subnet manager may be anywhere, it may be on no port at all.
 pub fn the_manager_is_wanted()
     ensures { TheManagerIsWanted }
 {}
 
-/// Where no one looks at roots, a switch may be named as one.
+/// If no one looks at roots, a switch may be named as one.
 pub fn no_roots_are_wanted()
     ensures { NoRootsAreWanted }
 {}
 
-/// Where a cable need only end at the port of a line, two adapters may have changed places.
+/// If a cable need only end at the port of a line, two adapters may have changed places.
 pub fn near_ends_alone_are_not_enough()
     ensures { NearEndsAloneAreNotEnough }
 {}

@@ -141,7 +141,7 @@ module _ (routes : SwitchRoutesState) (are : AreRoutes routes) where
   abbrev before : ℕ → ℕ → Bool
   before = precedes routes.ranks routes.guids
 
-  -- where a port is chosen, there is a legal path; where none is, there is none
+  -- where a port is chosen, there is an up/down path; where none is, there is none
   reached : (s d port : ℕ) → s < length routes.rows → d < length routes.rows → port_towards routes d s ≡ Some port
       → LegalPath routes.rows before s d
   reached s d port sl dl e = by (s == d) refl

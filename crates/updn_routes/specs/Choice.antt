@@ -40,7 +40,7 @@ pub record IsLeastOf (is_way : ℕ → List ℕ → Bool) (port : ℕ) : Type 0 
 abbrev pub HasNone : (ℕ → List ℕ → Bool) → Type 0
 HasNone is_way = (port : ℕ) (steps : List ℕ) → is_way port steps ≡ false
 
--- among these ways down and up: down where some way leads down, else up, and nothing where there is none of either
+-- among these ways down and up: down if some way leads down, else up, and nothing if there is none of either
 abbrev pub IsChosenOf : (ℕ → List ℕ → Bool) → (ℕ → List ℕ → Bool) → Option ℕ → Type 0
 IsChosenOf downs ups (Some port) = IsLeastOf downs port ⊎ (HasNone downs × IsLeastOf ups port)
 IsChosenOf downs ups None = HasNone downs × HasNone ups

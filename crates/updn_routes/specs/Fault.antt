@@ -7,7 +7,7 @@ use Rattle.updn_routes.specs.declared.link.Link.{Link}
 use Rattle.updn_routes.specs.Order.{AreRanks, precedes}
 use Rattle.updn_routes.specs.Routes.{IsFirstUnreached}
 
--- by the order that these roots make, the pair is the first with no legal path
+-- by the order that these roots make, the pair is the first with no up/down path
 pub record IsRefused (rows : List (List Link)) (guids roots : List ℕ) (homes : List PortRef) (a b : ℕ) : Type 0 where
   pub ranks : List ℕ
   pub ranks_are : AreRanks rows guids roots ranks

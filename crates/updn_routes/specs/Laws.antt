@@ -14,7 +14,7 @@ use Rattle.updn_routes.specs.UpDown.{channel_numbers, goes_down, is_legal}
 use Rattle.updn_routes.specs.Waiting.{Channel, WaitsOver}
 
 -- ---- ranks and the order
--- where cables join all switches, and some switch passes the test, each has a distance from those that pass
+-- if cables join all switches, and some switch passes the test, each has a distance from those that pass
 abbrev pub JoinedSwitchesHaveDistances : Type 0
 JoinedSwitchesHaveDistances =
     (rows : List (List Link)) (passes : ℕ → Bool) (root : ℕ)
@@ -48,7 +48,7 @@ pub record LeadsHome (rows : List (List Link)) (before : ℕ → ℕ → Bool) (
   pub rising : rises (channel_numbers before (length rows) s steps) ≡ true
   pub short : length steps < 2 * length rows
 
--- where a port is chosen, following the choices leads home; where none is chosen, there is no legal walk at all
+-- if a port is chosen, following the choices leads home; if none is chosen, there is no legal walk at all
 pub record IsSettled (rows : List (List Link)) (before : ℕ → ℕ → Bool) (next : ℕ → Option ℕ) (s d : ℕ) : Type 0 where
   pub arrives : (port : ℕ) → next s ≡ Some port → (steps : List ℕ) × LeadsHome rows before next s d steps
   pub none : next s ≡ None → (steps : List ℕ) → (is_walk rows s steps d && is_legal before s steps) ≡ false
@@ -83,8 +83,8 @@ NoCycleWaits =
     → ((d : ℕ) → d < length rows → AllChosen rows before (next d) d)
     → (a : Channel) (others : List Channel) → ¬ (WaitsOver rows next a others a)
 
--- where some walk leads down all the way, the route goes down all the way too, and no such walk is shorter: so a step
--- up is taken only where none does
+-- if some walk leads down all the way, the route goes down all the way too, and no such walk is shorter: so a step
+-- up is taken only if none does
 abbrev pub WaysDownComeFirst : Type 0
 WaysDownComeFirst =
     (rows : List (List Link)) (before : ℕ → ℕ → Bool) (next : ℕ → Option ℕ) (d : ℕ)
@@ -157,7 +157,7 @@ pub record SidesPart (rows : List (List Link)) (depths : List ℕ) (s : ℕ) : T
   pub one : (q n : Side) (t : ℕ) → t < length rows → IsSide rows depths s q → IsSide rows depths s n
       → is_behind rows depths s q t ≡ true → is_behind rows depths s n t ≡ true → q ≡ n
 
--- where no two switches have one GUID, since then there is one first root
+-- if no two switches have one GUID, since then there is one first root
 abbrev pub SidesPartTheTree : Type 0
 SidesPartTheTree =
     (rows : List (List Link)) (guids roots depths : List ℕ)
@@ -166,7 +166,7 @@ SidesPartTheTree =
     → (s : ℕ) → s < length rows → SidesPart rows depths s
 
 -- ---- places
--- places are below the number of switches, less exactly where the switch comes before, and no two switches have one
+-- places are below the number of switches, less if and only if the switch comes before, and no two switches have one
 pub record KeepsTheOrder (count : ℕ) (before : ℕ → ℕ → Bool) (place : ℕ → ℕ) : Type 0 where
   pub below : (s : ℕ) → s < count → place s < count
   pub less : (s t : ℕ) → s < count → t < count → nat_lt (place s) (place t) ≡ before s t

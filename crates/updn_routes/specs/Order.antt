@@ -1,11 +1,11 @@
--- The order that reports up from down: by rank, and where ranks are equal by GUID.
+-- The order that reports up from down: by rank, and if ranks are equal by GUID.
 use Rattle.std.specs.Prelude.{ℕ, ◌≡◌, ◌≢◌, ◌==◌, ◌<◌, ◌≤◌, ◌&&◌, ◌||◌, nat_le, nat_lt, Bool, true, false, List, [], ◌∷◌, length, filter, get_or}
 use Rattle.std.specs.List.{list_all, list_any, range_with_len}
 use Rattle.updn_routes.specs.declared.link.Link.{Link}
 use Rattle.updn_routes.specs.Cabling.{is_walk}
 
 -- ---- roots
--- the roots are the switches whose GUIDs are named, and where none is named the switch of least GUID
+-- the roots are the switches whose GUIDs are named, and if none is named the switch of least GUID
 abbrev pub is_root : List ℕ → List ℕ → ℕ → Bool
 is_root guids [] s = list_all (λ guid. nat_le (get_or guids s 0) guid) guids
 is_root guids (first ∷ named) s = list_any (λ guid. guid == get_or guids s 0) (first ∷ named)
@@ -31,7 +31,7 @@ abbrev pub AreRanks : List (List Link) → List ℕ → List ℕ → List ℕ �
 AreRanks rows guids roots ranks = AreDistances rows (is_root guids roots) ranks
 
 -- ---- the order
--- s comes before t where its rank is less, or the rank is the same and its GUID is less
+-- s comes before t if its rank is less, or the rank is the same and its GUID is less
 abbrev pub precedes : List ℕ → List ℕ → ℕ → ℕ → Bool
 precedes ranks guids s t =
     nat_lt (get_or ranks s 0) (get_or ranks t 0)

@@ -13,7 +13,7 @@ is_marked marks s = get_or marks s false
 abbrev pub at_first : Bool → Option ℕ
 at_first is = if is then Some 0 else None
 
--- the distance of a switch, where it is found
+-- the distance of a switch, if it is found
 abbrev pub found_at : List (Option ℕ) → ℕ → Option ℕ
 found_at found s = get_or found s None
 

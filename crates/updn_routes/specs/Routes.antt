@@ -39,7 +39,7 @@ home_of homes lid = if lid == 0 then None else slice_get homes (lid - 1)
 abbrev pub order_of : SwitchRoutesState → ℕ → ℕ → Bool
 order_of routes = precedes routes.ranks routes.guids
 
--- the port chosen at s towards the switch d, and 0 where it is s
+-- the port chosen at s towards the switch d, and 0 if it is s
 abbrev pub port_towards : SwitchRoutesState → ℕ → ℕ → Option ℕ
 port_towards routes d s =
     option_map (λ hop. hop.port) (entry_at (get_or routes.tables (place_at routes.places d) []) (place_at routes.places s))
@@ -89,7 +89,7 @@ pub record LeadsToLid (routes : SwitchRoutesState) (lid s d port : ℕ) (steps :
   pub short : length steps + 1 ≤ 2 * length routes.rows
   pub out : next_hop routes d lid ≡ Some port
 
--- a LID that is attached at port of d, seen from s: with a next hop, following these leads there; with none, no legal path does
+-- a LID that is attached at port of d, seen from s: with a next hop, following these leads there; with none, no up/down path does
 pub record IsRouted (routes : SwitchRoutesState) (lid s d port : ℕ) : Type 0 where
   pub arrives : (first : ℕ) → next_hop routes s lid ≡ Some first → (steps : List ℕ) × LeadsToLid routes lid s d port steps
   pub none : next_hop routes s lid ≡ None
@@ -119,7 +119,7 @@ LegalPath rows before s d = (steps : List ℕ) × ((is_walk rows s steps d && is
 abbrev pub NoLegalPath : List (List Link) → (ℕ → ℕ → Bool) → ℕ → ℕ → Type 0
 NoLegalPath rows before s d = (steps : List ℕ) → (is_walk rows s steps d && is_legal before s steps) ≡ false
 
--- each pair has a legal path
+-- each pair has an up/down path
 abbrev pub AllReached : List (List Link) → (ℕ → ℕ → Bool) → List PortRef → Type 0
 AllReached rows before homes = (a b s d : ℕ) → IsPair homes a b s d → LegalPath rows before s d
 

@@ -14,7 +14,7 @@ use Rattle.updn_routes.specs.Places.{placed_link}
 abbrev pub places_of : List ℕ → List ℕ → List ℕ
 places_of ranks guids = map (place_of (precedes ranks guids) (length guids)) (range_with_len 0 (length guids))
 
--- the place of a switch, and past all of them where there is no such switch
+-- the place of a switch, and past all of them if there is no such switch
 abbrev pub place_at : List ℕ → ℕ → ℕ
 place_at places s = get_or places s (length places)
 
@@ -67,7 +67,7 @@ or_link table best link = or_better best link.port (entry_at table link.to)
 abbrev pub best_of : List (Option NextHop) → List Link → Option NextHop
 best_of table row = fold (or_link table) None row
 
--- the way down where there is one, and else the way up
+-- the way down if there is one, and else the way up
 abbrev pub or_up : Option NextHop → Option NextHop → Option NextHop
 or_up (Some way) up = Some way
 or_up None up = up

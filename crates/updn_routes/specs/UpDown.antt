@@ -2,7 +2,7 @@
 use Rattle.std.specs.Prelude.{ℕ, ◌+◌, ◌-◌, ◌&&◌, ◌||◌, Bool, true, if◌then◌else◌, List, [], ◌∷◌}
 use Rattle.updn_routes.specs.Order.{place_of}
 
--- the step from s to t goes up where t comes before s, and down where s comes before t
+-- the step from s to t goes up if t comes before s, and down if s comes before t
 abbrev pub is_up : (ℕ → ℕ → Bool) → ℕ → ℕ → Bool
 is_up before s t = before t s
 

@@ -41,12 +41,12 @@ impl Model for SwitchRoutes {
 }
 
 impl SwitchRoutes {
-    /// The port by which a switch sends what is for a LID: 0 where the LID is its own, the port of the adapter
-    /// where one with that LID is attached to it, and else the port chosen towards the switch at which the LID is attached.
-    /// None where no port is chosen, and where nobody has the LID.
+    /// The port by which a switch sends what is for a LID: 0 if the LID is its own, the port of the adapter
+    /// if one with that LID is attached to it, and else the port chosen towards the switch at which the LID is attached.
+    /// None if no port is chosen, and if nobody has the LID.
     pub fn next_hop(&self, switch: usize, lid: u16) -> Option<u8>
         ensures exact { result ≡ next_hop self.now switch lid }
-        // following next hops leads there, by a legal path; without one there is none
+        // following next hops leads there, by an up/down path; without one there is none
         ensures routed { AllRouted self.now switch lid }
     {
         let home = home_of(&self.homes, lid)?;
@@ -56,7 +56,7 @@ impl SwitchRoutes {
         self.port_towards(home.node, switch)
     }
 
-    /// The number of the channel from a switch to another, where they are side by side: along every route these
+    /// The number of the channel from a switch to another, if they are side by side: along every route these
     /// numbers rise.
     pub fn channel_number(&self, switch: usize, next: usize) -> Option<usize>
         ensures { result ≡ number_of self.now switch next }
@@ -107,7 +107,7 @@ impl SwitchRoutes {
         let _ = &self.rows;
     }
 
-    /// How far a switch is from the nearest root; 0 where there is no such switch.
+    /// How far a switch is from the nearest root; 0 if there is no such switch.
     pub fn rank_of(&self, switch: usize) -> usize
         ensures { result ≡ get_or self.now.ranks switch 0 }
     {
@@ -117,7 +117,7 @@ impl SwitchRoutes {
         }
     }
 
-    /// How far a switch is from the first root; 0 where there is no such switch.
+    /// How far a switch is from the first root; 0 if there is no such switch.
     pub fn depth_of(&self, switch: usize) -> usize
         ensures { result ≡ get_or self.now.depths switch 0 }
     {
@@ -127,7 +127,7 @@ impl SwitchRoutes {
         }
     }
 
-    /// Where a LID is attached: at a port of a switch, and at its port 0 where it is the switch's own.
+    /// Where a LID is attached: at a port of a switch, and at its port 0 if it is the switch's own.
     pub fn home_of(&self, lid: u16) -> Option<PortRef>
         ensures { result ≡ home_of self.now.homes lid }
     {
@@ -176,7 +176,7 @@ impl SwitchRoutes {
     }
 
     /// The first pair, by LIDs, of a switch that carries adapters' ports and an adapter's port to which it has no
-    /// legal path.
+    /// up/down path.
     pub(crate) fn first_gap(&self) -> Option<(u16, u16)>
         ensures none { result ≡ None → AllReached self.now.rows (order_of self.now) self.now.homes }
         ensures some { IfSome result (λ pair. IsFirstUnreached self.now.rows (order_of self.now) self.now.homes pair.0 pair.1) }

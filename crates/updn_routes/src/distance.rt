@@ -77,7 +77,7 @@ fn is_next_to(links: &[Link], found: &[Option<usize>], distance: usize) -> bool
         .any(|link| found_at(found, link.to) == Some(distance))
 }
 
-/// The distance of a switch, where it is found.
+/// The distance of a switch, if it is found.
 fn found_at(found: &[Option<usize>], switch: usize) -> Option<usize>
     ensures { result ≡ found_at found.now switch }
 {

@@ -9,7 +9,7 @@ pub enum RouteFault {
     /// Out of memory.
     #[error("out of memory")]
     NoMemory,
-    /// From a switch that carries adapters' ports no legal path leads to one of these. Of all such pairs this is
+    /// From a switch that carries adapters' ports no up/down path leads to one of these. Of all such pairs this is
     /// the first, by the switch's LID and then by the port's.
     #[error("no legal path leads from a switch to a port")]
     NoLegalPath {

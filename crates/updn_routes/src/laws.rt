@@ -3,14 +3,14 @@
 ghost use Rattle.updn_routes.specs.Examples.{FourSwitchesMeetTheLaws, SevenSwitchesMeetTheLaws, TwoSwitchesMeetTheLaws};
 ghost use Rattle.updn_routes.specs.Laws.{ChoicesLeadHome, ChoicesThereAre, EveryFabricHasRoutes, JoinedSwitchesHaveDistances, NoCycleWaits, OneChoiceIsLeft, OneDistanceIsLeft, PlacesAreTheirOwn, PlacesKeepTheChoices, PlacesKeepTheOrder, PlacesKeepTheWalks, RanksAndGuidsOrder, SidesPartTheTree, TheTreeHasSides, TheTreeLeadsToTheFirstRoot, WaysDownComeFirst};
 
-/// Where cables join all switches, each of them has a distance from the nearest of any given ones, as its rank
+/// If cables join all switches, each of them has a distance from the nearest of any given ones, as its rank
 /// from the roots and its depth from the first root; and it has one such distance only.
 pub fn joined_switches_have_distances()
     ensures some { JoinedSwitchesHaveDistances }
     ensures one { OneDistanceIsLeft }
 {}
 
-/// Ranks, and GUIDs where ranks are equal, put all switches in order, if no two of them have one GUID.
+/// Ranks, and GUIDs if ranks are equal, put all switches in order, if no two of them have one GUID.
 pub fn ranks_and_guids_order()
     ensures { RanksAndGuidsOrder }
 {}
@@ -21,8 +21,8 @@ pub fn every_fabric_has_routes()
     ensures { EveryFabricHasRoutes }
 {}
 
-/// Where a port is chosen, following the choices arrives, up and then down, over fewer than twice as many
-/// cables as there are switches, and over channels whose numbers rise. Where none is chosen, no legal walk
+/// If a port is chosen, following the choices arrives, up and then down, over fewer than twice as many
+/// cables as there are switches, and over channels whose numbers rise. If none is chosen, no legal walk
 /// leads there at all.
 pub fn choices_lead_home()
     ensures { ChoicesLeadHome }
@@ -40,8 +40,8 @@ pub fn no_cycle_waits()
     ensures { NoCycleWaits }
 {}
 
-/// Where some walk leads down all the way, the route goes down all the way, and no such walk is shorter. So a
-/// step up is taken only where none does.
+/// If some walk leads down all the way, the route goes down all the way, and no such walk is shorter. So a
+/// step up is taken only if none does.
 pub fn ways_down_come_first()
     ensures { WaysDownComeFirst }
 {}
@@ -52,10 +52,10 @@ pub fn the_tree_leads_to_the_first_root()
     ensures { TheTreeLeadsToTheFirstRoot }
 {}
 
-/// A switch lies below another in the spanning tree where the tree ports lead from it to the other: each lies below
+/// A switch lies below another in the spanning tree if the tree ports lead from it to the other: each lies below
 /// itself and the first root, and what lies below a switch, and is not that switch, lies below one child of it.
 ///
-/// So, where no two switches have one GUID, the sides of a switch, towards its parent and towards each child, part
+/// So, if no two switches have one GUID, the sides of a switch, towards its parent and towards each child, part
 /// the others: each other switch lies on one side; and whoever goes over the link on a side has the switch behind,
 /// with all that lies on its other sides.
 pub fn the_tree_has_sides()

@@ -6,7 +6,7 @@
 //! the choice of ways to a subnet manager (IBA volume 1, chapter 14).
 //!
 //! The cables between switches are rows of [`Link`]s, one row for each switch. `specs/Order.antt` says how far
-//! switches are from roots, and which of two comes before the other: a step is up where it goes to the one that
+//! switches are from roots, and which of two comes before the other: a step is up if it goes to the one that
 //! does. `specs/UpDown.antt` says which walks are legal, `specs/Choice.antt` which port a switch chooses towards
 //! another, `specs/Tree.antt` by which port it is joined to the spanning tree of multicast, `specs/Sides.antt` what
 //! lies on which side of it there, and `specs/Routes.antt` what routes answer. Laws over these definitions stand in

@@ -34,7 +34,7 @@ fn place_of(ranks: &[usize], guids: &[u64], switch: usize) -> usize
         .count()
 }
 
-/// Whether the one switch comes before the other: by rank, and where ranks are equal by GUID.
+/// Whether the one switch comes before the other: by rank, and if ranks are equal by GUID.
 fn precedes(ranks: &[usize], guids: &[u64], one: usize, other: usize) -> bool
     ensures { result ≡ precedes ranks.now guids.now one other }
 {
@@ -61,7 +61,7 @@ pub(crate) fn guid_of(guids: &[u64], switch: usize) -> u64
     }
 }
 
-/// The place of a switch, and past all of them where there is no such switch.
+/// The place of a switch, and past all of them if there is no such switch.
 pub(crate) fn place_at(places: &[usize], switch: usize) -> usize
     ensures { result ≡ place_at places.now switch }
 {

@@ -33,7 +33,7 @@ pub(crate) fn marked_first_root(
         .collect(alloc)
 }
 
-/// Whether the switch is a root: is named, or of the least GUID where none is.
+/// Whether the switch is a root: is named, or of the least GUID if none is.
 #[tactic(auto, using(crate::proofs::RootLemmas::root_named, crate::proofs::RootLemmas::root_least))]
 fn is_root(guids: &[u64], roots: &[u64], switch: usize) -> bool
     ensures { result ≡ is_root guids.now roots.now switch }
@@ -60,7 +60,7 @@ fn is_named(roots: &[u64], own: u64) -> bool
     roots.iter().any(|guid| *guid == own)
 }
 
-/// Whether the switch is the first root: is the one that is named first, or of the least GUID where none is.
+/// Whether the switch is the first root: is the one that is named first, or of the least GUID if none is.
 fn is_first_root(guids: &[u64], roots: &[u64], switch: usize) -> bool
     ensures { result ≡ is_first_root guids.now roots.now switch }
 {

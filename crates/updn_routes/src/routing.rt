@@ -28,9 +28,9 @@ use std::alloc::{AllocError, Global};
 use sweep::Graph;
 
 /// The routes of a graph whose switches are joined, by its LIDs; they keep both. The roots are GUIDs of switches of
-/// the graph, in the order in which they are named; where there are none, the switch of least GUID is the root.
+/// the graph, in the order in which they are named; if there are none, the switch of least GUID is the root.
 ///
-/// `NoLegalPath` exactly where some switch that carries adapters' ports has no legal path to one of these.
+/// `NoLegalPath` if and only if some switch that carries adapters' ports has no up/down path to one of these.
 pub fn routes(alloc: Global, graph: Graph, lids: Lids, roots: &[u64]) -> Result<Routes, RouteFault>
     requires joined { AllJoined graph.rows }
     requires lids { AreLids (end_ports graph) lids }
@@ -76,7 +76,7 @@ fn routes_between(
 /// The routes over these cables: the links of each switch and its GUID, the GUIDs of the roots in the order in
 /// which they are named, and where each LID is attached, from LID 1 on.
 ///
-/// `NoLegalPath` exactly where some switch that carries adapters' ports has no legal path to one of these.
+/// `NoLegalPath` if and only if some switch that carries adapters' ports has no up/down path to one of these.
 pub fn routes_over(
     alloc: Global,
     rows: Vec<Row>,

@@ -55,7 +55,7 @@ impl Row {
     }
 }
 
-/// The links of the switch with that number; none, where there is no such switch.
+/// The links of the switch with that number; none, if there is no such switch.
 pub(crate) fn links_of(rows: &[Row], switch: usize) -> &[Link]
     ensures { result.now ≡ links_of rows.now switch }
 {

@@ -120,7 +120,7 @@ fn upwards(ups: &[Row], target: usize, mut table: Vec<Option<NextHop>>) -> Vec<O
     table
 }
 
-/// The way of a place: down where there is one, and else the best way up.
+/// The way of a place: down if there is one, and else the best way up.
 fn down_or_up(ups: &[Row], place: usize, table: &[Option<NextHop>]) -> Option<NextHop>
     requires { AllWithin 254 table.now }
     ensures { result ≡ or_up (entry_at table.now place) (best_of table.now (links_of ups.now place)) }
@@ -167,7 +167,7 @@ fn or_better(best: Option<NextHop>, port: u8, beyond: Option<NextHop>) -> Option
     }
 }
 
-/// The table towards the switch at a place; no entry, where there is no such place.
+/// The table towards the switch at a place; no entry, if there is no such place.
 pub(crate) fn table_at(tables: &[Table], place: usize) -> &[Option<NextHop>]
     ensures { result.now ≡ get_or tables.now place [] }
 {

@@ -154,7 +154,7 @@ fn put_key_at(fabric: &mut Fabric, port: u8, key: u16) -> Option<()> {
     put_key(fabric, path, number, key)
 }
 
-/// Who gets that packet where both ports have that key; then they have that of power-up again.
+/// Who gets that packet if both ports have that key; then they have that of power-up again.
 fn got_under(
     alloc: Global,
     fabric: &mut Fabric,

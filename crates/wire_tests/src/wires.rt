@@ -91,7 +91,7 @@ fn an_answer_comes_back(rt: &impl Abort, fabric: &mut Fabric) {
 }
 
 /// Whether a block of the linear forwarding table is set to 3 throughout or read, the block, how many hops of the path to B are
-/// gone, and the byte that all of it is then; none where it is refused.
+/// gone, and the byte that all of it is then; none if it is refused.
 const BLOCKS: [(bool, u32, usize, Option<u8>); 5] = [
     (true, 7, 2, Some(3)),
     (false, 7, 2, Some(3)),

@@ -132,7 +132,7 @@ const EDITS: [(&'static [(usize, u8)], usize, u8, u8); 8] = [
     ),
 ];
 
-/// And where an edit changes nothing, it finds the fabric by SMPs that are numbered from 1 to 22.
+/// And if an edit changes nothing, it finds the fabric by SMPs that are numbered from 1 to 22.
 #[test]
 fn a_sweep_takes_no_wrong_reply(rt: HostRuntime) -> Result<(), Fail> {
     for (of, place, value, smps) in EDITS {
@@ -171,7 +171,7 @@ impl SmpWire for EndlessWire {
     }
 }
 
-/// NodeInfo of the subnet manager's port, three SMPs for each switch, and one less for the first, whose port is
+/// NodeInfo of the SM port, three SMPs for each switch, and one less for the first, whose port is
 /// not asked.
 #[test]
 fn a_sweep_without_end_stops_at_the_65th_switch(rt: HostRuntime) -> Result<(), Fail> {

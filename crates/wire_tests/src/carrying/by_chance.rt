@@ -102,7 +102,7 @@ fn matches(a: u16, b: u16) -> bool {
     a % 0x8000 != 0 && a % 0x8000 == b % 0x8000 && (a >= 0x8000 || b >= 0x8000)
 }
 
-/// Whether a port that holds this lets through what it is to check where that bit is set.
+/// Whether a port that holds this lets through what it is to check if that bit is set.
 fn passes(held: (u16, u8), bit: u8, key: u16) -> bool {
     held.1 & bit == 0 || matches(held.0, key)
 }

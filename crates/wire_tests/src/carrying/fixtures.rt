@@ -20,7 +20,7 @@ pub const TO_A: &[u8] = &[1];
 
 pub const TO_B: &[u8] = &[1, 3];
 
-/// An attribute of zero bytes but for these, from that byte on.
+/// An attribute of zero bytes except these, from that byte on.
 fn attribute_with(first: u8, bytes: &[u8]) -> [u8; 64] {
     let mut attribute = [0; 64];
     let mut place = first;
@@ -31,7 +31,7 @@ fn attribute_with(first: u8, bytes: &[u8]) -> [u8; 64] {
     attribute
 }
 
-/// Sets a part of an attribute at the end of a path to zero bytes but for these.
+/// Sets a part of an attribute at the end of a path to zero bytes except these.
 fn put(
     fabric: &mut Fabric,
     path: &[u8],

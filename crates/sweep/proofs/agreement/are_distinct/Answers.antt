@@ -5,7 +5,7 @@ use Rattle.std.proofs.lemmas.Cmp.{nat_eq_equiv}
 use Rattle.std.proofs.lemmas.Map.Made.{AllPairs-from_IsDistinct, IsDistinct-from_AllPairs, hash_set_len-Decides}
 use Rattle.sweep.proofs.agreement.are_distinct.Goals as goal
 
--- a set is as long as the list that it was made of exactly where no two of that are the same
+-- a set is as long as the list that it was made of if and only if no two of that are the same
 pub returns : goal.returns
 returns c =
     let made : bag.IsFromIterResult eqb c.args.guids.now c.in_ok-set.set = search rules in

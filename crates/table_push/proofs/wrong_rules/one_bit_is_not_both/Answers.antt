@@ -5,7 +5,7 @@ use Rattle.table_push.specs.WrongRules.{one_bit_counts}
 use Rattle.table_push.specs.declared.fault.Taken.TheVariants.{NotEnforcing}
 use Rattle.table_push.proofs.wrong_rules.one_bit_is_not_both.Goals as goal
 
--- PortInfo that is all 0 but for these bits
+-- PortInfo that is all 0 except these bits
 abbrev info : ℕ → List ℕ
 info bits = replicate 43 0 ++ bits ∷ replicate 20 0
 

@@ -1,4 +1,4 @@
--- What was read so far is carried out, but for the line that is begun.
+-- What was read so far is carried out, except the line that is begun.
 use Rattle.std.proofs.Common.{◌≡◌, ◌≤◌, ◌*◌, true, length, List, ℕ, []}
 use Rattle.std.specs.Io.KnownBytes.{Consumes}
 use Rattle.subnet_core.specs.Stream.{report_so_far}
