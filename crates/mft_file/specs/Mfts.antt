@@ -75,7 +75,7 @@ with_rows so_far rows = record so_far { rows = rows }
 abbrev pub with_row : DraftState → Result MaskRow MftCause → Result DraftState MftCause
 with_row so_far reported = reported >>= λ row. Ok (with_rows so_far (so_far.rows ++ row ∷ []))
 
--- ---- the last line of a table: `2 valid mlids dumped`, or `1024 mlids dumped` where empty masks have rows too
+-- ---- the last line of a table: `2 valid mlids dumped`, or `1024 mlids dumped` if empty masks have rows too
 abbrev pub are_counted : List ℕ → Bool
 are_counted words = bytes_eq words (codes "valid mlids dumped") || bytes_eq words (codes "mlids dumped")
 

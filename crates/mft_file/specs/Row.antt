@@ -38,7 +38,7 @@ row_in columns text = do
   mlid ← mlid_of columns text
   Ok (record { mlid = mlid; ports = ports_of columns text })
 
--- ---- MLIDs rise: this one is above that of the last row, where there is one, and in the range of the table
+-- ---- MLIDs rise: this one is above that of the last row, if there is one, and in the range of the table
 abbrev pub is_above : List MaskRow → ℕ → Bool
 is_above rows mlid = option_map_or (λ row. nat_lt row.mlid mlid) (slice_get rows (length rows - 1)) true
 

@@ -26,7 +26,7 @@ pub record AreSound (tables : List MaskTable) : Type 0 where
   pub own_switches : IsDistinct shares_switch tables
   pub rising : list_all is_rising tables ≡ true
 
--- of a table that is open: its switch has no other, and its MLIDs rise so far. Where none is open there are no rows.
+-- of a table that is open: its switch has no other, and its MLIDs rise so far. If none is open there are no rows.
 pub record IsOpen (tables : List MaskTable) (heading : Heading) (rows : List MaskRow) : Type 0 where
   pub new : place_of heading.guid tables ≡ None
   pub rising : rise 49152 rows ≡ true

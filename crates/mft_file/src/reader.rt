@@ -229,7 +229,7 @@ fn is_passed_over(text: &[u8]) -> bool
 ///
 /// Read are the tables that `dump_fts -M` and `dump_mfts` print, with their option `-a` or without, and those of
 /// `fabric tables`. Passed over are lines with nothing on them, lines that begin with `#`, unicast tables, and the
-/// warning that ends what `dump_mfts` prints. Where a line ends in blanks, or in CR LF, these do not count.
+/// warning that ends what `dump_mfts` prints. If a line ends in blanks, or in CR LF, these do not count.
 #[tactic(auto, unfolding(crate::specs::Mfts::mfts_of))]
 pub fn read(alloc: Global, text: &[u8]) -> Result<Mfts, MftFault>
     // What the text reports, or its first fault.

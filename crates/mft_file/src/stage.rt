@@ -21,7 +21,7 @@ pub(crate) enum Stage {
 }
 
 impl Stage {
-    /// Whether no table is open.
+    /// Whether the lines so far end outside a table.
     pub(crate) fn is_between(self) -> bool
         ensures { result ≡ is_between self }
     {

@@ -30,7 +30,7 @@ ReportsMaskLoops reports =
 abbrev pub MaskLoopsGoRound : Type 0
 MaskLoopsGoRound = ReportsMaskLoops loop_of
 
--- where none is reported there is none, however long
+-- if none is reported there is none, however long
 abbrev pub MissesNoMaskLoop : (NetState → List (List ℕ) → Option (List PortRef)) → Type 0
 MissesNoMaskLoop reports =
     (net : NetState) (masks : List (List ℕ)) → reports net masks ≡ None → (ring : List PortRef) → list_all (is_own_port net) ring ≡ true
@@ -64,7 +64,7 @@ ReportsCopies reports =
 abbrev pub CopiesComeTwice : Type 0
 CopiesComeTwice = ReportsCopies copy_of
 
--- where none is reported each switch is reached by one path at most
+-- if none is reported each switch is reached by one path at most
 abbrev pub MissesNoCopy : (NetState → List (List ℕ) → Option SecondCopy) → Type 0
 MissesNoCopy reports =
     (net : NetState) (masks : List (List ℕ)) → reports net masks ≡ None → (place there : ℕ) → is_switch_at net.plan.nodes place ≡ true

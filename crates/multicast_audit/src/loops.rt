@@ -55,7 +55,7 @@ fn graph_of(alloc: Global, net: &Net<'_>, all: &[PortRef]) -> Result<Vec<NextLis
     Ok(graph)
 }
 
-/// The port there, or no port of a switch where there is none.
+/// The port there, or no port of a switch if there is none.
 fn port_at(all: &[PortRef], place: usize) -> PortRef
     ensures { result ≡ get_or all.now place (port 0 0) }
 {

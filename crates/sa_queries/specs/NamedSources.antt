@@ -35,7 +35,7 @@ ComesFrom state (sa_record.Path shown) source = (guid : ℕ) × (shown.dgid ≡ 
 ComesFrom state (sa_record.Group shown) source = is_made_by state.partitions shown source ≡ true
 ComesFrom state (sa_record.Service shown) source = (guid : ℕ) × (shown.service_gid ≡ gid_of guid) × (source ≡ Creator.Port guid)
 
--- ---- what a rule for what is selected owes: each record has the source that it comes from
+-- ---- what is proved of a rule for what is selected: each record has the source that it comes from
 abbrev pub SelectRule : Type 0
 SelectRule = List SubnetPort → SubnetPort → SaState → Query → List Entry
 
@@ -44,6 +44,6 @@ SaysTheSource rule =
     (ports : List SubnetPort) (own : SubnetPort) (state : SaState) (query : Query)
     → AllByRecursion (λ entry. ComesFrom state entry.shown entry.source) (rule ports own state query)
 
--- ours pays it, of paths as many to each port as may be
+-- it holds of ours, of paths as many to each port as may be
 abbrev pub SelectedSayTheirSource : Type 0
 SelectedSayTheirSource = (most : Option ℕ) → SaysTheSource (selected most)

@@ -1,4 +1,4 @@
--- How what a port is shown is shown: as records of subnet administration (IBA volume 1, 15.2.5).
+-- How the records look that a port is shown (IBA volume 1, 15.2.5).
 use Rattle.std.specs.Prelude.{ℕ, ◌-◌, true, false, ◌++◌, length, replicate}
 use Rattle.fabric_parts.specs.NodeType.{node_type_code}
 use Rattle.pkey_rules.specs.PKey.{key_of}

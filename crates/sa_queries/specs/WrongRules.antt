@@ -30,7 +30,7 @@ LeadsToNear rule =
     → list_all (λ path. is_near ports own.guid path.destination.guid)
     (flat_map (λ other. paths_under (rule own other) own other) ports) ≡ true
 
--- ours keeps it
+-- it holds of ours
 abbrev pub PathsLeadToNear : Type 0
 PathsLeadToNear = LeadsToNear keys_to
 
@@ -75,7 +75,7 @@ ShowsInOrder rule =
     → are_sound_services configuration.ports services ≡ true
     → pairwise (is_offered_before configuration.ports) (rule configuration.ports own services) ≡ true
 
--- ours keeps it
+-- it holds of ours
 abbrev pub ServicesStandInOrder : Type 0
 ServicesStandInOrder = ShowsInOrder visible_services
 

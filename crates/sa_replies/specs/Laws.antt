@@ -113,7 +113,7 @@ pub record SeesAlike (sight : ServiceSight) (ports : List SubnetPort) (p : ℕ) 
   pub remembered : SeesSame sight ports p s.remembered t.remembered
   pub own_table : table_place p s.transfers ≡ table_place p t.transfers
 
--- ---- what a rule for answers owes to a port p: whatever a port sends that is far from it, it sees the same after, of services
+-- ---- what is proved of a rule for answers, for a port p: whatever a port sends that is far from it, it sees the same after, of services
 -- all those of the ports near it, shown to it or not
 abbrev pub AnswerRule : Type 0
 AnswerRule = List SubnetPort → SubnetPort → List ℕ → Administration → Answered
@@ -124,7 +124,7 @@ HidesFarRequests rule =
     → is_near ports p own.guid ≡ false → is_sound ports state.remembered.partitions ≡ true
     → SeesAlike services_near ports p (rule ports own payload state).1 state
 
--- ours pays it
+-- it holds of ours
 abbrev pub FarRequestsAreNotSeen : Type 0
 FarRequestsAreNotSeen = HidesFarRequests answer
 

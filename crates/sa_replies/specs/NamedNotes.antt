@@ -97,6 +97,6 @@ NamesSources rule =
     (ports : List SubnetPort) (own : SubnetPort) (payload : List ℕ) (state : Administration) (notes : Notes)
     → IsNamed ports own payload state notes (rule ports own payload state notes)
 
--- ours does
+-- it holds of ours
 abbrev pub NotesNameSources : Type 0
 NotesNameSources = NamesSources answer_noted

@@ -81,7 +81,7 @@ abbrev pub notes_after : List SubnetPort → SubnetPort → List ℕ → Adminis
 notes_after ports own payload state notes =
     if is_request payload then noted_request ports own state.remembered (request_in payload) notes else notes
 
--- ---- what the data of a reply come from that is no segment. In that to a Get, from what its record comes from
+-- ---- the source of the data of a reply that is no segment. Of a Get: the source of its record
 abbrev pub noted_if_got : Result Entry MadStatus → List NotedByte
 noted_if_got (Ok entry) = noted_record entry
 noted_if_got (Err status) = []
@@ -90,7 +90,7 @@ abbrev pub noted_get : List SubnetPort → SubnetPort → SaState → Option Que
 noted_get ports own state (Some query) = noted_if_got (got ports own state query)
 noted_get ports own state None = []
 
--- in that to a join, from who made the group, as it is after the join
+-- of a join: who made the group, as it is after the join
 abbrev pub member_entry : SubnetPort → ℕ → MulticastGroup → Entry
 member_entry own base group = record { shown = sa_record.Group (member_record own base group); source = group.creator }
 
@@ -102,7 +102,7 @@ abbrev pub noted_join : SubnetPort → McMemberRecord → SaState → List Noted
 noted_join own asked next =
     noted_member own (base_of asked.p_key) (group_named (base_of asked.p_key) asked.mgid next.partitions)
 
--- in that to the Set of a service, and to a Delete, whose reply has the request's own data, from the port that asks
+-- of the Set of a service, and of a Delete, whose reply has the request's own data: the port that asks
 abbrev pub noted_service : SubnetPort → ℕ → ServiceRecord → List NotedByte
 noted_service own mask asked =
     noted_record (service_entry (record { port = own.guid; base = base_of asked.service_p_key; service = service_asked mask asked }))
@@ -119,7 +119,7 @@ noted_success ports own state request next =
     else if request.header.method == method_code Set then noted_set own request next
     else from_source (Creator.Port own.guid) request.content
 
--- if the request is refused, from nothing
+-- of a refusal, and of a table, which is sent in segments, nothing is noted here
 abbrev pub noted_reply : List SubnetPort → SubnetPort → SaState → Request → Result Success MadStatus → List NotedByte
 noted_reply ports own state request (Ok (Success.one_reply bytes next)) = noted_success ports own state request next
 noted_reply ports own state request (Ok (Success.whole_table offset bytes)) = []

@@ -52,7 +52,7 @@ AnswersOnce rule =
     → AllBelowBase 256 payload → asks_something payload ≡ true
     → IsAnsweredOnce payload (rule configuration.ports own payload state).0
 
--- ours pays it
+-- it holds of ours
 abbrev pub RequestsAreAnsweredOnce : Type 0
 RequestsAreAnsweredOnce = AnswersOnce answer
 

@@ -61,7 +61,7 @@ filled bytes = bytes ++ replicate (200 - length bytes) 0
 abbrev pub HoldsNoted : NotedMad → Type 0
 HoldsNoted one = data_in one.mad ≡ filled (map (λ one. one.byte) one.bytes)
 
--- what a rule for answers with notes owes: so it is with each MAD that answers a MAD, if the numbers of the table that is
+-- what is proved of a rule for answers with notes: so it is with each MAD that answers a MAD, if the numbers of the table that is
 -- open to the port fit their fields, and the length of the records that are noted for it then can be reported in 32 bits
 abbrev pub NotedRule : Type 0
 NotedRule = List SubnetPort → SubnetPort → List ℕ → Administration → Notes → NotedAnswer
@@ -73,11 +73,11 @@ NotesItsData rule =
     → payload_size (flat_map (λ entry. record_bytes entry.shown) ((rule ports own payload state notes).notes own.guid)) < 2 ^ 32
     → AllByRecursion HoldsNoted (rule ports own payload state notes).mads
 
--- ours pays it
+-- it holds of ours
 abbrev pub AnswersNoteTheirData : Type 0
 AnswersNoteTheirData = NotesItsData answer_noted
 
--- ---- and it owes to the port that asks: all that it is reported comes from near it or from the partition file, now and as its
+-- ---- and it is proved for the port that asks: all that it is reported comes from near it or from the partition file, now and as its
 -- table is sent
 abbrev pub bytes_from_near : List SubnetPort → ℕ → List NotedByte → Bool
 bytes_from_near ports p bytes = list_all (λ one. is_source_near ports p one.source) bytes
@@ -95,7 +95,7 @@ ReportsFromNear rule =
     → port_with_guid ports own.guid ≡ Some own → is_sound ports state.remembered.partitions ≡ true → NotesFromNear ports notes
     → IsFromNear ports own (rule ports own payload state notes)
 
--- ours pays it
+-- it holds of ours
 abbrev pub AnswersReportFromNear : Type 0
 AnswersReportFromNear = ReportsFromNear answer_noted
 

@@ -62,13 +62,13 @@ pub record IsStateOf (configuration : ConfigurationState) (state : Administratio
 abbrev pub StartsAreStates : Type 0
 StartsAreStates = (configuration : ConfigurationState) → IsConfigured configuration → IsStateOf configuration (at_start configuration)
 
--- what a rule for answers owes to what is remembered
+-- what is proved of a rule for answers and of what is remembered
 abbrev pub KeepsStates : AnswerRule → Type 0
 KeepsStates rule =
     (configuration : ConfigurationState) (own : SubnetPort) (payload : List ℕ) (state : Administration) → IsConfigured configuration
     → port_with_guid configuration.ports own.guid ≡ Some own → IsStateOf configuration state
     → IsStateOf configuration (rule configuration.ports own payload state).1
 
--- ours pays it
+-- it holds of ours
 abbrev pub AnswersKeepStates : Type 0
 AnswersKeepStates = KeepsStates answer

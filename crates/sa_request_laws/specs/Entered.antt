@@ -74,6 +74,6 @@ EntersAsAsked rule =
     → IsJoinedBy own (request_in payload).component_mask (group_in (request_in payload).content) state.remembered
     (rule configuration.ports own payload state).1.remembered
 
--- ours pays it
+-- it holds of ours
 abbrev pub JoinsLeaveTheRestAlone : Type 0
 JoinsLeaveTheRestAlone = EntersAsAsked answer

@@ -12,6 +12,6 @@ pub record IsJoinState (bits : ℕ) (state : JoinState) : Type 0 where
 abbrev pub ReadsJoinStates : (ℕ → JoinState) → Type 0
 ReadsJoinStates reading = (bits : ℕ) → IsJoinState bits (reading bits)
 
--- ours pays it
+-- it holds of ours
 abbrev pub JoinStatesAreBits : Type 0
 JoinStatesAreBits = ReadsJoinStates join_state_of

@@ -71,6 +71,6 @@ LeavesAsAsked rule =
     → IsLeftBy configuration.ports own (request_in payload).component_mask (group_in (request_in payload).content) state.remembered
     (rule configuration.ports own payload state).1.remembered
 
--- ours pays it
+-- it holds of ours
 abbrev pub LeavesLeaveTheRestAlone : Type 0
 LeavesLeaveTheRestAlone = LeavesAsAsked answer

@@ -62,7 +62,7 @@ pub record IsRunNamed (configuration : ConfigurationState) (commands : List Comm
 abbrev pub RunsNameSources : Type 0
 RunsNameSources = (configuration : ConfigurationState) (commands : List Command) → IsRunNamed configuration commands
 
--- ---- what a rule for the notes of a command owes: those of each port stay, or are named for it by what was remembered before
+-- ---- what is proved of a rule for the notes of a command: those of each port stay, or are named for it by what was remembered before
 abbrev pub NamesNotes : NotedStepRule → Type 0
 NamesNotes rule =
     (configuration : ConfigurationState) (noted : NotedState) (command : Command) (p : ℕ)
@@ -70,6 +70,6 @@ NamesNotes rule =
     ⊎ ((own : SubnetPort) × (p ≡ own.guid)
     × AreNamed configuration.ports own noted.state.remembered ((rule configuration noted command).1.notes p))
 
--- ours pays it
+-- it holds of ours
 abbrev pub StepsNameNotes : Type 0
 StepsNameNotes = NamesNotes noted_step

@@ -37,7 +37,7 @@ AreNoted command (Refused refusal) None = Unit {0}
 abbrev pub HasItsData : Command → NotedEvent → Type 0
 HasItsData command one = AreNoted command one.event.what one.noted
 
--- what a rule for what is noted of a command owes: so it is with each event that the command brings, whatever ports of a
+-- what is proved of a rule for what is noted of a command: so it is with each event that the command brings, whatever ports of a
 -- configured subnet sent and asked before
 abbrev pub NotedStepRule : Type 0
 NotedStepRule = ConfigurationState → NotedState → Command → NotedEvents
@@ -48,6 +48,6 @@ NotesData rule =
     → CarriesBytes command
     → AllByRecursion (HasItsData command) (rule configuration (noted_after configuration before) command).0
 
--- ours pays it
+-- it holds of ours
 abbrev pub DataOfRunsIsNoted : Type 0
 DataOfRunsIsNoted = NotesData noted_step

@@ -70,7 +70,7 @@ HidesFarServices sight =
     (ports : List SubnetPort) (p : ℕ) (services : List PortServices) (change : ServiceChange)
     → is_near ports p change.port ≡ false → sight ports p (services_changed services change) ≡ sight ports p services
 
--- ours keeps it
+-- it holds of ours
 abbrev pub FarServicesAreNotSeen : Type 0
 FarServicesAreNotSeen = HidesFarServices services_seen
 

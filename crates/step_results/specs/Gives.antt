@@ -1,4 +1,4 @@
--- How what a reader returns stands to what the definition gives: an allocation may fail, and nothing else differs.
+-- A reader returns what the definition gives, unless an allocation fails.
 use Rattle.std.specs.Prelude.{◌≡◌, Option, Some, None, Result, Ok, Err}
 use Rattle.step_results.specs.declared.line_error.LineError.{LineError}
 use Rattle.step_results.specs.declared.line_error.LineError.TheVariants.{NoMemory, Fault}

@@ -21,15 +21,15 @@ use Rattle.script_lines.specs.Script.{commands_in}
 abbrev pub noted_at : ConfigurationState → ℕ → List Command → List NotedEvent
 noted_at configuration p commands = filter (λ one. one.event.port_guid == p) (noted_report configuration commands)
 
--- what is noted of each answer to each command is its data, and only of a refusal and of a packet between two ports nothing is
+-- what is noted of each event of each command is the data of the answer; nothing is noted of a refusal, or of a packet between two ports
 abbrev pub DataIsNoted : ConfigurationState → List Command → Type 0
 DataIsNoted configuration commands =
     (before after : List Command) (command : Command) → before ++ (command ∷ after) ≡ commands
     → AllByRecursion (HasItsData command) (noted_step configuration (noted_after configuration before) command).0
 
--- these events are those beside which it is noted so; each byte of a record that p is answered comes from a port near p, or
--- from the partition file; and what is noted names the source that the record itself names: a node and a service their port, a
--- path the port of its DGID, a group who made it, so that the file is named of a group alone
+-- beside: the notes are of exactly these events; whole: they are their data; near: each byte of an answer to p comes from a port near p
+-- or from the partition file; named: each note names the source that the record names, a node and a service their port, a path the
+-- port of its DGID, a group who made it, so only of a group is it the file
 pub record RecordsComeFromNear (configuration : ConfigurationState) (p : ℕ) (commands : List Command) (events : List PortEvent)
     : Type 0 where
   pub beside : map (λ one. one.event) (noted_report configuration commands) ≡ events

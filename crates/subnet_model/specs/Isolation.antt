@@ -11,7 +11,7 @@ use Rattle.subnet_model.specs.Report.{answered_in_turn, report_by}
 use Rattle.subnet_model.specs.Restriction.{commands_of, events_at}
 use Rattle.subnet_model.specs.Source.{HaveSlidsNear}
 
--- two sound states are alike to the port of this GUID if it sees the same of them
+-- two states are alike to the port of this GUID if both are sound and it sees the same of them
 pub record Alike {S V : Type 0} (is_sound : S → Bool) (sees : ℕ → S → V) (p : ℕ) (s t : S) : Type 0 where
   pub left_sound : is_sound s ≡ true
   pub right_sound : is_sound t ≡ true
@@ -31,7 +31,7 @@ module _ {S V : Type 0} (configuration : ConfigurationState) (administrator : Ad
     pub begins : is_sound (administrator.begins configuration) ≡ true
     pub stays : (own : SubnetPort) (mad : List ℕ) (s : S) → is_sound s ≡ true → is_sound (reaction own mad s).1 ≡ true
 
-  -- a port sees no change in what a port far from it sends; nor in the acknowledgements of another port, however near
+  -- what a port sees does not change when a port far from it sends a MAD, nor when another port, near or not, sends its ACKs
   pub record IsUnseen : Type 0 where
     pub sent : (p : ℕ) (own : SubnetPort) (mad : List ℕ) (s : S) → is_near configuration.ports p own.guid ≡ false
         → is_sound s ≡ true → sees p (reaction own mad s).1 ≡ sees p s

@@ -48,13 +48,13 @@ ThePortOfALidIsNear =
     (ports : List SubnetPort) (p lid : ℕ) → IsDistinct same_lid ports → is_lid_near ports p lid ≡ true
     → All (λ port. port.lid ≡ lid → is_near ports p port.guid ≡ true) ports
 
--- a rule for which packets come from near a port owes: it passes those whose SLID is the LID of a port near it, and no others
+-- what is proved of a rule for which packets come from near a port: it passes those whose SLID is the LID of a port near it, and no others
 abbrev pub ReadsSources : (List SubnetPort → ℕ → Packet → Bool) → Type 0
 ReadsSources comes_from_near =
     (ports : List SubnetPort) (p : ℕ) (packet : Packet) → IsDistinct same_lid ports
     → comes_from_near ports p packet ≡ is_lid_near ports p packet.slid
 
--- ours pays it
+-- it holds of ours
 abbrev pub SourcesAreRead : Type 0
 SourcesAreRead = ReadsSources is_from_near
 

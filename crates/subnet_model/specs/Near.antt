@@ -1,4 +1,4 @@
--- The ports that share a partition with a port: who may have anything to do with it.
+-- The ports that share a partition with a port.
 use Rattle.std.specs.Prelude.{ℕ, Bool, ◌==◌, ◌&&◌, ◌||◌, List, filter, map}
 use Rattle.std.specs.List.{list_any}
 use Rattle.pkey_rules.specs.KeyTable.{shares}

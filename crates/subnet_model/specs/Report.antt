@@ -41,7 +41,7 @@ answered_in_turn answer [] state = ([], state)
 answered_in_turn answer (mad ∷ mads) state =
     ((answer mad state).0 ++ (answered_in_turn answer mads (answer mad state).1).0, (answered_in_turn answer mads (answer mad state).1).1)
 
--- a MAD, and then what acknowledges its answers
+-- the answers to a MAD, then those to the ACKs that its sender returns, each from what is remembered then
 abbrev pub answered_whole : {S : Type 0} → (List ℕ → S → List (List ℕ) × S) → (List (List ℕ) → List (List ℕ)) → List ℕ → S
     → List (List ℕ) × S
 answered_whole answer acknowledgements mad state = (
@@ -56,7 +56,7 @@ reply_to own key mad = record {
   what = Received (record { slid = manager_lid; dlid = own.lid; p_key = key; destination_qp = general_services_qp; payload = mad });
 }
 
--- if no key of the SM port matches the packet's, it does not come to subnet administration
+-- if no key of the SM port matches the packet's, subnet administration does not receive it
 abbrev pub replied : {S : Type 0} → SubnetPort → Option ℕ → S → List (List ℕ) × S → List PortEvent × S
 replied own (Some key) state answered = (map (reply_to own key) answered.0, answered.1)
 replied own None state answered = ([], state)

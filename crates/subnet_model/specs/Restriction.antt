@@ -5,7 +5,7 @@ use Rattle.subnet_model.specs.declared.command.Command.{Command}
 use Rattle.subnet_model.specs.declared.command.Command.TheVariants.{Ask, Cable, Send}
 use Rattle.subnet_model.specs.declared.event.PortEvent.{PortEvent}
 
--- the port that acts, by its GUID; none if a cable is cut or mended
+-- the GUID of the port that acts; none if a cable is cut or mended
 abbrev pub actor : Command → Option ℕ
 actor (Send command) = Some command.port_guid
 actor (Ask command) = Some command.port_guid
@@ -15,7 +15,7 @@ actor (Cable command) = None
 abbrev pub acts_in : (ℕ → Bool) → Command → Bool
 acts_in in_set command = option_map_or in_set (actor command) false
 
--- the commands of the ports of a set of GUIDs, in order: none of them is to a cable
+-- the commands of the ports of a set of GUIDs, in order; one to a cable is no port's, and is left out
 abbrev pub commands_of : (ℕ → Bool) → List Command → List Command
 commands_of in_set commands = filter (λ command. acts_in in_set command) commands
 
