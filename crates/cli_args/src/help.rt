@@ -105,7 +105,8 @@ pub(crate) const NO_SUCH_CODE: &str = "error: there is no such code
 For the list of all codes, try 'fabric explain'.
 ";
 
-pub(crate) const NO_SUCH_NUMBER: &str = "error: DLID or PKEY is not a number of 16 bits: decimal, or 0x and hexadecimal digits
+pub(crate) const NO_SUCH_NUMBER: &str =
+    "error: DLID or PKEY is not a number of 16 bits: decimal, or 0x and hexadecimal digits
 
 For more information, try 'fabric trace --help'.
 ";
