@@ -13,4 +13,8 @@ returns c =
       c.ring_count.ensures,
       c.copy_count.ensures,
       append_assoc,
+      append_assoc,
+      append_assoc,
+      append_assoc,
+      append_assoc,
     )
