@@ -11,11 +11,17 @@ use Rattle.audit_net.specs.SmallNets.{a_row, two_with}
 abbrev says_of_b : (ℕ → Destination) → NetState
 says_of_b kind = two_with (a_row 2 2 (kind 32) ∷ []) (a_row 2 0 (kind 32) ∷ [])
 
+-- the same of the LID of the adapter's port
+abbrev says_of_h : (ℕ → Destination) → NetState
+says_of_h kind = two_with (a_row 1 1 (kind 257) ∷ []) (a_row 1 1 (kind 257) ∷ [])
+
 pub record KindsAreReported : Type 0 where
   pub switch : (aim_of (says_of_b SwitchKind) 2).end ≡ Some (port 1 0)
   pub further : (aim_of (says_of_b FurtherLid) 2).end ≡ Some (port 1 0)
   pub adapter : (aim_of (says_of_b AdapterKind) 2).end ≡ None
   pub router : (aim_of (says_of_b Router) 2).end ≡ None
+  pub adapters_own : (aim_of (says_of_h AdapterKind) 1).end ≡ Some (port 2 1)
+  pub adapters_as_switch : (aim_of (says_of_h SwitchKind) 1).end ≡ None
   pub lacking : is_lacking (says_of_b AdapterKind) (aim_of (says_of_b AdapterKind) 2) ≡ true
   pub not_lacking : is_lacking (says_of_b SwitchKind) (aim_of (says_of_b SwitchKind) 2) ≡ false
   pub router_lacking : is_lacking (says_of_b Router) (aim_of (says_of_b Router) 2) ≡ false
