@@ -232,6 +232,15 @@ class Net:
         if ring and min(ring) == place:
             yield f"loop {self.whose(lid)} {' '.join(map(self.name, ring))}"
 
+    def asks(self):
+        """The switches whose table may lack rows of ports from 128 on, by their LIDs."""
+        for place in self.switches:
+            if self.nodes[place].ports < 128 or self.nodes[place].guid not in self.tables:
+                continue
+            if any(lid in self.ends and self.turn(place, lid)[0] == "unknown" for lid in self.lids):
+                for lid in [lid for lid in self.lids if self.ends.get(lid) == (place, 0)][:1]:
+                    yield f"# ask: ibroute {lid}, and append its table to the dump"
+
     def circle(self, lids):
         """The shortest circle through the least channel that is on one, by the least channel at each step."""
         ports = [(place, number) for place in self.switches for number in range(1, self.nodes[place].ports + 1)]
@@ -277,6 +286,7 @@ class Net:
         lines = list(self.files())
         unnamed = any(line.startswith("no-lid") for line in lines)
         lines += [line for place in self.switches for lid in self.lids for line in self.trouble(place, lid)]
+        lines += self.asks()
         lines += [self.circle_line("deadlock", ring, others)] if ring else []
         lines += [self.circle_line("deadlock switch-lids", other, self.lids)] if other else []
         transit = [place for place in self.switches if place not in self.attached]

@@ -1,19 +1,21 @@
 -- What is looked up is what the definitions say.
-use Rattle.std.proofs.Common.{◌≡◌, ◌∙◌, ap, refl, sym, ℕ, zero, suc, ◌+◌, ◌-◌, inl, inr, false, ◌==◌, List, [], ◌∷◌, length, map, slice_get, arith, Option, Some, None, unwrap_or, IfSome}
+use Rattle.std.proofs.Common.{◌≡◌, ◌∙◌, ap, refl, sym, ℕ, zero, suc, ◌+◌, ◌-◌, ◌≤◌, inl, inr, false, ◌==◌, List, [], ◌∷◌, length, map, slice_get, arith, Option, Some, None, unwrap_or, IfSome}
 use Rattle.std.specs.List.{range_with_len}
-use Rattle.std.specs.Option.{option_map_or}
+use Rattle.std.specs.Option.{option_and_then, option_map_or}
 use Rattle.std.proofs.lemmas.Bool.{cases_lt}
 use Rattle.std.proofs.lemmas.Bool.Decides.{nat_tests}
+use Rattle.std.proofs.lemmas.Option.{slice_get_past}
 use Rattle.dump_file.specs.declared.table.Table.{Table}
 use Rattle.fabric_parts.specs.Cable.{far_end, port}
 use Rattle.fabric_parts.specs.declared.cable.PortRef.{PortRef}
 use Rattle.topo_file.specs.Node.{ports_at}
+use Rattle.topo_file.specs.declared.node.Node.{Node}
 use Rattle.audit_net.specs.declared.entry.Entry.{Entry}
 use Rattle.audit_net.specs.declared.entry.Entry.TheVariants.{Out, Unreported}
 use Rattle.audit_net.specs.declared.following.Turn.{Turn}
 use Rattle.audit_net.specs.Following.{turn_by}
 use Rattle.audit_net.specs.Lookup.{all_ends, all_entries, all_turns, column, column_at, end_at, ends_at, ends_of, entries_of, turn_known, turns_at, turns_of}
-use Rattle.audit_net.specs.Net.{NetState, entry, entry_in, table_at}
+use Rattle.audit_net.specs.Net.{NetState, entry, entry_in, table_at, table_of}
 use Rattle.audit_plan.proofs.RangeLemmas.{at_range, past_range}
 
 -- an element of a range, if there is one
@@ -103,3 +105,9 @@ pub known_turn_by : (net : NetState) (all : List (List Turn)) (place number : �
 known_turn_by net all place number None are found = tt
 known_turn_by net all place number (Some known) are found =
     turn_is net place number known (ap (λ (turns : List (List Turn)). turn_known turns place number) (sym are) ∙ sym found)
+
+-- ---- a node that is not there has no entry
+pub no_entry : (net : NetState) (lid place : ℕ) → length net.plan.nodes ≤ place → entry net lid place ≡ Unreported
+no_entry net lid place past =
+    ap (λ (node : Option Node). option_map_or (entry_in (ports_at net.plan.nodes place) lid) (option_and_then (λ n. table_of n.guid net.dump.tables) node) Unreported)
+    (slice_get_past net.plan.nodes place past)

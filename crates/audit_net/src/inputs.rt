@@ -274,7 +274,7 @@ pub fn row_of(rows: &[Row], lid: u16, top: u16) -> Option<&Row>
 }
 
 /// Whether the tools leave out rows of a switch of so many ports, those of ports from 128 on.
-fn is_wide(ports: u8) -> bool
+pub fn is_wide(ports: u8) -> bool
     ensures { result ≡ is_wide ports }
 {
     ports >= 128

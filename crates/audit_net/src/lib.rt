@@ -18,7 +18,7 @@ mod wrong_rules;
 
 pub use crate::entry::Entry;
 pub use crate::following::{Fate, Turn};
-pub use crate::inputs::{is_left_out, row_of};
+pub use crate::inputs::{is_left_out, is_wide, row_of};
 pub use crate::laws::{loops_never_end, reported_loops_go_round, ways_are_followed};
 pub use crate::marks::{blank, is_marked};
 pub use crate::net::Net;

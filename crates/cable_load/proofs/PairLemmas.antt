@@ -1,20 +1,15 @@
 -- Pairs, counted by the switches from which they come.
 use Rattle.std.proofs.Common.{◌≡◌, ◌∙◌, inl, inr, ap, refl, sym, ℕ, suc, ◌+◌, ◌*◌, ◌<◌, ◌≤◌, Bool, true, false, cond, ◌&&◌, List, [], ◌∷◌, ◌++◌, flat_map, get_or, length, take, arith}
-use Rattle.std.proofs.Common.{Option}
 use Rattle.std.specs.List.{count_by}
-use Rattle.std.specs.Option.{option_and_then, option_map_or}
 use Rattle.std.proofs.lemmas.Bool.{cases_Bool, cases_lt}
 use Rattle.std.proofs.lemmas.List.{flat_map_more, get_or_past, length-append, take_more}
 use Rattle.std.proofs.lemmas.List.Sums.{sum_by-append, sum_by-cons}
-use Rattle.std.proofs.lemmas.Option.{slice_get_past}
 use Rattle.fabric_parts.specs.Cable.{port}
 use Rattle.fabric_parts.specs.declared.cable.PortRef.{PortRef}
-use Rattle.topo_file.specs.Node.{ports_at}
-use Rattle.topo_file.specs.declared.node.Node.{Node}
 use Rattle.audit_net.specs.declared.entry.Entry.{Entry}
-use Rattle.audit_net.specs.declared.entry.Entry.TheVariants.{Unreported}
 use Rattle.credit_loops.specs.Channels.{is_out, leaves_by}
-use Rattle.audit_net.specs.Net.{NetState, entry, entry_in, table_of}
+use Rattle.audit_net.specs.Net.{NetState}
+use Rattle.audit_net.proofs.LookupLemmas.{no_entry}
 use Rattle.audit_net.specs.declared.following.Fate.{Fate}
 use Rattle.audit_net.specs.declared.following.Fate.TheVariants as fates
 use Rattle.audit_net.specs.Following.{fate}
@@ -124,12 +119,6 @@ pairs_more net pairs all index one none before mid after within here first secon
     sym (sum_by-append (λ pair. cond (goes_over net (port place number) pair) 1 0) (flat_map pairs some) (pairs one))
     ∙ ap (λ (both : List Pair). of_pairs net both place number) joined)
     first second
-
--- ---- a node that is not there has no entry
-no_entry : (net : NetState) (lid place : ℕ) → length net.plan.nodes ≤ place → entry net lid place ≡ Unreported
-no_entry net lid place past =
-    ap (λ (node : Option Node). option_map_or (entry_in (ports_at net.plan.nodes place) lid) (option_and_then (λ n. table_of n.guid net.dump.tables) node) Unreported)
-    (slice_get_past net.plan.nodes place past)
 
 none_over : (net : NetState) (place number : ℕ) (pairs : List Pair) → length net.plan.nodes ≤ place → of_pairs net pairs place number ≡ 0
 none_over net place number [] past = refl

@@ -82,8 +82,9 @@ pub const FT3: &str = with_tables!(
     "\
 FT3: the switch has a table already
 
-No two tables are of one switch, which the GUID of the heading names. If ibroute printed the second
-one, to add rows that dump_fts leaves out, keep that of ibroute alone: it has all rows.
+The GUID of the heading names the switch. A table that `ibroute LID` printed, headed by `switch Lid`,
+may follow that of dump_fts, headed by `switch DR path`, and counts in its place: it has rows that
+dump_fts leaves out. No other two tables are of one switch.
 ",
     "fault FT3 dump line 8",
     "    Unicast lids [0x0-0x3] of switch Lid 2 guid 0x0000000000000010 (A):

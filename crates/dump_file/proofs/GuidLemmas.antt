@@ -12,7 +12,7 @@ use Rattle.dump_file.specs.declared.table.Table.{Table}
 use Rattle.dump_file.specs.Sound.{shares_switch}
 
 -- a table is of another switch than each before it
-is_new : (before rest : List Table) (table : Table) → IsDistinct shares_switch (before ++ table ∷ rest) → list_any (λ one. table.guid == one.guid) before ≡ false
+pub is_new : (before rest : List Table) (table : Table) → IsDistinct shares_switch (before ++ table ∷ rest) → list_any (λ one. table.guid == one.guid) before ≡ false
 is_new [] rest table own = refl
 is_new (first ∷ before) rest table own =
     let none = none_shares shares_switch first (before ++ table ∷ rest) own in

@@ -1,4 +1,5 @@
 pub mod SoundLemmas
 pub mod EndLemmas
 pub mod GuidLemmas
+pub mod LatestLemmas
 pub mod ExampleLemmas

@@ -4,23 +4,19 @@ use Rattle.std.proofs.Common.{Option, Some, None, arith}
 use Rattle.std.specs.Option.{option_map_or, option_or}
 use Rattle.std.proofs.lemmas.Bool.{and_from, and_parts, false≢true}
 use Rattle.std.proofs.lemmas.Bool.Decides.{nat_tests}
-use Rattle.std.proofs.lemmas.Cmp.{nat_eq_equiv, on_equiv}
 use Rattle.std.proofs.lemmas.List.{append-nil, flat_map_more}
-use Rattle.std.proofs.lemmas.Map.Keys.{IsDistinct-push}
-use Rattle.step_results.proofs.ListLemmas.{IsDistinct-nil, list_all_push, list_all_weaker}
-use Rattle.step_results.proofs.PlaceLemmas.{not_there}
+use Rattle.step_results.proofs.ListLemmas.{list_all_push, list_all_weaker}
 use Rattle.dump_file.specs.declared.heading.Heading.{Heading}
 use Rattle.dump_file.specs.declared.row.Row.{Row}
-use Rattle.dump_file.specs.declared.stage.Stage.TheVariants.{Between}
 use Rattle.dump_file.specs.declared.table.Table.{Table}
 use Rattle.dump_file.specs.Destination.{guid_said}
-use Rattle.dump_file.specs.Dump.{DraftState, heading_of, nothing, rows_so_far, with_rows}
+use Rattle.dump_file.specs.Dump.{DraftState, closed, heading_of, nothing, rows_so_far, with_rows}
 use Rattle.dump_file.specs.Row.{are_two, end_of, is_above, is_said_otherwise, may_follow, said_of}
-use Rattle.dump_file.specs.Sound.{IsOpen, IsSoundSoFar, StandUnder, has_its_end, have_one_end, is_end, is_rising, may_take, rise, shares_switch}
+use Rattle.dump_file.specs.Sound.{IsSoundSoFar, StandUnder, has_its_end, have_one_end, is_end, is_rising, may_take, rise}
 use Rattle.dump_file.specs.Table.{rows_of, table_of}
 
 pub nothing_sound : IsSoundSoFar nothing
-nothing_sound = record { tables = record { own_switches = IsDistinct-nil shares_switch; rising = refl }; open_rows = refl; one_end = refl }
+nothing_sound = record { rising = refl; open_rows = refl; one_end = refl }
 
 -- ---- LIDs rise
 rise_after : (top low : ℕ) (row first : Row) (rest : List Row) → option_map_or (λ last. nat_lt last.lid row.lid) (slice_get (first ∷ rest) (length rest)) true ≡ true
@@ -79,7 +75,7 @@ comes None was apart = refl
 comes (Some guid) None apart = grind (arith, nat_tests)
 comes (Some guid) (Some other) apart = grind (arith, nat_tests, apart)
 
-said_here : (row : Row) → said_of row.lid row ≡ guid_said row.destination
+pub said_here : (row : Row) → said_of row.lid row ≡ guid_said row.destination
 said_here row = let same : (row.lid == row.lid) ≡ true = grind (arith, nat_tests) in rw same refl
 
 has_end_now : (rows : List Row) (row : Row) → is_said_otherwise rows row ≡ false → has_its_end (rows ++ row ∷ []) row ≡ true
@@ -99,16 +95,15 @@ pub row_joins : (before rows : List Row) (row : Row) → before ++ (rows ++ row 
 row_joins [] rows row = refl
 row_joins (first ∷ before) rows row = ap (λ rest. first ∷ rest) (row_joins before rows row)
 
-opens : (heading : Option Heading) (tables : List Table) (rows : List Row) (row : Row) → may_take heading rows row ≡ true
-    → StandUnder heading tables rows → StandUnder heading tables (rows ++ row ∷ [])
-opens (Some heading) tables rows row takes stand = record { new = stand.new; rising = rise_more heading.top row rows takes stand.rising }
-opens None tables rows row takes stand = absurd (false≢true takes)
+opens : (heading : Option Heading) (rows : List Row) (row : Row) → may_take heading rows row ≡ true → StandUnder heading rows → StandUnder heading (rows ++ row ∷ [])
+opens (Some heading) rows row takes stand = rise_more heading.top row rows takes stand
+opens None rows row takes stand = absurd (false≢true takes)
 
 pub sound_with_row : (so_far : DraftState) (row : Row) → IsSoundSoFar so_far → may_take (heading_of so_far.stage) so_far.rows row ≡ true
     → is_said_otherwise (rows_so_far so_far) row ≡ false → IsSoundSoFar (with_rows so_far (so_far.rows ++ row ∷ []))
 sound_with_row so_far row sound takes apart = record {
-  tables = sound.tables;
-  open_rows = opens (heading_of so_far.stage) so_far.tables so_far.rows row takes sound.open_rows;
+  rising = sound.rising;
+  open_rows = opens (heading_of so_far.stage) so_far.rows row takes sound.open_rows;
   one_end = ap have_one_end (row_joins (rows_of so_far.tables) so_far.rows row) ∙ one_end_more (rows_so_far so_far) row sound.one_end apart;
 }
 
@@ -116,16 +111,11 @@ sound_with_row so_far row sound takes apart = record {
 pub rows_closed : (tables : List Table) (heading : Heading) (rows : List Row) → rows_of (tables ++ table_of heading rows ∷ []) ++ [] ≡ rows_of tables ++ rows
 rows_closed tables heading rows = append-nil _ ∙ sym (flat_map_more (λ table. table.rows) [] tables (table_of heading rows))
 
-pub sound_with_table : (so_far : DraftState) (heading : Heading) → IsSoundSoFar so_far → heading_of so_far.stage ≡ Some heading
-    → IsSoundSoFar (record { tables = so_far.tables ++ table_of heading so_far.rows ∷ []; stage = Between; rows = [] })
-sound_with_table so_far heading sound under =
-    let stand : IsOpen so_far.tables heading so_far.rows = subst (λ h. StandUnder h so_far.tables so_far.rows) under sound.open_rows in
+pub sound_closed : (so_far : DraftState) (heading : Heading) → IsSoundSoFar so_far → heading_of so_far.stage ≡ Some heading → IsSoundSoFar (closed so_far heading)
+sound_closed so_far heading sound under =
+    let rises : rise 0 heading.top so_far.rows ≡ true = subst (λ h. StandUnder h so_far.rows) under sound.open_rows in
     record {
-      tables = record {
-        own_switches = IsDistinct-push (on_equiv (λ (table : Table). table.guid) nat_eq_equiv) so_far.tables (table_of heading so_far.rows)
-            sound.tables.own_switches (not_there (λ table. heading.guid == table.guid) so_far.tables stand.new);
-        rising = list_all_push is_rising so_far.tables (table_of heading so_far.rows) sound.tables.rising stand.rising;
-      };
+      rising = list_all_push is_rising so_far.tables (table_of heading so_far.rows) sound.rising rises;
       open_rows = refl;
       one_end = ap have_one_end (rows_closed so_far.tables heading so_far.rows) ∙ sound.one_end;
     }

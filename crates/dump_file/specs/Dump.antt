@@ -1,6 +1,6 @@
 -- What a text of `dump_fts` reports, or the first line that is at fault.
 use Rattle.std.specs.Prelude.{ℕ, Bool, true, false, not, ◌==◌, ◌&&◌, ◌||◌, nat_eq, List, [], ◌∷◌, ◌++◌, length, codes, bytes_eq, if◌then◌else◌, Option, Some, None, is_some, Result, Ok, Err}
-use Rattle.std.specs.List.{starts_with}
+use Rattle.std.specs.List.{list_any, starts_with}
 use Rattle.std.specs.Option.{option_map_or}
 use Rattle.step_results.specs.AtLine.{AtLine, after_lines}
 use Rattle.step_results.specs.Steps.{◌>>=◌}
@@ -17,15 +17,17 @@ use Rattle.dump_file.specs.declared.table.Table.{Table}
 use Rattle.dump_file.specs.Heading.{heading_in}
 use Rattle.dump_file.specs.Parts.{count_in, cut, trimmed}
 use Rattle.dump_file.specs.Row.{is_said_otherwise, may_follow, row_in, valid_count}
-use Rattle.dump_file.specs.Table.{place_of, rows_of, table_of}
+use Rattle.dump_file.specs.Table.{latest, place_of, rows_of, table_of}
 
--- what was dumped: tables in the order of the text
+-- what was dumped: one table of each switch, in the order of the text
 pub record DumpState : Type 0 where
   pub tables : List Table
 
--- what the lines so far report: tables that are whole, what is to come next, and the rows of the table that is open
+-- what the lines so far report: tables that are whole, the GUIDs of switches that have one by their LID, what is to come next, and
+-- the rows of the table that is open
 pub record DraftState : Type 0 where
   pub tables : List Table
+  pub by_lid : List ℕ
   pub stage : Stage
   pub rows : List Row
 
@@ -40,9 +42,15 @@ heading_of (SecondTitle heading) = Some heading
 heading_of (Rows heading) = Some heading
 heading_of _ = None
 
--- ---- the heading of a table, of a switch that has none yet
+-- ---- the heading of a table, of a switch that has none yet, or by its LID of one that has only one by a directed route
+abbrev pub is_among : List ℕ → ℕ → Bool
+is_among guids guid = list_any (λ other. guid == other) guids
+
+abbrev pub has_one : DraftState → Heading → Bool
+has_one so_far heading = if heading.by_lid then is_among so_far.by_lid heading.guid else is_some (place_of heading.guid so_far.tables)
+
 abbrev pub new_heading : DraftState → Heading → Result Heading DumpCause
-new_heading so_far heading = if is_some (place_of heading.guid so_far.tables) then Err DuplicateTable else Ok heading
+new_heading so_far heading = if has_one so_far heading then Err DuplicateTable else Ok heading
 
 unfoldable pub heading_reported : ℕ → DraftState → List ℕ → Result Heading DumpCause
 heading_reported number so_far text = do
@@ -84,9 +92,22 @@ count_reported rows text = do
   count ← rows_counted rows parts.1
   if number == count then Ok number else Err WrongCount
 
+abbrev pub with_guid : List ℕ → ℕ → List ℕ
+with_guid guids guid = if is_among guids guid then guids else guids ++ guid ∷ []
+
+abbrev pub noted_by_lid : List ℕ → Heading → List ℕ
+noted_by_lid by_lid heading = if heading.by_lid then with_guid by_lid heading.guid else by_lid
+
+abbrev pub closed : DraftState → Heading → DraftState
+closed so_far heading = record {
+  tables = so_far.tables ++ table_of heading so_far.rows ∷ [];
+  by_lid = noted_by_lid so_far.by_lid heading;
+  stage = Between;
+  rows = [];
+}
+
 abbrev pub with_table : DraftState → Heading → Result ℕ DumpCause → Result DraftState DumpCause
-with_table so_far heading reported =
-    reported >>= λ count. Ok (record { tables = so_far.tables ++ table_of heading so_far.rows ∷ []; stage = Between; rows = [] })
+with_table so_far heading reported = reported >>= λ count. Ok (closed so_far heading)
 
 -- ---- multicast tables are passed over, from their heading to `2 valid mlids dumped`
 abbrev pub is_multicast_heading : List ℕ → Bool
@@ -142,19 +163,20 @@ is_passed_over text = (length text == 0) || starts_with nat_eq text (codes "#")
 unfoldable pub after_line : ℕ → DraftState → List ℕ → Result DraftState DumpCause
 after_line number so_far line = if is_passed_over (trimmed line) then Ok so_far else after_text so_far.stage number so_far (trimmed line)
 
--- ---- the whole text: its last table has ended, and there is one
+-- ---- the whole text: its last table has ended, and there is one. A table by the LID of its switch has rows that one by a directed
+-- route may lack, so it counts in the place of that
 abbrev pub is_between : Stage → Bool
 is_between Between = true
 is_between _ = false
 
 unfoldable pub whole : DraftState → Result DumpState (AtLine DumpCause)
 whole all =
-    if is_between all.stage && not (length all.tables == 0) then Ok (record { tables = all.tables })
+    if is_between all.stage && not (length all.tables == 0) then Ok (record { tables = latest all.tables })
     else Err (record { line = 0; cause = Unfinished })
 
 -- before the first line nothing is reported
 abbrev pub nothing : DraftState
-nothing = record { tables = []; stage = Between; rows = [] }
+nothing = record { tables = []; by_lid = []; stage = Between; rows = [] }
 
 -- what all lines report
 abbrev pub reported_by : List ℕ → Result DraftState (AtLine DumpCause)

@@ -2,7 +2,7 @@
 use Rattle.std.specs.Prelude.{ℕ, ◌≡◌, true, false, List, [], ◌∷◌, ◌++◌, codes, Ok, Err}
 use Rattle.std.specs.List.{IsDistinct}
 use Rattle.dump_file.specs.declared.destination.Destination.TheVariants.{ChannelAdapter, Switch, Router, FurtherLid, Nobody, NotReported}
-use Rattle.dump_file.specs.declared.fault.DumpCause.TheVariants.{DuplicateTable, EndNotReported, Malformed, Unfinished, WrongCount}
+use Rattle.dump_file.specs.declared.fault.DumpCause.TheVariants.{DuplicateTable, EndNotReported, Malformed, TwoEndPorts, Unfinished, WrongCount}
 use Rattle.dump_file.specs.declared.row.Row.{Row}
 use Rattle.dump_file.specs.declared.table.Table.{Table}
 use Rattle.dump_file.specs.Dump.{count_reported, dump_of}
@@ -14,10 +14,10 @@ use Rattle.dump_file.specs.Sound.{have_one_end, is_rising, shares_switch}
 -- the first line of a table
 pub record HeadingsAreRead : Type 0 where
   pub by_path : heading_in 1 (codes "Unicast lids [0x0-0x140] of switch DR path slid 0; dlid 0; 0,1,9 guid 0x0002c902004085b0 (leaf-2):")
-      ≡ Ok (record { line = 1; guid = 0x2c902004085b0; top = 320 })
-  pub by_lid : heading_in 7 (codes "Unicast lids [0x0-0x6] of switch Lid 4 guid 0x0000000000000020 (B):") ≡ Ok (record { line = 7; guid = 0x20; top = 6 })
+      ≡ Ok (record { line = 1; guid = 0x2c902004085b0; top = 320; by_lid = false })
+  pub by_lid : heading_in 7 (codes "Unicast lids [0x0-0x6] of switch Lid 4 guid 0x0000000000000020 (B):") ≡ Ok (record { line = 7; guid = 0x20; top = 6; by_lid = true })
   -- a name may look like the end of the line
-  pub by_any_name : heading_in 1 (codes "Unicast lids [0x0-0x6] of switch Lid 4 guid 0x0000000000000020 (left (old): guid 0x7):") ≡ Ok (record { line = 1; guid = 0x20; top = 6 })
+  pub by_any_name : heading_in 1 (codes "Unicast lids [0x0-0x6] of switch Lid 4 guid 0x0000000000000020 (left (old): guid 0x7):") ≡ Ok (record { line = 1; guid = 0x20; top = 6; by_lid = true })
   -- a way that is none, and a line without its end
   pub by_no_way : heading_in 1 (codes "Unicast lids [0x0-0x6] of switch 4 guid 0x0000000000000020 (B):") ≡ Err Malformed
   pub without_end : heading_in 1 (codes "Unicast lids [0x0-0x6] of switch Lid 4 guid 0x0000000000000020 (B)") ≡ Err Malformed
@@ -76,11 +76,30 @@ two_tables =
     ++ codes "Unicast lids [0x0-0x0] of switch Lid 4 guid 0x0000000000000020 (B):\n  Lid  Out   Destination\n       Port     Info \n0 valid lids dumped\n"
     ++ codes "*** WARNING ***: AM_KEY not set\n"
 
+abbrev routed_text : List ℕ
+routed_text =
+    codes "Unicast lids [0x0-0x5] of switch DR path slid 0; dlid 0; 0,1 guid 0x0000000000000010 (A):\n  Lid  Out   Destination\n       Port     Info \n"
+    ++ codes "0 valid lids dumped\n"
+
+abbrev other_text : List ℕ
+other_text = codes "Unicast lids [0x0-0x0] of switch DR path slid 0; dlid 0; 0,2 guid 0x0000000000000020 (B):\n  Lid  Out   Destination\n       Port     Info \n0 valid lids dumped\n"
+
+abbrev denying_text : List ℕ
+denying_text =
+    codes "Unicast lids [0x0-0x5] of switch DR path slid 0; dlid 0; 0,1 guid 0x0000000000000010 (A):\n  Lid  Out   Destination\n       Port     Info \n"
+    ++ codes "0x0003 003 : (Channel Adapter portguid 0x0000000000000222: 'h2')\n1 valid lids dumped\n"
+
 abbrev first_table : Table
 first_table = record { line = 3; guid = 0x10; top = 5; rows = one_row ∷ closed_row ∷ [] }
 
 pub record TextsAreRead : Type 0 where
   pub whole : dump_of two_tables ≡ Ok (record { tables = first_table ∷ record { line = 16; guid = 0x20; top = 0; rows = [] } ∷ [] })
+  -- a table by the LID of a switch counts in the place of one by a directed route, where that stood
+  pub by_lid_counts : dump_of (routed_text ++ other_text ++ heading_text ++ rows_text ++ codes "2 lids dumped\n")
+      ≡ Ok (record { tables = record first_table { line = 9 } ∷ record { line = 5; guid = 0x20; top = 0; rows = [] } ∷ [] })
+  -- but not the other way round; and what the one says of LIDs the other must not deny
+  pub by_route_does_not : dump_of (heading_text ++ codes "0 lids dumped\n" ++ routed_text) ≡ Err (record { line = 5; cause = DuplicateTable })
+  pub of_two_ends : dump_of (denying_text ++ heading_text ++ rows_text) ≡ Err (record { line = 9; cause = TwoEndPorts })
   -- words before a `#`, a table that has no end, and a switch that has two
   pub before_a_comment : dump_of (codes "2 tables # of two switches\n") ≡ Err (record { line = 1; cause = Malformed })
   pub unfinished : dump_of (heading_text ++ rows_text) ≡ Err (record { line = 0; cause = Unfinished })

@@ -6,9 +6,12 @@ use Rattle.dump_file.specs.declared.heading.Heading.{Heading}
 use Rattle.dump_file.specs.declared.fault.DumpCause.{DumpCause}
 use Rattle.dump_file.specs.Parts.{behind, between, cut, guid_in, lid_in, only_if}
 
--- how the switch was reached: by a directed route, or by its LID
+-- how the switch was reached: by a directed route, as `dump_fts` does, or by its LID, as `ibroute LID` does
+abbrev pub is_by_lid : List ℕ → Bool
+is_by_lid text = starts_with nat_eq text (codes "Lid ")
+
 abbrev pub is_way : List ℕ → Bool
-is_way text = starts_with nat_eq text (codes "DR path slid ") || starts_with nat_eq text (codes "Lid ")
+is_way text = starts_with nat_eq text (codes "DR path slid ") || is_by_lid text
 
 -- `DR path slid 0; dlid 0; 0,1,1,2 guid 0x0000000000000020 ` or `Lid 4 guid 0x0000000000000020 `: no way has a `g`
 unfoldable pub guid_behind_way : List ℕ → Result ℕ DumpCause
@@ -27,4 +30,4 @@ heading_in line text = do
   switch ← behind (codes " of switch ") top.1
   parts ← cut 40 switch
   guid ← guid_behind_way parts.0
-  only_if (ends_with nat_eq parts.1 (codes "):")) (record { line = line; guid = guid; top = lid })
+  only_if (ends_with nat_eq parts.1 (codes "):")) (record { line = line; guid = guid; top = lid; by_lid = is_by_lid parts.0 })

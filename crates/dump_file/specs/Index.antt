@@ -1,7 +1,9 @@
--- Which end port each LID has, looked up.
-use Rattle.std.specs.Prelude.{ℕ, ◌≡◌, List, slice_get, Option, None, unwrap_or}
+-- Which end port each LID has, and which switches have a table, looked up.
+use Rattle.std.specs.Prelude.{ℕ, ◌≡◌, ◌==◌, List, slice_get, Option, None, unwrap_or}
+use Rattle.std.specs.List.{list_any}
 use Rattle.std.specs.Option.{option_or}
 use Rattle.dump_file.specs.declared.row.Row.{Row}
+use Rattle.dump_file.specs.declared.table.Table.{Table}
 use Rattle.dump_file.specs.Row.{end_of, said_of}
 
 -- the end port that stands at the place of the LID
@@ -18,3 +20,7 @@ KnowsMore row before after = (lid : ℕ) → end_known after lid ≡ option_or (
 
 abbrev pub KnowSame : List (Option ℕ) → List (Option ℕ) → Type 0
 KnowSame before after = (lid : ℕ) → end_known after lid ≡ end_known before lid
+
+-- ---- these are the GUIDs of the switches that have a table
+abbrev pub KnowsSwitches : List ℕ → List Table → Type 0
+KnowsSwitches guids tables = (guid : ℕ) → list_any (λ other. guid == other) guids ≡ list_any (λ table. guid == table.guid) tables

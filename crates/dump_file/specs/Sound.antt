@@ -8,7 +8,7 @@ use Rattle.dump_file.specs.declared.table.Table.{Table}
 use Rattle.dump_file.specs.Dump.{DraftState, DumpState, heading_of, rows_so_far}
 use Rattle.dump_file.specs.Destination.{guid_said}
 use Rattle.dump_file.specs.Row.{end_of, may_follow}
-use Rattle.dump_file.specs.Table.{place_of, rows_of}
+use Rattle.dump_file.specs.Table.{rows_of}
 
 -- both tables are of one switch
 abbrev pub shares_switch : Table → Table → Bool
@@ -34,19 +34,15 @@ has_its_end rows row = option_map_or (λ guid. is_end guid (end_of row.lid rows)
 abbrev pub have_one_end : List Row → Bool
 have_one_end rows = list_all (has_its_end rows) rows
 
--- what stands of whole tables
+-- what stands of the tables that count
 pub record AreSound (tables : List Table) : Type 0 where
   pub own_switches : IsDistinct shares_switch tables
   pub rising : list_all is_rising tables ≡ true
 
--- of a table that is open: its switch has no other, and its LIDs rise so far. If none is open there are no rows.
-pub record IsOpen (tables : List Table) (heading : Heading) (rows : List Row) : Type 0 where
-  pub new : place_of heading.guid tables ≡ None
-  pub rising : rise 0 heading.top rows ≡ true
-
-abbrev pub StandUnder : Option Heading → List Table → List Row → Type 0
-StandUnder (Some heading) tables rows = IsOpen tables heading rows
-StandUnder None tables rows = rows ≡ []
+-- the LIDs of a table that is open rise so far. If none is open there are no rows.
+abbrev pub StandUnder : Option Heading → List Row → Type 0
+StandUnder (Some heading) rows = rise 0 heading.top rows ≡ true
+StandUnder None rows = rows ≡ []
 
 -- the row may be one of the table that is open
 abbrev pub may_take : Option Heading → List Row → Row → Bool
@@ -55,8 +51,8 @@ may_take None rows row = false
 
 -- what stands after each line
 pub record IsSoundSoFar (so_far : DraftState) : Type 0 where
-  pub tables : AreSound so_far.tables
-  pub open_rows : StandUnder (heading_of so_far.stage) so_far.tables so_far.rows
+  pub rising : list_all is_rising so_far.tables ≡ true
+  pub open_rows : StandUnder (heading_of so_far.stage) so_far.rows
   pub one_end : have_one_end (rows_so_far so_far) ≡ true
 
 -- what stands of the whole

@@ -1,7 +1,8 @@
 //! A dump of which lines are still to come.
 
-ghost use Rattle.std.specs.Prelude.{◌≡◌, ◌++◌, None, false, true, IfOk, OnErr, OnOk, [], ◌∷◌};
-ghost use Rattle.dump_file.specs.Dump.{count_reported, heading_of, heading_reported, new_heading, new_row, nothing, row_reported, rows_counted, rows_so_far, with_rows};
+ghost use Rattle.std.specs.Prelude.{◌≡◌, ◌++◌, Some, is_some, false, true, IfOk, OnErr, OnOk, [], ◌∷◌};
+ghost use Rattle.dump_file.specs.Dump.{closed, count_reported, has_one, heading_of, heading_reported, new_heading, new_row, noted_by_lid, nothing};
+ghost use Rattle.dump_file.specs.Dump.{row_reported, rows_counted, rows_so_far, with_rows};
 ghost use Rattle.dump_file.specs.Index.{KnowSame, KnowsMore};
 ghost use Rattle.dump_file.specs.Row.{is_said_otherwise, may_follow};
 ghost use Rattle.dump_file.specs.Sound.{may_take};
@@ -11,16 +12,21 @@ use crate::ends::EndList;
 use crate::fault::DumpCause;
 use crate::heading::{Heading, heading_in};
 use crate::parts::{count_in, cut};
-use crate::row::{Row, are_two, may_follow, row_in, valid_count};
+use crate::row::{Row, RowList, are_two, may_follow, row_in, valid_count};
 use crate::stage::Stage;
-use crate::table::TableList;
+use crate::table::Table;
+use indexmap::IndexSet;
 use std::alloc::{AllocError, Global};
 use std::marker::Model;
+use std::mem;
 
 /// What the lines so far report.
 #[derive(Drop)]
 pub(crate) struct Draft {
-    pub(crate) tables: TableList,
+    pub(crate) tables: Vec<Table>,
+    // The GUIDs of switches that have a table, and of those that have one by their LID.
+    known: IndexSet<u64>,
+    by_lid: IndexSet<u64>,
     pub(crate) stage: Stage,
     // Of the table that is open.
     pub(crate) rows: Vec<Row>,
@@ -32,16 +38,22 @@ impl Model for Draft {
     ghost use Rattle.dump_file.specs.Dump.{DraftState};
     ghost use Rattle.dump_file.specs.Sound.{IsSoundSoFar};
     ghost use Rattle.dump_file.specs.Table.{rows_of};
-    ghost use Rattle.dump_file.specs.Index.{KnowsEnds};
+    ghost use Rattle.dump_file.specs.Index.{KnowsEnds, KnowsSwitches};
     ghost use Rattle.std.specs.Prelude.{◌++◌};
 
     ghost Value = { DraftState };
 
-    ghost view = { λ draft. record { tables = draft.tables; stage = draft.stage; rows = draft.rows.items } };
+    ghost view = { λ draft. record {
+      tables = draft.tables.items;
+      by_lid = draft.by_lid.keys;
+      stage = draft.stage;
+      rows = draft.rows.items;
+    } };
 
     ghost invariant = { λ draft.
-        IsSoundSoFar (record { tables = draft.tables; stage = draft.stage; rows = draft.rows.items })
-        × KnowsEnds draft.ends (rows_of draft.tables ++ draft.rows.items) };
+        IsSoundSoFar (record { tables = draft.tables.items; by_lid = draft.by_lid.keys; stage = draft.stage; rows = draft.rows.items })
+        × (KnowsSwitches draft.known.keys draft.tables.items
+        × KnowsEnds draft.ends (rows_of draft.tables.items ++ draft.rows.items)) };
 }
 
 impl Draft {
@@ -49,29 +61,46 @@ impl Draft {
         ensures { result ≡ nothing }
     {
         Draft {
-            tables: TableList::new(alloc),
+            tables: Vec::new(alloc),
+            known: IndexSet::new(alloc),
+            by_lid: IndexSet::new(alloc),
             stage: Stage::Between,
             rows: Vec::new(alloc),
             ends: EndList::new(alloc),
         }
     }
 
+    fn has_table(&self, guid: u64) -> bool
+        ensures { result ≡ is_some (place_of guid self.now.tables) }
+    {
+        self.known.contains(&guid)
+    }
+
+    /// Whether the switch has a table beside which this one cannot stand.
+    fn has_one(&self, heading: Heading) -> bool
+        ensures { result ≡ has_one self.now heading }
+    {
+        if heading.by_lid {
+            self.by_lid.contains(&heading.guid)
+        } else {
+            self.has_table(heading.guid)
+        }
+    }
+
     /// Judges a heading against the tables before it.
     fn new_heading(&self, heading: Heading) -> Result<Heading, DumpCause>
-        ensures value { result ≡ new_heading self.now heading }
-        ensures new { IfOk result (λ reported. place_of reported.guid self.now.tables ≡ None) }
+        ensures { result ≡ new_heading self.now heading }
     {
-        if self.tables.place_of(heading.guid).is_some() {
+        if self.has_one(heading) {
             return Err(DumpCause::DuplicateTable);
         }
         Ok(heading)
     }
 
-    /// The heading that a line reports, of a switch that has no table yet.
+    /// The heading that a line reports, of a switch that has no table yet, or none by its LID.
     #[tactic(auto, unfolding(crate::specs::Dump::heading_reported))]
     pub(crate) fn heading_reported(&self, number: usize, text: &[u8]) -> Result<Heading, DumpCause>
-        ensures value { result ≡ heading_reported number self.now text.now }
-        ensures new { IfOk result (λ reported. place_of reported.guid self.now.tables ≡ None) }
+        ensures { result ≡ heading_reported number self.now text.now }
     {
         let heading = heading_in(number, text)?;
         self.new_heading(heading)
@@ -110,6 +139,20 @@ impl Draft {
         self.new_row(heading, row)
     }
 
+    /// Closes the table that is open. It can only run out of memory.
+    pub(crate) fn close(&mut self, alloc: Global, heading: Heading) -> Result<(), AllocError>
+        requires open { heading_of self.old.stage ≡ Some heading }
+        ensures ok { OnOk result (self.new ≡ closed self.old heading) }
+    {
+        self.tables.reserve(1)?;
+        note_by_lid(&mut self.by_lid, heading)?;
+        self.known.insert(heading.guid)?;
+        let rows = RowList::of(mem::replace(&mut self.rows, Vec::new(alloc)));
+        self.tables.push(Table::of(heading, rows))?;
+        self.stage = Stage::Between;
+        Ok(())
+    }
+
     /// Adds a row to the table that is open. It can only run out of memory, and then all stays as it was.
     pub(crate) fn push(&mut self, row: Row) -> Result<(), AllocError>
         requires open { may_take (heading_of self.old.stage) self.old.rows row ≡ true }
@@ -122,6 +165,16 @@ impl Draft {
         self.rows.push(row)?;
         Ok(())
     }
+}
+
+/// Notes that the switch has a table by its LID, if it has.
+fn note_by_lid(by_lid: &mut IndexSet<u64>, heading: Heading) -> Result<(), AllocError>
+    ensures { OnOk result (by_lid.new.keys ≡ noted_by_lid by_lid.old.keys heading) }
+{
+    if heading.by_lid {
+        by_lid.insert(heading.guid)?;
+    }
+    Ok(())
 }
 
 /// Notes whose the row's LID is, if the row says it. It can only run out of memory, and then all is as before.

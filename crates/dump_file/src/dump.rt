@@ -4,7 +4,7 @@ ghost use Rattle.std.specs.Prelude.{◌≡◌, true, IfOk};
 ghost use Rattle.std.specs.List.{list_all, IsDistinct};
 ghost use Rattle.dump_file.specs.Row.{end_of};
 ghost use Rattle.dump_file.specs.Sound.{have_one_end, is_rising, shares_switch, IsSound};
-ghost use Rattle.dump_file.specs.Table.{place_of, rows_of};
+ghost use Rattle.dump_file.specs.Table.{latest, place_of, rows_of};
 
 use crate::ends::EndList;
 use crate::table::{Table, TableList};
@@ -40,6 +40,17 @@ impl Dump {
     {
         let ends = EndList::of(alloc, &tables)?;
         let tables = TableList::of(alloc, tables)?;
+        Ok(Dump { tables, ends })
+    }
+
+    /// The dump of these tables: of two of a switch the later one counts. It can only run out of memory.
+    pub(crate) fn latest(alloc: Global, tables: Vec<Table>) -> Result<Dump, AllocError>
+        requires rising { list_all is_rising tables.items ≡ true }
+        requires one_end { have_one_end (rows_of tables.items) ≡ true }
+        ensures { IfOk result (λ dump. dump ≡ record { tables = latest tables.items }) }
+    {
+        let tables = TableList::latest(alloc, tables)?;
+        let ends = EndList::of(alloc, tables.as_slice())?;
         Ok(Dump { tables, ends })
     }
 

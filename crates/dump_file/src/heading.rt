@@ -1,7 +1,7 @@
 //! The first line of a table.
 
 ghost use Rattle.std.specs.Prelude.{◌≡◌};
-ghost use Rattle.dump_file.specs.Heading.{guid_behind_way, heading_in, is_way};
+ghost use Rattle.dump_file.specs.Heading.{guid_behind_way, heading_in, is_by_lid, is_way};
 
 use crate::fault::DumpCause;
 use crate::parts::{behind, between, cut, guid_in, lid_in};
@@ -12,12 +12,20 @@ pub(crate) struct Heading {
     pub(crate) line: usize,
     pub(crate) guid: u64,
     pub(crate) top: u16,
+    /// Whether the switch was reached by its LID.
+    pub(crate) by_lid: bool,
+}
+
+fn is_by_lid(text: &[u8]) -> bool
+    ensures { result ≡ is_by_lid text.now }
+{
+    text.starts_with(b"Lid ")
 }
 
 fn is_way(text: &[u8]) -> bool
     ensures { result ≡ is_way text.now }
 {
-    text.starts_with(b"DR path slid ") || text.starts_with(b"Lid ")
+    text.starts_with(b"DR path slid ") || is_by_lid(text)
 }
 
 #[tactic(auto, unfolding(crate::specs::Heading::guid_behind_way))]
@@ -47,5 +55,10 @@ pub(crate) fn heading_in(line: usize, text: &[u8]) -> Result<Heading, DumpCause>
     if !name.ends_with(b"):") {
         return Err(DumpCause::Malformed);
     }
-    Ok(Heading { line, guid, top })
+    Ok(Heading {
+        line,
+        guid,
+        top,
+        by_lid: is_by_lid(way),
+    })
 }

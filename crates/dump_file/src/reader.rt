@@ -50,8 +50,7 @@ impl Draft {
         ensures { LineGives (λ _. self.new) result (with_table self.old heading (count_reported self.old.rows text.now)) }
     {
         count_reported(self.rows.as_slice(), text)?;
-        self.tables.push(alloc, heading, &mut self.rows)?;
-        self.stage = Stage::Between;
+        self.close(alloc, heading)?;
         Ok(())
     }
 
@@ -136,19 +135,16 @@ impl Draft {
 
     /// The dump, if its last table has ended and there is one.
     #[tactic(auto, unfolding(crate::specs::Dump::whole))]
-    fn finish(self) -> Result<Dump, DumpFault>
+    fn finish(self, alloc: Global) -> Result<Dump, DumpFault>
         ensures { TextGives (λ dump. dump) result (whole self) }
     {
-        if !self.stage.is_between() || self.tables.as_slice().is_empty() {
+        if !self.stage.is_between() || self.tables.is_empty() {
             return Err(DumpFault::At {
                 line: 0,
                 cause: DumpCause::Unfinished,
             });
         }
-        Ok(Dump {
-            tables: self.tables,
-            ends: self.ends,
-        })
+        Ok(Dump::latest(alloc, self.tables)?)
     }
 }
 
@@ -213,7 +209,8 @@ fn is_passed_over(text: &[u8]) -> bool
 /// of the text, and no name is kept.
 ///
 /// Read are the tables that `dump_fts` and `ibroute` print, with their option `-a` or without, and those of
-/// `fabric tables`. Passed over are lines with nothing on them, lines that begin with `#`, multicast tables, and the
+/// `fabric tables`. `ibroute LID` has rows that `dump_fts` may leave out, so of a switch that has a table of both that by its
+/// LID counts. Passed over are lines with nothing on them, lines that begin with `#`, multicast tables, and the
 /// warning that ends what `dump_mfts` prints. If a line ends in blanks, or in CR LF, these do not count.
 #[tactic(auto, unfolding(crate::specs::Dump::dump_of))]
 pub fn read(alloc: Global, text: &[u8]) -> Result<Dump, DumpFault>
@@ -223,7 +220,7 @@ pub fn read(alloc: Global, text: &[u8]) -> Result<Dump, DumpFault>
     ensures sound { IfOk result (λ dump. IsSound dump) }
 {
     let draft = read_lines(alloc, text, Draft::new(alloc))?;
-    let dump = draft.finish()?;
+    let dump = draft.finish(alloc)?;
     dump.known_sound();
     Ok(dump)
 }
@@ -240,6 +237,6 @@ pub fn read_from<R: Reader>(alloc: Global, reader: &mut R) -> Result<Option<Dump
     let Some(draft) = read_lines_of(alloc, reader, Draft::new(alloc))? else {
         return Ok(None);
     };
-    let dump = draft.finish()?;
+    let dump = draft.finish(alloc)?;
     Ok(Some(dump))
 }

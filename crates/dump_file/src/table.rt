@@ -1,16 +1,15 @@
 //! Tables.
 
-ghost use Rattle.std.specs.Prelude.{◌≡◌, [], ◌∷◌, ◌++◌, None, map, IfOk, OnErr, OnOk};
+ghost use Rattle.std.specs.Prelude.{◌≡◌, [], Some, None, map, IfOk, OnOk};
 ghost use Rattle.std.specs.List.{IsDistinct};
 ghost use Rattle.dump_file.specs.Sound.{shares_switch};
-ghost use Rattle.dump_file.specs.Table.{place_of, table_of};
+ghost use Rattle.dump_file.specs.Table.{latest, place_of, put, table_of};
 
 use crate::heading::Heading;
-use crate::row::{Row, RowList};
+use crate::row::RowList;
 use indexmap::IndexSet;
 use std::alloc::{AllocError, Global};
 use std::marker::Model;
-use std::mem;
 
 /// The linear forwarding table of a switch.
 ///
@@ -28,7 +27,7 @@ pub struct Table {
     pub rows: RowList,
 }
 
-/// Tables of different switches, in the order in which they were added, and found by GUID in constant time.
+/// Tables of different switches, in the order of the text, and found by GUID in constant time.
 #[derive(Debug, Drop)]
 pub(crate) struct TableList {
     // The GUIDs again, each at the place of its table.
@@ -79,28 +78,59 @@ impl TableList {
         self.guids.get_index_of(&guid)
     }
 
-    /// Adds a table at the end, and takes its rows. It can only run out of memory, and then both stay as they were.
-    pub(crate) fn push(
-        &mut self,
-        alloc: Global,
-        heading: Heading,
-        rows: &mut Vec<Row>,
-    ) -> Result<(), AllocError>
-        requires new { place_of heading.guid self.old ≡ None }
-        ensures ok { OnOk result (self.new ≡ self.old ++ table_of heading rows.old.items ∷ []) }
-        ensures taken { OnOk result (rows.new.items ≡ []) }
-        ensures err { OnErr result (self.new ≡ self.old) }
-        ensures kept { OnErr result (rows.new.items ≡ rows.old.items) }
+    /// Of two tables of a switch the later one. It can only run out of memory.
+    pub(crate) fn latest(alloc: Global, tables: Vec<Table>) -> Result<TableList, AllocError>
+        ensures { IfOk result (λ list. list ≡ latest tables.items) }
+    {
+        let mut list = TableList::new(alloc);
+        for table in tables {
+            list.put(table)?;
+        }
+        Ok(list)
+    }
+
+    /// Adds a table at the end, or puts it in the place of another one of its switch.
+    fn put(&mut self, table: Table) -> Result<(), AllocError>
+        ensures { OnOk result (self.new ≡ put table self.old) }
+    {
+        match self.place_of(table.guid) {
+            Some(place) => {
+                self.replace(place, table);
+                Ok(())
+            }
+            None => self.push(table),
+        }
+    }
+
+    fn replace(&mut self, place: usize, table: Table)
+        requires there { place_of table.guid self.old ≡ Some place }
+        ensures { self.new ≡ put table self.old }
+    {
+        self.tables[place] = table;
+    }
+
+    fn push(&mut self, table: Table) -> Result<(), AllocError>
+        requires new { place_of table.guid self.old ≡ None }
+        ensures { OnOk result (self.new ≡ put table self.old) }
     {
         self.tables.reserve(1)?;
-        self.guids.insert(heading.guid)?;
-        self.tables.push(Table {
+        self.guids.insert(table.guid)?;
+        self.tables.push(table)?;
+        Ok(())
+    }
+}
+
+impl Table {
+    /// The table of a heading, with these rows.
+    pub(crate) fn of(heading: Heading, rows: RowList) -> Table
+        ensures { result ≡ table_of heading rows }
+    {
+        Table {
             line: heading.line,
             guid: heading.guid,
             top: heading.top,
-            rows: RowList::of(mem::replace(rows, Vec::new(alloc))),
-        })?;
-        Ok(())
+            rows,
+        }
     }
 }
 

@@ -1,12 +1,14 @@
 -- What `fabric tables` prints is read back, and so the two forms of `fabric load` agree.
 use Rattle.std.proofs.Common.{ℕ, suc, ◌≡◌, ◌==◌, ◌∙◌, ap, refl, sym, Bool, true, false, not, if◌then◌else◌, List, [], ◌∷◌, ◌++◌, flat_map, length, slice_get, append-nil, Option, Some, None, option_map, Result, Ok, Err, arith}
-use Rattle.std.specs.List.{AllByRecursion, range_with_len}
+use Rattle.std.specs.List.{AllByRecursion, IsDistinct, range_with_len}
 use Rattle.std.specs.Option.{option_and_then, option_map_or}
 use Rattle.std.proofs.lemmas.Bool.{ne_eqb}
 use Rattle.std.proofs.lemmas.Option.{none-some, slice_get-map}
 use Rattle.cable_load.specs.Talk.{may_talk}
 use Rattle.cable_load.specs.Text.{load_of_plan}
 use Rattle.dump_file.specs.Dump.{DraftState, DumpState, after_line, dump_of, whole}
+use Rattle.dump_file.specs.Sound.{shares_switch}
+use Rattle.dump_file.specs.Table.{latest}
 use Rattle.dump_file.specs.declared.fault.DumpCause.{DumpCause}
 use Rattle.dump_file.specs.declared.fault.DumpCause.TheVariants.{Unfinished}
 use Rattle.fabric_parts.specs.declared.cable.Cable.{Cable}
@@ -46,6 +48,8 @@ use Rattle.topo_file.specs.Sound.{IsSound}
 use Rattle.topo_file.specs.Topology.{TopologyState}
 use Rattle.topo_file.specs.declared.node.Node.{Node as PlannedNode}
 use Rattle.updn_routes.specs.Subnet.{RoutesState}
+use Rattle.step_results.proofs.ListLemmas.{IsDistinct-nil}
+use Rattle.dump_file.proofs.LatestLemmas.{all_latest_own}
 use Rattle.printed_loads_laws.specs.Held.{HasOwnRows}
 use Rattle.printed_loads_laws.proofs.MulticastLemmas.{all_passed}
 use Rattle.printed_loads_laws.proofs.OwnPortLemmas.{all_fit, ends, few_ports, held_fits, rise}
@@ -53,7 +57,7 @@ use Rattle.printed_loads_laws.proofs.OwnRowLemmas.{held_there, kept_up, own_is, 
 use Rattle.printed_loads_laws.proofs.ReadBackLemmas.{own_rows_read, read}
 use Rattle.printed_loads_laws.proofs.ReadLemmas.{Fits}
 use Rattle.printed_loads_laws.proofs.StepLemmas.{between_tables}
-use Rattle.printed_loads_laws.proofs.TableLemmas.{all_tables, line_from}
+use Rattle.printed_loads_laws.proofs.TableLemmas.{all_tables, line_from, tables_own}
 use Rattle.printed_loads_laws.proofs.TextLemmas.{is_one_line}
 use Rattle.own_route_laws.specs.Laws.{over}
 use Rattle.own_route_laws.specs.OwnTables.{dump_of as own_tables}
@@ -120,13 +124,14 @@ none_yet [] = tt
 none_yet (one ∷ some) = (refl, none_yet some)
 
 -- ---- the whole
-whole_read : (text : List ℕ) (tables : List Table) (line : ℕ) → (length tables == 0) ≡ false
+whole_read : (text : List ℕ) (tables : List Table) (line : ℕ) → (length tables == 0) ≡ false → IsDistinct shares_switch tables
     → after_lines after_line 1 (between_tables []) (lines text) ≡ after_lines after_line line (between_tables tables) (lines [])
     → dump_of text ≡ Ok (record { tables = tables })
 unfolding dump_of whole after_lines
-whole_read text tables line some is =
+whole_read text tables line some own is =
     ap (λ (found : Result DraftState (AtLine DumpCause)). found >>= whole) is
-    ∙ ap (λ (b : Bool). if not b then Ok (record { tables = tables }) else Err (record { line = 0; cause = Unfinished })) some
+    ∙ ap (λ (b : Bool). if not b then Ok (record { tables = latest tables }) else Err (record { line = 0; cause = Unfinished })) some
+    ∙ ap (λ (all : List Table). Ok (record { tables = all })) (all_latest_own tables own)
 
 -- ---- an entry is that of a table's top and rows
 same_entry : (ports lid : ℕ) (one other : Table) → one.top ≡ other.top → one.rows ≡ other.rows → entry_in ports lid one ≡ entry_in ports lid other
@@ -191,6 +196,9 @@ module _ (partitions : List Partition) (plan : TopologyState) (sound : IsSound p
       let passed = all_passed dump.tables plan.nodes fabric switches ports (names routes.lids ports fit) line [] in
       ap (λ (some : List SubnetPort). dump_of (tables_by some)) (sym same_ports)
       ∙ whole_read (tables_by ports) dump.tables passed.0 some_table
+      (tables_own routes.lids switches ports fit (rise partitions left sound_left keys routes base up)
+      (few_ports partitions left sound_left keys routes base up) plan.nodes base
+      ports 1 [] (ends partitions left sound_left keys routes base up).own_guids (IsDistinct-nil shares_switch) (none_yet ports))
       (ap (λ (text : List ℕ). after_lines after_line 1 (between_tables []) (lines (text ++ multicast))) (linear_alike plan.nodes fabric switches ports ports)
       ∙ all_tables routes.lids switches ports fit (rise partitions left sound_left keys routes base up)
       (few_ports partitions left sound_left keys routes base up) plan.nodes base

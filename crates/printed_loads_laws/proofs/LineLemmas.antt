@@ -15,7 +15,7 @@ use Rattle.text_parts.specs.Parts.{guid_text, hex_text}
 use Rattle.text_words.specs.Cut.{cut_at}
 use Rattle.dump_file.specs.Destination.{destination_in, end_port_in, named_in, of_kind_or, router_in, said_in, switch_in}
 use Rattle.dump_file.specs.Dump.{is_passed_over}
-use Rattle.dump_file.specs.Heading.{guid_behind_way, heading_in, is_way}
+use Rattle.dump_file.specs.Heading.{guid_behind_way, heading_in, is_by_lid, is_way}
 use Rattle.dump_file.specs.Parts.{behind, between, cut, guid_in, lid_in, only_if, port_in, trimmed}
 use Rattle.dump_file.specs.Row.{cut_behind_port, row_in}
 use Rattle.dump_file.specs.declared.destination.Destination.{Destination}
@@ -104,7 +104,7 @@ module _ (top guid : ℕ) (path name : List ℕ) (top_fits : top < 65536) (guid_
       (between_both (codes "uid ") (guid_text guid) (codes " "))
       ∙ ap (λ (found : Option ℕ). ok_or found Malformed >>= λ one. only_if (is_way way_before) one) (guid_read guid guid_fits)
 
-  pub heading_read : (line : ℕ) → heading_in line heading_text ≡ Ok (record { line = line; guid = guid; top = top })
+  pub heading_read : (line : ℕ) → heading_in line heading_text ≡ Ok (record { line = line; guid = guid; top = top; by_lid = false })
   unfolding heading_in
   heading_read line =
       let short = short_read top top_fits in
@@ -119,26 +119,26 @@ module _ (top guid : ℕ) (path name : List ℕ) (top_fits : top < 65536) (guid_
       let switch = way ++ 40 ∷ named in
       ap (λ (found : Result (List ℕ) DumpCause).
       found >>= λ range. cut 93 range >>= λ top_parts. lid_in top_parts.0 >>= λ lid. behind (codes " of switch ") top_parts.1 >>= λ rest. cut 40 rest
-      >>= λ parts. guid_behind_way parts.0 >>= λ one. only_if (ends_with nat_eq parts.1 (codes "):")) (record { line = line; guid = one; top = lid }))
+      >>= λ parts. guid_behind_way parts.0 >>= λ one. only_if (ends_with nat_eq parts.1 (codes "):")) (record { line = line; guid = one; top = lid; by_lid = is_by_lid parts.0 }))
       (behind_first (codes "Unicast lids [0x0-") (short_hex_text top ++ 93 ∷ (codes " of switch " ++ switch)))
       ∙ ap (λ (found : Result (List ℕ × List ℕ) DumpCause).
       found >>= λ top_parts. lid_in top_parts.0 >>= λ lid. behind (codes " of switch ") top_parts.1 >>= λ rest. cut 40 rest
-      >>= λ parts. guid_behind_way parts.0 >>= λ one. only_if (ends_with nat_eq parts.1 (codes "):")) (record { line = line; guid = one; top = lid }))
+      >>= λ parts. guid_behind_way parts.0 >>= λ one. only_if (ends_with nat_eq parts.1 (codes "):")) (record { line = line; guid = one; top = lid; by_lid = is_by_lid parts.0 }))
       (cut_here 93 (short_hex_text top) (codes " of switch " ++ switch) short_apart)
       ∙ ap (λ (found : Option ℕ).
       ok_or found Malformed >>= λ lid. behind (codes " of switch ") (codes " of switch " ++ switch) >>= λ rest. cut 40 rest
-      >>= λ parts. guid_behind_way parts.0 >>= λ one. only_if (ends_with nat_eq parts.1 (codes "):")) (record { line = line; guid = one; top = lid }))
+      >>= λ parts. guid_behind_way parts.0 >>= λ one. only_if (ends_with nat_eq parts.1 (codes "):")) (record { line = line; guid = one; top = lid; by_lid = is_by_lid parts.0 }))
       short.read
       ∙ ap (λ (found : Result (List ℕ) DumpCause).
       found >>= λ rest. cut 40 rest
-      >>= λ parts. guid_behind_way parts.0 >>= λ one. only_if (ends_with nat_eq parts.1 (codes "):")) (record { line = line; guid = one; top = top }))
+      >>= λ parts. guid_behind_way parts.0 >>= λ one. only_if (ends_with nat_eq parts.1 (codes "):")) (record { line = line; guid = one; top = top; by_lid = is_by_lid parts.0 }))
       (behind_first (codes " of switch ") switch)
       ∙ ap (λ (found : Result (List ℕ × List ℕ) DumpCause).
-      found >>= λ parts. guid_behind_way parts.0 >>= λ one. only_if (ends_with nat_eq parts.1 (codes "):")) (record { line = line; guid = one; top = top }))
+      found >>= λ parts. guid_behind_way parts.0 >>= λ one. only_if (ends_with nat_eq parts.1 (codes "):")) (record { line = line; guid = one; top = top; by_lid = is_by_lid parts.0 }))
       (cut_here 40 way named way_apart)
       ∙ ap (λ (found : Result ℕ DumpCause). found >>= λ one. only_if (ends_with nat_eq named (codes "):"))
-      (record { line = line; guid = one; top = top })) way_read
-      ∙ ap (λ (b : Bool). only_if b (record { line = line; guid = guid; top = top })) (ends name (codes "):"))
+      (record { line = line; guid = one; top = top; by_lid = is_by_lid way })) way_read
+      ∙ ap (λ (b : Bool). only_if b (record { line = line; guid = guid; top = top; by_lid = false })) (ends name (codes "):"))
 
   -- ---- the line that is printed
   pub heading_is : ((codes "Unicast lids " ++ (codes "[0x0-" ++ short_hex_text top ++ codes "]")) ++ route_text path) ++

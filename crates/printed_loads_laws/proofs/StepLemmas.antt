@@ -29,7 +29,7 @@ between_tables tables = record nothing { tables = tables }
 
 -- behind a heading, behind the first title, and among rows
 abbrev pub headed : List Table → (line guid top : ℕ) → DraftState
-headed tables line guid top = got nothing (with_heading (between_tables tables) (Ok (record { line = line; guid = guid; top = top })))
+headed tables line guid top = got nothing (with_heading (between_tables tables) (Ok (record { line = line; guid = guid; top = top; by_lid = false })))
 
 abbrev pub half_titled : List Table → (line guid top : ℕ) → DraftState
 half_titled tables line guid top =
@@ -74,7 +74,7 @@ module _ (tables : List Table) where
       ∙ ap (λ (found : Result _ DumpCause). with_heading (between_tables tables) (found >>= λ heading. new_heading (between_tables tables) heading))
       (heading_read top guid path name top_fits guid_fits number)
       ∙ ap (λ (o : Option ℕ). with_heading (between_tables tables)
-      (if is_some o then Err DuplicateTable else Ok (record { line = number; guid = guid; top = top }))) new
+      (if is_some o then Err DuplicateTable else Ok (record { line = number; guid = guid; top = top; by_lid = false }))) new
 
   pub first_title_step : (number line guid top : ℕ)
       → after_line number (headed tables line guid top) (codes "  Lid  Out   Destination" ++ 10 ∷ []) ≡ Ok (half_titled tables line guid top)
@@ -101,7 +101,7 @@ module _ (tables : List Table) where
       let row : Row = record { lid = lid; port = entry; destination = destination_by of guid } in
       line_taken number state (text ++ 10 ∷ []) text (trimmed_text text (row_plain lid entry guid of name lid_fits entry_fits guid_fits))
       (some_bytes 48 (drop 1 text) refl)
-      ∙ ap (λ (found : Result Row DumpCause). with_row state (found >>= λ one. new_row state (record { line = line; guid = of_switch; top = top }) one))
+      ∙ ap (λ (found : Result Row DumpCause). with_row state (found >>= λ one. new_row state (record { line = line; guid = of_switch; top = top; by_lid = false }) one))
       (row_read lid entry guid of name lid_fits entry_fits guid_fits)
       ∙ ap (λ (b : Bool). with_row state (if not b then Err WrongLid else (if is_said_otherwise (rows_of tables ++ rows) row then Err TwoEndPorts else Ok row))) follows
       ∙ ap (λ (b : Bool). with_row state (if b then Err TwoEndPorts else Ok row)) once
@@ -115,13 +115,13 @@ module _ (tables : List Table) where
       let text = count_text count in
       let state = in_rows tables line guid top rows in
       line_taken number state ((text ++ 32 ∷ []) ++ 10 ∷ []) text (trimmed_text_blank text (count_plain count)) (count_begins count small).0
-      ∙ ap (λ (b : Bool). if b then with_row state (row_reported state (record { line = line; guid = guid; top = top }) text) else with_table state
-      (record { line = line; guid = guid; top = top }) (count_reported rows text)) (count_begins count small).1
+      ∙ ap (λ (b : Bool). if b then with_row state (row_reported state (record { line = line; guid = guid; top = top; by_lid = false }) text) else with_table state
+      (record { line = line; guid = guid; top = top; by_lid = false }) (count_reported rows text)) (count_begins count small).1
       ∙ ap (λ (found : Result (List ℕ × List ℕ) DumpCause).
-      with_table state (record { line = line; guid = guid; top = top })
+      with_table state (record { line = line; guid = guid; top = top; by_lid = false })
       (found >>= λ parts. count_in parts.0 >>= λ one. rows_counted rows parts.1 >>= λ all. if one == all then Ok one else Err WrongCount))
       (count_cut count)
       ∙ ap (λ (found : Option ℕ).
-      with_table state (record { line = line; guid = guid; top = top }) (ok_or found Malformed >>= λ one. if one == count then Ok one else Err WrongCount))
+      with_table state (record { line = line; guid = guid; top = top; by_lid = false }) (ok_or found Malformed >>= λ one. if one == count then Ok one else Err WrongCount))
       (decimal_read count small)
-      ∙ ap (λ (b : Bool). with_table state (record { line = line; guid = guid; top = top }) (if b then Ok count else Err WrongCount)) (eq-eqb count count refl)
+      ∙ ap (λ (b : Bool). with_table state (record { line = line; guid = guid; top = top; by_lid = false }) (if b then Ok count else Err WrongCount)) (eq-eqb count count refl)

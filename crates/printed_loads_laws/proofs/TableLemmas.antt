@@ -5,9 +5,11 @@ use Rattle.std.specs.Option.{option_map_or}
 use Rattle.std.proofs.lemmas.Bool.{or_from, or_parts}
 use Rattle.std.proofs.lemmas.Grind.{flat_map-append}
 use Rattle.std.proofs.lemmas.List.Folds.{list_any-append}
-use Rattle.std.proofs.lemmas.Map.Keys.{IsDistinct-tail}
+use Rattle.std.proofs.lemmas.Cmp.{nat_eq_equiv, on_equiv}
+use Rattle.std.proofs.lemmas.Map.Keys.{IsDistinct-push, IsDistinct-tail}
 use Rattle.dump_file.specs.Dump.{after_line}
 use Rattle.dump_file.specs.Row.{valid_count}
+use Rattle.dump_file.specs.Sound.{shares_switch}
 use Rattle.dump_file.specs.Table.{rows_of}
 use Rattle.dump_file.specs.declared.table.Table.{Table}
 use Rattle.fabric_tables.specs.Nodes.{node_of}
@@ -200,3 +202,23 @@ module _ (lids : List ℕ) (switches : List GraphSwitch) (ports : List SubnetPor
             ∙ ap (λ (all : List Table). after_lines after_line (line_from nodes fabric ports some (line_behind number ports held)) (between_tables all)
             (lines rest))
             (append_assoc tables (table_by number ports port held ∷ []) (tables_from nodes fabric ports some (line_behind number ports held)))
+
+    -- they are of different switches
+    pub tables_own : (some : List SubnetPort) (number : ℕ) (tables : List Table) → IsDistinct same_guid some → IsDistinct shares_switch tables → AreNew tables some
+        → IsDistinct shares_switch (tables ++ tables_from nodes fabric ports some number)
+    tables_own [] number tables own so_far new = subst (IsDistinct shares_switch) (sym (append-nil tables)) so_far
+    tables_own (port ∷ some) number tables own so_far new =
+        by (switch_of nodes fabric port) (tables_own some number tables (IsDistinct-tail same_guid port some own) so_far new.1)
+        (λ held.
+        tables_own some (line_behind number ports held) (tables ++ table_by number ports port held ∷ []) (IsDistinct-tail same_guid port some own)
+        (IsDistinct-push (on_equiv (λ (table : Table). table.guid) nat_eq_equiv) tables (table_by number ports port held) so_far new.0)
+        (new_more tables (table_by number ports port held) port some refl (none_shares same_guid port some own) new.1))
+      where
+        by : (o : Option SwitchState) → IsDistinct shares_switch (tables ++ tables_from nodes fabric ports some number)
+            → ((held : SwitchState)
+            → IsDistinct shares_switch ((tables ++ table_by number ports port held ∷ []) ++ tables_from nodes fabric ports some (line_behind number ports held)))
+            → IsDistinct shares_switch (tables ++ then_tables (tables_from nodes fabric ports some) ports number port o)
+        by None none later = none
+        by (Some held) none later =
+            subst (IsDistinct shares_switch) (append_assoc tables (table_by number ports port held ∷ []) (tables_from nodes fabric ports some (line_behind number ports held)))
+            (later held)

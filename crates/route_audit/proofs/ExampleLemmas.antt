@@ -1,9 +1,10 @@
 -- Lines, computed.
 use Rattle.std.proofs.Common.{refl}
 use Rattle.std.specs.Fmt.{digits}
+use Rattle.route_audit.specs.Asks.{ask_text}
 use Rattle.route_audit.specs.Audit.{aggregation_line, count_line, counts_by, lost_part, other_part, reached_part}
 use Rattle.route_audit.specs.Verdict.{reasons, safe_words, verdict_line}
-use Rattle.route_audit.specs.Examples.{CountsAreReported, DeadlocksAreReported, LacksAreReported, TroublesAreReported, VerdictsAreReported}
+use Rattle.route_audit.specs.Examples.{AsksAreReported, CountsAreReported, DeadlocksAreReported, LacksAreReported, TroublesAreReported, VerdictsAreReported}
 
 pub troubles_are_reported : TroublesAreReported
 unfolding digits
@@ -20,6 +21,10 @@ lacks_are_reported = record { has_the_row = refl; table = refl; has_table = refl
 pub verdicts_are_reported : VerdictsAreReported
 unfolding reasons safe_words verdict_line
 verdicts_are_reported = record { safe = refl; lids = refl; reached = refl; free = refl; same = refl; known = refl; entries = refl; none = refl }
+
+pub asks_are_reported : AsksAreReported
+unfolding ask_text digits
+asks_are_reported = record { lacks = refl; has_all = refl; of_nobody = refl; at_the_top = refl }
 
 pub counts_are_reported : CountsAreReported
 unfolding aggregation_line count_line counts_by digits lost_part other_part reached_part

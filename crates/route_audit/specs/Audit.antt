@@ -13,6 +13,7 @@ use Rattle.route_audit.specs.declared.verdict.Verdict.{Verdict}
 use Rattle.credit_loops.specs.Channels.{deadlock, leaves_by}
 use Rattle.lid_owners.specs.Lids.{aims}
 use Rattle.route_audit.specs.Verdict.{is_others, verdict_by, verdict_is_safe, verdict_line}
+use Rattle.route_audit.specs.Asks.{asks_by}
 use Rattle.route_audit.specs.Lines.{files_by, lid_text, port_text, troubles_by}
 use Rattle.audit_net.specs.Net.{NetState}
 use Rattle.audit_plan.specs.Plan.{plan_found, plan_of}
@@ -105,7 +106,7 @@ counts_by pairs others switches =
 -- ---- the whole
 unfoldable pub lines_by : NetState → List Aim → Option (List PortRef) → Option (List PortRef) → List ℕ
 lines_by net all others switches =
-    files_by net all ++ troubles_by net all ++ ring_line net (codes "deadlock") (filter (is_others net) all) others
+    files_by net all ++ troubles_by net all ++ asks_by net all ++ ring_line net (codes "deadlock") (filter (is_others net) all) others
     ++ ring_line net (codes "deadlock switch-lids") all switches
 
 -- all before the verdict

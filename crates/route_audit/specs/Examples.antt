@@ -1,10 +1,15 @@
 -- What lines are, in examples.
 use Rattle.std.specs.Prelude.{ℕ, ◌≡◌, Bool, true, false, not, List, [], ◌∷◌, ◌++◌, codes, Some, None}
 use Rattle.dump_file.specs.declared.destination.Destination.TheVariants.{Nobody}
+use Rattle.dump_file.specs.declared.row.Row.{Row}
 use Rattle.dump_file.specs.declared.table.Table.{Table}
 use Rattle.fabric_parts.specs.Cable.{port}
+use Rattle.fabric_parts.specs.declared.node_type.NodeType.TheVariants.{ChannelAdapter, Switch as SwitchNode}
+use Rattle.topo_file.specs.Topology.{TopologyState}
+use Rattle.audit_plan.specs.Plan.{plan_of}
 use Rattle.lid_owners.specs.declared.lids.Aim.{Aim}
 use Rattle.route_audit.specs.declared.verdict.Verdict.{Verdict}
+use Rattle.route_audit.specs.Asks.{asks_by}
 use Rattle.route_audit.specs.Audit.{count_line, counts_by, deadlock_words, ring_line}
 use Rattle.lid_owners.specs.Lids.{aim_of}
 use Rattle.text_parts.specs.Parts.{guid_text}
@@ -12,7 +17,7 @@ use Rattle.route_audit.specs.Lines.{leaves_out, no_lid_lines, no_port_line, no_s
 use Rattle.audit_net.specs.Net.{NetState}
 use Rattle.route_audit.specs.Pairs.{pairs_by}
 use Rattle.route_audit.specs.Verdict.{verdict_line}
-use Rattle.audit_net.specs.SmallNets.{a_hole, a_table, with_entries}
+use Rattle.audit_net.specs.SmallNets.{a_hole, a_plan, a_row, a_table, with_entries, with_rows}
 use Rattle.route_audit.specs.WrongRules.{a_routers_hole, a_routers_loop, a_row_left_out}
 use Rattle.audit_net.specs.Examples.{topped}
 
@@ -60,6 +65,26 @@ pub record LacksAreReported : Type 0 where
   pub untold : unreported_line a_row_left_out [] 64 ≡ codes "untold 64\n"
   pub told : unreported_line a_row_left_out (record an_aim { lid = 64 } ∷ []) 64 ≡ []
   pub has_lid : no_lid_lines a_hole (an_aim ∷ []) (record { first = port 0 1; second = port 2 1 }) ≡ []
+
+-- ---- what to ask: of these two switches the first has 128 ports, its own LID is 3, and its table has these rows
+abbrev wide_plan : TopologyState
+wide_plan = record a_plan {
+  nodes = record { name = codes "A"; node_type = SwitchNode; guid = 16; ports = 128 } ∷ record { name = codes "B"; node_type = SwitchNode; guid = 32; ports = 2 }
+      ∷ record { name = codes "h"; node_type = ChannelAdapter; guid = 256; ports = 1 } ∷ [];
+}
+
+abbrev wide : List Row → NetState
+wide rows = record { plan = plan_of wide_plan; dump = record { tables = with_rows 16 rows ∷ with_rows 32 [] ∷ [] } }
+
+abbrev own_aim : Aim
+own_aim = record { lid = 3; guid = Some 16; end = Some (port 0 0) }
+
+pub record AsksAreReported : Type 0 where
+  pub lacks : asks_by (wide (a_row 3 0 Nobody ∷ [])) (an_aim ∷ own_aim ∷ []) ≡ codes "# ask: ibroute 3, and append its table to the dump\n"
+  pub has_all : asks_by (wide (a_row 1 1 Nobody ∷ a_row 3 0 Nobody ∷ [])) (an_aim ∷ own_aim ∷ []) ≡ []
+  -- a row of nobody's LID is not missed, nor one that is left out at the top of a table, which no tool shows
+  pub of_nobody : asks_by (wide (a_row 1 1 Nobody ∷ a_row 3 0 Nobody ∷ [])) (record { lid = 7; guid = None; end = None } ∷ own_aim ∷ []) ≡ []
+  pub at_the_top : asks_by a_row_left_out (record an_aim { lid = 64 } ∷ own_aim ∷ []) ≡ []
 
 -- ---- counts
 pub record CountsAreReported : Type 0 where

@@ -6,6 +6,7 @@ ghost use Rattle.route_audit.specs.Audit.{findings_by, findings_of, leaves_by_bo
 ghost use Rattle.route_audit.specs.Audit.{port_word, reached_part, ring_line, switches_credit_loop};
 ghost use Rattle.route_audit.specs.Verdict.{is_others};
 
+use crate::asks::push_asks;
 use crate::lines::{push_files, push_lid, push_port, push_troubles};
 use crate::outcome::{Audit, Findings};
 use crate::pairs::{Pair, between_hosts, count_of, in_transit, pairs, to_aggregation, to_switches};
@@ -21,7 +22,8 @@ use std::alloc::{AllocError, Global};
 use text_parts::push_decimal;
 use topo_file::LargeTopology;
 
-fn lids_of(alloc: Global, aims: &[Aim]) -> Result<Vec<u16>, AllocError>
+/// The LIDs of these.
+pub fn lids_of(alloc: Global, aims: &[Aim]) -> Result<Vec<u16>, AllocError>
     ensures { IfOk result (λ lids. lids.items ≡ lids_of aims.now) }
 {
     aims.iter().map(|aim| aim.lid).collect(alloc)
@@ -137,7 +139,8 @@ fn audited(alloc: Global, plan: &Plan, dump: &Dump) -> Result<Audit, AllocError>
     audited_net(&net, alloc)
 }
 
-fn is_others(net: &Net<'_>, aim: &Aim) -> bool
+/// Whether it is no LID of a switch.
+pub fn is_others(net: &Net<'_>, aim: &Aim) -> bool
     ensures { result ≡ is_others net.now aim.now }
 {
     match aim.end {
@@ -294,6 +297,7 @@ fn push_lines(
 {
     push_files(net, text, aims)?;
     push_troubles(net, alloc, text, aims)?;
+    push_asks(net, text, aims)?;
     let some = aims_of_others(net, alloc, aims)?;
     push_ring_line(net, text, b"deadlock", &some, others)?;
     push_ring_line(net, text, b"deadlock switch-lids", aims, switches)

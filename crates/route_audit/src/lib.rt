@@ -6,6 +6,7 @@
 //! are safe, in `specs/Verdict.antt`. `src/laws.rt` says what that means of paths along entries, however long, and of cycles.
 #![tactic(auto)]
 
+mod asks;
 mod auditing;
 mod examples;
 mod laws;
@@ -15,11 +16,11 @@ mod pairs;
 mod verdict;
 mod wrong_rules;
 
-pub use crate::auditing::{audit, audit_discovery, findings, push_port_words};
+pub use crate::auditing::{audit, audit_discovery, findings, is_others, lids_of, push_port_words};
 pub use crate::laws::{
     counts_add_up, each_trouble_has_a_line, loops_are_closed_by_their_lids,
     safe_routes_are_reported, unsafe_routes_have_a_reason,
 };
-pub use crate::lines::{has_switch, push_name, push_port};
+pub use crate::lines::{has_switch, push_lid, push_name, push_port};
 pub use crate::outcome::{Audit, Findings};
 pub use crate::verdict::{Verdict, add_reason, reasons};

@@ -143,7 +143,7 @@ fn push_owner(net: &Net<'_>, text: &mut Vec<u8>, end: Option<PortRef>) -> Result
 }
 
 /// Adds a LID, and the port that has it.
-pub(crate) fn push_lid(
+pub fn push_lid(
     net: &Net<'_>,
     text: &mut Vec<u8>,
     lid: u16,

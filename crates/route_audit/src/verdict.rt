@@ -44,6 +44,20 @@ impl Verdict {
         self.has_lids && self.is_reached && self.is_free && self.is_same && self.is_known
     }
 
+    /// Whether there is no credit loop along all LIDs but the switches' own.
+    pub fn is_free(self) -> bool
+        ensures { result ≡ self.is_free }
+    {
+        self.is_free
+    }
+
+    /// The same if credit loops are judged otherwise.
+    pub fn with_free(self, is_free: bool) -> Verdict
+        ensures { result ≡ record self { is_free = is_free } }
+    {
+        Verdict { is_free, ..self }
+    }
+
     /// The same if a further dump names these nodes too, and if nothing is unknown by it.
     pub fn and(self, is_same: bool, is_known: bool) -> Verdict
         ensures { result ≡ record self { is_same = self.is_same && is_same; is_known = self.is_known && is_known } }
@@ -56,7 +70,7 @@ impl Verdict {
     }
 }
 
-fn is_unknown(turn: Turn) -> bool
+pub(crate) fn is_unknown(turn: Turn) -> bool
     ensures { result ≡ is_unknown turn }
 {
     matches!(turn, Turn::Unknown)

@@ -1,5 +1,5 @@
 use Rattle.std.proofs.Common.{◌≡◌, ◌∙◌, ◌++◌, ap, true, false, sym}
-use Rattle.dump_file.specs.Dump.{heading_of, rows_so_far}
+use Rattle.dump_file.specs.Dump.{DraftState, heading_of, rows_so_far}
 use Rattle.dump_file.specs.Row.{end_of, is_said_otherwise}
 use Rattle.dump_file.specs.Sound.{may_take}
 use Rattle.dump_file.specs.Table.{rows_of}
@@ -11,10 +11,15 @@ pub invariant_of-self-2 : goal.invariant_of-self-2
 invariant_of-self-2 c =
     let inside = c.self.inside in
     let row = c.args.row in
+    let before : DraftState = record { tables = inside.tables.items; by_lid = inside.by_lid.keys; stage = inside.stage; rows = inside.rows.items } in
     let takes : may_take (heading_of inside.stage) inside.rows.items row ≡ true = ap (λ draft. may_take (heading_of draft.stage) draft.rows row) c.self.view_is ∙ c.requires.open in
-    let apart : is_said_otherwise (rows_of inside.tables ++ inside.rows.items) row ≡ false = ap (λ draft. is_said_otherwise (rows_so_far draft) row) c.self.view_is ∙ c.requires.one_end in
+    let apart : is_said_otherwise (rows_of inside.tables.items ++ inside.rows.items) row ≡ false = ap (λ draft. is_said_otherwise (rows_so_far draft) row) c.self.view_is ∙ c.requires.one_end in
     rw (c.in_ok-push.ensures.items, c.reserve.ensures.items) (
-      sound_with_row (record { tables = inside.tables; stage = inside.stage; rows = inside.rows.items }) row c.self.invariant.0 takes apart,
-      λ lid. knows_more inside.ends c.know_end.new.ends (rows_of inside.tables ++ inside.rows.items) row c.self.invariant.1 c.in_ok-know_end.ensures.ok apart lid
-          ∙ ap (end_of lid) (sym (row_joins (rows_of inside.tables) inside.rows.items row)),
+      sound_with_row before row c.self.invariant.0 takes apart,
+      (
+        c.self.invariant.1.0,
+        λ lid. knows_more inside.ends c.know_end.new.ends (rows_of inside.tables.items ++ inside.rows.items) row
+            c.self.invariant.1.1 c.in_ok-know_end.ensures.ok apart lid
+            ∙ ap (end_of lid) (sym (row_joins (rows_of inside.tables.items) inside.rows.items row)),
+      ),
     )
