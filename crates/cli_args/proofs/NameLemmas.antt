@@ -9,7 +9,7 @@ use Rattle.clap.proofs.OnLiterals.{clap_on_literals}
 use Rattle.code_texts.specs.Codes.{code_of}
 use Rattle.code_texts.specs.declared.code.Code.{Code}
 use Rattle.cli_args.specs.Laws.{FilesAreNamedAsGiven, FilesStandInOrder, IsWordOf, NamesKeepTheirBlanks}
-use Rattle.cli_args.specs.Words.{Names, audit_by, audit_keys_by, audit_keys_with, audit_with, asked_by, asked_by_command, asked_of, asked_or, call_in, compare_by, cuts_by, diff_by, dumped_by, explain_by, file_in, graph_with, guid_by, import_by, is_given, in_subnet, inspect_by, load_by, load_with, manage_by, opened_for, roots_by, run_by, scripts_by, smps_by}
+use Rattle.cli_args.specs.Words.{Names, audit_by, audit_keys_by, audit_keys_with, audit_three, audit_with, asked_by, asked_by_command, asked_of, asked_or, call_in, compare_by, cuts_by, diff_by, dumped_by, explain_by, file_in, graph_with, guid_by, import_by, is_given, in_subnet, inspect_by, load_by, load_with, manage_by, opened_for, roots_by, run_by, scripts_by, smps_by}
 use Rattle.cli_args.specs.Words.{subcommand_in, text_for, trace_by, work_names}
 use Rattle.cli_args.specs.declared.call.Call.{Call}
 use Rattle.cli_args.specs.declared.call.CutView.TheVariants.{All as AllCuts, One, Picture}
@@ -20,6 +20,8 @@ use Rattle.cli_args.specs.declared.call.Inspection.{Inspection}
 use Rattle.cli_args.specs.declared.call.Inspection.TheVariants.{Graph, Keys, LoadGraph, Tables}
 use Rattle.cli_args.specs.declared.call.DumpView.{DumpView}
 use Rattle.cli_args.specs.declared.call.DumpView.TheVariants as dump_view
+use Rattle.cli_args.specs.declared.call.ThirdFile.{ThirdFile}
+use Rattle.cli_args.specs.declared.call.ThirdFile.TheVariants.{Lanes, Mfts}
 use Rattle.cli_args.specs.declared.call.Subcommand.{Subcommand}
 use Rattle.cli_args.specs.declared.call.Subcommand.TheVariants as command
 
@@ -161,24 +163,32 @@ import_given rows manager roots call is = by (first_of (codes "NETDISCOVER") row
     by (Some netdiscover) n None tops is = absurd cc
     by None n guid tops is = absurd cc
 
+three_given : (rows : List Row) (third : ThirdFile) (argument : Text) (fabric dump : Option Text) (file : Text) → first_of (codes "FABRIC") rows ≡ fabric
+    → first_of (codes "DUMP") rows ≡ dump → first_of argument rows ≡ Some file → IsGiven rows (audit_three third fabric dump file)
+three_given rows third argument (Some fabric) (Some dump) file t d at call is =
+    subst (λ (asked : Call Names Text). All (IsWordOf rows) (opened_for (Ok asked))) (same_call _ call is)
+    (All-cons (IsWordOf rows) fabric (dump ∷ file ∷ []) (codes "FABRIC", t)
+    (All-cons (IsWordOf rows) dump (file ∷ []) (codes "DUMP", d)
+    (All-cons (IsWordOf rows) file [] (argument, at) (All-nil (IsWordOf rows)))))
+three_given rows third argument (Some fabric) None file t d at call is = absurd cc
+three_given rows third argument None dump file t d at call is = absurd cc
+
 audit_given : (rows : List Row) → IsGiven rows (audit_by rows)
-audit_given rows call is = by (first_of (codes "MFTS") rows) refl (first_of (codes "FABRIC") rows) refl (first_of (codes "DUMP") rows) refl is
+audit_given rows call is =
+    by (first_of (codes "MFTS") rows) refl (first_of (codes "LANES") rows) refl (first_of (codes "FABRIC") rows) refl (first_of (codes "DUMP") rows) refl is
   where
-    by : (mfts : Option Text) → first_of (codes "MFTS") rows ≡ mfts → (topology : Option Text) → first_of (codes "FABRIC") rows ≡ topology
-        → (dump : Option Text) → first_of (codes "DUMP") rows ≡ dump → audit_with mfts topology dump ≡ Some call → All (IsWordOf rows) (opened_for (Ok call))
-    by None m (Some topology) t (Some dump) d is =
+    by : (mfts : Option Text) → first_of (codes "MFTS") rows ≡ mfts → (lanes : Option Text) → first_of (codes "LANES") rows ≡ lanes
+        → (topology : Option Text) → first_of (codes "FABRIC") rows ≡ topology → (dump : Option Text) → first_of (codes "DUMP") rows ≡ dump
+        → audit_with mfts lanes topology dump ≡ Some call → All (IsWordOf rows) (opened_for (Ok call))
+    by None m None l (Some topology) t (Some dump) d is =
         subst (λ (asked : Call Names Text). All (IsWordOf rows) (opened_for (Ok asked))) (same_call _ call is)
         (All-cons (IsWordOf rows) topology (dump ∷ []) (codes "FABRIC", t)
         (All-cons (IsWordOf rows) dump [] (codes "DUMP", d) (All-nil (IsWordOf rows))))
-    by None m (Some topology) t None d is = absurd cc
-    by None m None t dump d is = absurd cc
-    by (Some mfts) m (Some topology) t (Some dump) d is =
-        subst (λ (asked : Call Names Text). All (IsWordOf rows) (opened_for (Ok asked))) (same_call _ call is)
-        (All-cons (IsWordOf rows) topology (dump ∷ mfts ∷ []) (codes "FABRIC", t)
-        (All-cons (IsWordOf rows) dump (mfts ∷ []) (codes "DUMP", d)
-        (All-cons (IsWordOf rows) mfts [] (codes "MFTS", m) (All-nil (IsWordOf rows)))))
-    by (Some mfts) m (Some topology) t None d is = absurd cc
-    by (Some mfts) m None t dump d is = absurd cc
+    by None m None l (Some topology) t None d is = absurd cc
+    by None m None l None t dump d is = absurd cc
+    by (Some mfts) m None l topology t dump d is = three_given rows Mfts (codes "MFTS") topology dump mfts t d m call is
+    by None m (Some lanes) l topology t dump d is = three_given rows Lanes (codes "LANES") topology dump lanes t d l call is
+    by (Some mfts) m (Some lanes) l topology t dump d is = absurd cc
 
 load_given : (rows : List Row) → IsGiven rows (load_by rows)
 load_given rows call is =
@@ -271,7 +281,7 @@ files_are_given word rows call is = by (subcommand_in word) is
 
 pub blanks_are_kept : NamesKeepTheirBlanks
 unfolding clap_on_literals asked_of
-blanks_are_kept = record { plain = refl; before = refl; behind = refl; script = refl; looked = refl; dashes = refl; traced = refl; answered = refl; compared = refl; import = refl; audit = refl; multicast = refl; load = refl; audit_keys = refl; dash = refl }
+blanks_are_kept = record { plain = refl; before = refl; behind = refl; script = refl; looked = refl; dashes = refl; traced = refl; answered = refl; compared = refl; import = refl; audit = refl; multicast = refl; lanes = refl; load = refl; audit_keys = refl; dash = refl }
 
 pub files_stand_in_order : FilesStandInOrder
 unfolding clap_on_literals asked_of
@@ -293,6 +303,7 @@ files_stand_in_order = record {
   import = refl;
   audit = refl;
   multicast = refl;
+  lanes = refl;
   load = refl;
   loads = refl;
   audit_keys = refl;

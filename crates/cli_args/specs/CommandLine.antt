@@ -92,8 +92,14 @@ import_command = with_rule (with_rule (with_rule (new_app (codes "import")) (wan
 abbrev pub mfts_option : Rule
 mfts_option = record (new_rule (codes "MFTS")) { long = Some (codes "mft"); action = Some Set; value_names = 1 }
 
+-- `--sl2vl LANES`
+abbrev pub lanes_option : Rule
+lanes_option = record (new_rule (codes "LANES")) { long = Some (codes "sl2vl"); action = Some Set; value_names = 1 }
+
 abbrev pub audit_command : App
-audit_command = with_rule (with_rule (with_rule (new_app (codes "audit")) (wanted (codes "FABRIC"))) (wanted (codes "DUMP"))) mfts_option
+audit_command =
+    let files = with_rule (with_rule (new_app (codes "audit")) (wanted (codes "FABRIC"))) (wanted (codes "DUMP")) in
+    with_rule (with_rule files mfts_option) lanes_option
 
 -- `--dump DUMP`
 abbrev pub dump_option : Rule

@@ -151,6 +151,9 @@ help_of_dump = codes "The LFTs, as dump_fts prints them"
 abbrev pub help_of_mfts : List ℕ
 help_of_mfts = codes "The MFTs, as dump_fts -M prints them: multicast is judged too"
 
+abbrev pub help_of_lanes : List ℕ
+help_of_lanes = codes "What smpquery sl2vl and saquery PR print: routes are judged by virtual lanes"
+
 -- ---- for arguments that the program itself refuses
 abbrev pub not_text_line : List ℕ
 not_text_line = codes "error: an argument is not UTF-8\n"

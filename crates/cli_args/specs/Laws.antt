@@ -33,6 +33,7 @@ pub record NamesKeepTheirBlanks : Type 0 where
   pub import : opened_by (codes "import" ∷ codes " net" ∷ codes "--sm" ∷ codes "7" ∷ []) ≡ codes " net" ∷ []
   pub audit : opened_by (codes "audit" ∷ codes "net " ∷ codes "-" ∷ []) ≡ codes "net " ∷ codes "-" ∷ []
   pub multicast : opened_by (codes "audit" ∷ codes "net" ∷ codes " -" ∷ codes "--mft" ∷ codes "masks " ∷ []) ≡ codes "net" ∷ codes " -" ∷ codes "masks " ∷ []
+  pub lanes : opened_by (codes "audit" ∷ codes "net" ∷ codes " -" ∷ codes "--sl2vl" ∷ codes "lanes " ∷ []) ≡ codes "net" ∷ codes " -" ∷ codes "lanes " ∷ []
   pub load : opened_by (codes "load" ∷ codes "net " ∷ codes "--dump" ∷ codes "-" ∷ []) ≡ codes "net " ∷ codes "-" ∷ []
   pub audit_keys : opened_by (codes "audit-keys" ∷ codes "net " ∷ codes "-" ∷ codes "-" ∷ codes "--sm" ∷ codes "7" ∷ []) ≡ codes "net " ∷ codes "-" ∷ []
   pub dash : opened_by (codes "diff" ∷ codes "net" ∷ codes "-" ∷ codes " -" ∷ []) ≡ codes "net" ∷ codes " -" ∷ []
@@ -59,6 +60,7 @@ pub record FilesStandInOrder : Type 0 where
   pub import : opened_by (codes "import" ∷ codes "--roots" ∷ codes "auto" ∷ codes "net" ∷ codes "--sm" ∷ codes "7" ∷ []) ≡ codes "net" ∷ []
   pub audit : opened_by (codes "audit" ∷ codes "net" ∷ codes "dump" ∷ []) ≡ codes "net" ∷ codes "dump" ∷ []
   pub multicast : opened_by (codes "audit" ∷ codes "--mft" ∷ codes "masks" ∷ codes "net" ∷ codes "dump" ∷ []) ≡ codes "net" ∷ codes "dump" ∷ codes "masks" ∷ []
+  pub lanes : opened_by (codes "audit" ∷ codes "--sl2vl" ∷ codes "lanes" ∷ codes "net" ∷ codes "dump" ∷ []) ≡ codes "net" ∷ codes "dump" ∷ codes "lanes" ∷ []
   pub load : opened_by (codes "load" ∷ codes "--dump" ∷ codes "dump" ∷ codes "net" ∷ []) ≡ codes "net" ∷ codes "dump" ∷ []
   pub loads : opened_by (codes "load" ∷ codes "net" ∷ codes "parts" ∷ codes "sends" ∷ codes "--all" ∷ [])
       ≡ codes "net" ∷ codes "parts" ∷ codes "sends" ∷ []

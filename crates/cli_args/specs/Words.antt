@@ -16,15 +16,17 @@ use Rattle.cli_args.specs.declared.call.Asked.{Asked}
 use Rattle.cli_args.specs.declared.call.Call.{Call}
 use Rattle.cli_args.specs.declared.call.CutView.{CutView}
 use Rattle.cli_args.specs.declared.call.CutView.TheVariants.{All, One, Picture}
-use Rattle.cli_args.specs.declared.call.Call.TheVariants.{AuditKeys, AuditMfts, Dumped, Explain, Import, Subnet}
+use Rattle.cli_args.specs.declared.call.Call.TheVariants.{AuditKeys, AuditThree, Dumped, Explain, Import, Subnet}
 use Rattle.cli_args.specs.declared.call.Work.{Work}
 use Rattle.cli_args.specs.declared.call.Inspection.{Inspection}
 use Rattle.cli_args.specs.declared.call.Inspection.TheVariants.{Graph, Keys, Load, LoadGraph, Tables, Trace}
 use Rattle.cli_args.specs.declared.call.DumpView.{DumpView}
 use Rattle.cli_args.specs.declared.call.DumpView.TheVariants as dump_view
+use Rattle.cli_args.specs.declared.call.ThirdFile.{ThirdFile}
+use Rattle.cli_args.specs.declared.call.ThirdFile.TheVariants.{Lanes, Mfts}
 use Rattle.cli_args.specs.declared.call.Subcommand.{Subcommand}
 use Rattle.cli_args.specs.declared.call.Subcommand.TheVariants as command
-use Rattle.cli_args.specs.declared.help.TheConstants.{NO_SECOND_PORT, NO_SUCH_CODE, NO_SUCH_IMPORT, NO_SUCH_KEYS_GUID, NO_SUCH_NUMBER, ONE_PICTURE, PARTS_OR_DUMP}
+use Rattle.cli_args.specs.declared.help.TheConstants.{NO_SECOND_PORT, NO_SUCH_CODE, NO_SUCH_IMPORT, NO_SUCH_KEYS_GUID, NO_SUCH_NUMBER, ONE_PICTURE, ONE_THIRD_FILE, PARTS_OR_DUMP}
 use Rattle.cli_args.specs.declared.call.Work.TheVariants.{Check, Compare, Cuts, Diff, Inspect, Manage, Run, Shares, Smps}
 use Rattle.text_words.specs.Number.{if_under, number_in, u16_in}
 
@@ -69,7 +71,7 @@ abbrev pub named_call : Call Asked (Bor Text) → Call Names Text
 named_call (Subnet asked) = Subnet (names asked)
 named_call (Import netdiscover manager roots) = Import netdiscover.now manager roots
 named_call (Dumped view fabric dump) = Dumped view fabric.now dump.now
-named_call (AuditMfts fabric dump mfts) = AuditMfts fabric.now dump.now mfts.now
+named_call (AuditThree third fabric dump file) = AuditThree third fabric.now dump.now file.now
 named_call (AuditKeys netdiscover pkeys partitions manager all) = AuditKeys netdiscover.now pkeys.now (option_map (λ name. name.now) partitions) manager all
 named_call (Explain code) = Explain code
 
@@ -171,14 +173,21 @@ abbrev pub dumped_by : DumpView → Option Text → Option Text → Option (Call
 dumped_by view (Some fabric) (Some dump) = Some (Dumped view fabric dump)
 dumped_by view _ _ = None
 
--- an audit of these, and of MFTs if they are given
-abbrev pub audit_with : (mfts fabric dump : Option Text) → Option (Call Names Text)
-audit_with None fabric dump = dumped_by dump_view.Audit fabric dump
-audit_with (Some mfts) (Some fabric) (Some dump) = Some (AuditMfts fabric dump mfts)
-audit_with (Some mfts) _ _ = None
+-- an audit of these and of a third file
+abbrev pub audit_three : ThirdFile → (fabric dump : Option Text) → Text → Option (Call Names Text)
+audit_three third (Some fabric) (Some dump) file = Some (AuditThree third fabric dump file)
+audit_three third _ _ file = None
+
+-- an audit of these, and of MFTs or lanes if they are given. Both exclude one another
+abbrev pub audit_with : (mfts lanes fabric dump : Option Text) → Option (Call Names Text)
+audit_with None None fabric dump = dumped_by dump_view.Audit fabric dump
+audit_with (Some mfts) None fabric dump = audit_three Mfts fabric dump mfts
+audit_with None (Some lanes) fabric dump = audit_three Lanes fabric dump lanes
+audit_with (Some mfts) (Some lanes) fabric dump = None
 
 abbrev pub audit_by : List Row → Option (Call Names Text)
-audit_by rows = audit_with (first_of (codes "MFTS") rows) (first_of (codes "FABRIC") rows) (first_of (codes "DUMP") rows)
+audit_by rows =
+    audit_with (first_of (codes "MFTS") rows) (first_of (codes "LANES") rows) (first_of (codes "FABRIC") rows) (first_of (codes "DUMP") rows)
 
 -- loads, after the commands of a script if one is given
 abbrev pub loads_in : (script : Option Text) → (all : Bool) → Work Text Text Text
@@ -213,7 +222,7 @@ explain_by (Some word) = option_map (λ code. Explain (Some code)) (code_of word
 -- `check` takes no more arguments than its subnet's, `shares` takes a port, and `tables`, `keys`, `trace` and `graph` take a script,
 -- `cuts` two ports;
 -- `diff` needs other partitions, `trace` a packet, `run` a script, `smp` SMPs, `manage` replies, and `compare` two scripts and a port; `import` needs a file of
--- its own and takes a GUID and roots, `audit` needs a fabric and a dump, and takes MFTs, and `load` these or a topology and partitions, and takes a script; `audit-keys` two files of its own and partitions, and takes a GUID, and
+-- its own and takes a GUID and roots, `audit` needs a fabric and a dump, and takes MFTs or lanes, and `load` these or a topology and partitions, and takes a script; `audit-keys` two files of its own and partitions, and takes a GUID, and
 -- `explain` takes a code
 abbrev pub call_in : Subcommand → List Row → Option (Call Names Text)
 call_in command.Check rows = in_subnet rows (Some Check)
@@ -258,7 +267,7 @@ subcommand_in word =
     else None
 
 -- the text for an argument that clap accepts and the command cannot take: in a trace it is not a number, in an audit of keys not a GUID,
--- in an import not a GUID or not `auto`, in cuts the second port is missing, a picture is none of those above, loads have neither partitions nor a dump, or both,
+-- in an import not a GUID or not `auto`, in cuts the second port is missing, a picture is none of those above, an audit has MFTs and lanes, loads have neither partitions nor a dump, or both,
 -- and else it is not a code
 abbrev pub text_for : Subcommand → Text
 text_for command.Trace = NO_SUCH_NUMBER.now
@@ -266,6 +275,7 @@ text_for command.Import = NO_SUCH_IMPORT.now
 text_for command.AuditKeys = NO_SUCH_KEYS_GUID.now
 text_for command.Cuts = NO_SECOND_PORT.now
 text_for command.Graph = ONE_PICTURE.now
+text_for command.Audit = ONE_THIRD_FILE.now
 text_for command.Load = PARTS_OR_DUMP.now
 text_for _ = NO_SUCH_CODE.now
 
@@ -336,6 +346,6 @@ opened_for (Err text) = []
 opened_for (Ok (Subnet asked)) = all_names asked
 opened_for (Ok (Import netdiscover manager roots)) = netdiscover ∷ []
 opened_for (Ok (Dumped view fabric dump)) = fabric ∷ dump ∷ []
-opened_for (Ok (AuditMfts fabric dump mfts)) = fabric ∷ dump ∷ mfts ∷ []
+opened_for (Ok (AuditThree third fabric dump file)) = fabric ∷ dump ∷ file ∷ []
 opened_for (Ok (AuditKeys netdiscover pkeys partitions manager all)) = netdiscover ∷ pkeys ∷ option_to_list partitions
 opened_for (Ok (Explain code)) = []

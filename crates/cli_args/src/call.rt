@@ -136,6 +136,15 @@ pub enum DumpView {
     Load,
 }
 
+/// What an audit takes beside the LFTs of a real fabric.
+#[derive(Clone, Copy)]
+pub enum ThirdFile {
+    /// MFTs: multicast is judged too.
+    Mfts,
+    /// SL-to-VL mapping tables and path records: routes are judged by virtual lanes.
+    Lanes,
+}
+
 /// What a command line asks for.
 #[derive(Drop)]
 pub enum Call<A, W> {
@@ -159,14 +168,16 @@ pub enum Call<A, W> {
         /// The file that has its LFTs.
         dump: W,
     },
-    /// Judge the LFTs and the MFTs of a real fabric.
-    AuditMfts {
+    /// Judge the LFTs of a real fabric, and what a third file has.
+    AuditThree {
+        /// What that file has.
+        third: ThirdFile,
         /// What `ibnetdiscover` printed of it, or its topology.
         fabric: W,
         /// The file that has its LFTs.
         dump: W,
-        /// The file that has its MFTs.
-        mfts: W,
+        /// The third file.
+        file: W,
     },
     /// Compare the P_Key tables of a real fabric with a partition file.
     AuditKeys {

@@ -5,14 +5,14 @@ ghost use Rattle.clap.specs.Words.{App, Rule, app_of, rule_of, subcommand_rows_o
 ghost use Rattle.clap.specs.declared.builder.command.Command.TheViews.{out-Command as fields_of};
 ghost use Rattle.cli_args.specs.CommandLine.{Reads};
 ghost use Rattle.cli_args.specs.CommandLine.{audit_command, audit_keys_command, check_command, compare_command, diff_command, explain_command, fabric_command, graph_command};
-ghost use Rattle.cli_args.specs.CommandLine.{all_flag, cuts_command, cuts_flag, dump_option, import_command, load_command, load_flag, keys_command, manager_option, mfts_option, optional, roots_option, run_command, script_option, shares_command};
+ghost use Rattle.cli_args.specs.CommandLine.{all_flag, cuts_command, cuts_flag, dump_option, import_command, load_command, load_flag, keys_command, lanes_option, manager_option, mfts_option, optional, roots_option, run_command, script_option, shares_command};
 ghost use Rattle.cli_args.specs.CommandLine.{manage_command, smp_command, subnet_command, tables_command, trace_command};
 ghost use Rattle.cli_args.specs.CommandLine.{wanted, with_audits, with_cables, with_listings, with_runs};
 ghost use Rattle.cli_args.specs.Help.{about_audit, about_audit_keys, about_check, about_compare, about_cuts, about_diff, about_explain, about_graph, about_import, about_keys, about_load};
 ghost use Rattle.cli_args.specs.Help.{about_manage, about_program, about_run, about_smp};
 ghost use Rattle.cli_args.specs.Help.{about_shares, about_tables, about_trace, help_of_code, help_of_dlid, help_of_key};
 ghost use Rattle.cli_args.specs.Help.{help_of_compared, help_of_first_script, help_of_partitions, help_of_second_script};
-ghost use Rattle.cli_args.specs.Help.{help_of_all, help_of_all_pairs, help_of_cuts, help_of_dump, help_of_mfts, help_of_first_end, help_of_load, help_of_second_end};
+ghost use Rattle.cli_args.specs.Help.{help_of_all, help_of_all_pairs, help_of_cuts, help_of_dump, help_of_lanes, help_of_mfts, help_of_first_end, help_of_load, help_of_second_end};
 ghost use Rattle.cli_args.specs.Help.{help_of_fabric, help_of_manager, help_of_netdiscover, help_of_pkeys, help_of_port, help_of_replies, help_of_roots, help_of_script, help_of_script_before, help_of_smps};
 ghost use Rattle.cli_args.specs.Help.{help_of_second_partitions, help_of_sender, help_of_topology};
 ghost use Rattle.cli_args.specs.Help.{program_name, program_version, text_in};
@@ -349,6 +349,18 @@ fn mfts_option<'a>(alloc: Global) -> Arg<'a>
         .help("The MFTs, as dump_fts -M prints them: multicast is judged too")
 }
 
+fn lanes_option<'a>(alloc: Global) -> Arg<'a>
+    ensures global { result.global ≡ false }
+    ensures rule { rule_of result ≡ lanes_option }
+    ensures help { text_in result.help ≡ Some help_of_lanes }
+{
+    Arg::new(alloc, "LANES")
+        .long("sl2vl")
+        .value_name("LANES")
+        .action(ArgAction::Set)
+        .help("What smpquery sl2vl and saquery PR print: routes are judged by virtual lanes")
+}
+
 fn dump_option<'a>(alloc: Global) -> Arg<'a>
     ensures global { result.global ≡ false }
     ensures rule { rule_of result ≡ dump_option }
@@ -582,7 +594,8 @@ fn audit_command<'a>(alloc: Global) -> Result<Command<'a>, AllocError>
 {
     let found = with_arg(Ok(Command::new(alloc, "audit")), wanted_fabric(alloc));
     let files = with_arg(found, wanted_dump(alloc));
-    let command = with_arg(files, mfts_option(alloc));
+    let masks = with_arg(files, mfts_option(alloc));
+    let command = with_arg(masks, lanes_option(alloc));
     described(command, ABOUT_AUDIT, AUDIT)
 }
 

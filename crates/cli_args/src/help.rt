@@ -328,6 +328,12 @@ pub(crate) const ONE_PICTURE: &str =
 For more information, try 'fabric graph --help'.
 ";
 
+pub(crate) const ONE_THIRD_FILE: &str =
+    "error: --mft and --sl2vl exclude one another: multicast is not judged by virtual lanes
+
+For more information, try 'fabric audit --help'.
+";
+
 pub(crate) const PARTS_OR_DUMP: &str =
     "error: either PARTS is needed, or --dump DUMP without PARTS, SCRIPT and --all
 
@@ -396,12 +402,17 @@ if
   - there is no credit loop along all LIDs except the switches' own,
   - the dump and FABRIC have the same switches and CA ports,
   - if a switch sends such a LID to another switch, the entry there is known.
-Otherwise the status is 1, and nothing is written on standard error. Credit loops are judged as if all
-packets used one virtual lane. Without --mft multicast is not judged. Routers count as CAs. Behind a LID
-stands its port, if one is known.
+Otherwise the status is 1, and nothing is written on standard error. Without --sl2vl credit loops are
+judged as if all packets used one virtual lane (VL). Without --mft multicast is not judged. Routers count
+as CAs. Behind a LID stands its port, if one is known.
 
 With --mft the MFTs have to be safe too: no packet to an MLID loops or comes to a switch twice by the port
 masks, each switch has an MFT, and each MFT is of a switch of FABRIC.
+
+With --sl2vl a credit loop counts only if it is one of lanes. A lane is a channel with a VL. Then each
+pair of CA ports needs a path record, which has the service level (SL) of its packets, and each two ports
+of a switch that such packets use need a row of its SL-to-VL mapping table. Other packets are not judged.
+LANES has what `smpquery sl2vl LID PORT` and `saquery PR` print. --mft and --sl2vl exclude one another.
 
 First comes what one file has and the other lacks:
   # passed over: PORT PORT     a cable between these joins no switch
@@ -454,11 +465,23 @@ With --mft these lines stand before the verdict:
 Then the reasons may also be multicast-loop and multicast-copies. Of an MLID at most one loop and one
 switch with copies are printed.
 
+With --sl2vl these lines stand before the verdict:
+  lanes deadlock PORT VL V PORT VL V ..   a credit loop of lanes: each waits for the next one, and the
+                                          last one for the first
+  lanes no-path LID (PORT) LID2 (PORT2) and N more    no path record from LID to LID2, and to N more LIDs
+  lanes no-row SWITCH in P out P2         packets come in at port P and leave by port P2, without a row
+  lanes dropped SWITCH in P out P2 SL S   there they are dropped: their VL is 15, which is management's
+  lanes: N pairs, N with a path record, SLs S .., VLs V ..
+  # lanes: packets of a path record use its SL; other packets are not judged
+Then deadlock means such a loop, unknown stands also if a path record or a row is missing, and there is
+one more reason, dropped. The verdict ends with `, by virtual lanes; multicast is not judged`.
+
 For example, for your own fabric:
   ibnetdiscover >discovered
   dump_fts >tables
   dump_fts -M >masks
   fabric audit discovered tables --mft masks
+  fabric audit discovered tables --sl2vl lanes
 
 ",
     "help",
@@ -573,6 +596,7 @@ pub(crate) const CODES: &str = with_statuses!(
   ND1 to ND7             an error in what ibnetdiscover printed, in `import`
   FT1 to FT7             an error in dumped LFTs, in `audit` and `load`
   FM1 to FM5             an error in dumped MFTs, in `audit` with --mft
+  FV1 to FV6             an error in SL-to-VL mapping tables or path records, in `audit` with --sl2vl
   KT1 to KT5             an error in answers of smpquery, in `audit-keys`
   SW1 to SW4, UR1, TP1 to TP3
                          why the fabric of a topology cannot be brought up

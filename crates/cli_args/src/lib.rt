@@ -12,7 +12,7 @@ mod laws;
 mod words;
 
 pub use crate::call::{
-    Asked, Call, CutView, DumpView, Inspection, NamedWork, Refused, Subcommand, Work,
+    Asked, Call, CutView, DumpView, Inspection, NamedWork, Refused, Subcommand, ThirdFile, Work,
 };
 pub use crate::command_line::{Clap, Parser};
 pub use crate::laws::files_are_named_as_given;

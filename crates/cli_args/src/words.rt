@@ -3,19 +3,19 @@
 ghost use Rattle.std.specs.Prelude.{◌≡◌, ◌^◌, Ok, Some, map, string_bytes, option_map, IfOk, IfErr};
 ghost use Rattle.clap.specs.Words.{first_of, found_of, rows_of, subcommand_rows_of};
 ghost use Rattle.cli_args.specs.Refusals.{IsOfGiven, IsOfWords, ReportsAll};
-ghost use Rattle.cli_args.specs.Words.{asked_by, asked_in, asked_of, audit_by, audit_with, call_in, compare_by, cuts_by, diff_by, dumped_by, explain_by, file_in, given_items, guid_by};
+ghost use Rattle.cli_args.specs.Words.{asked_by, asked_in, asked_of, audit_by, audit_three, audit_with, call_in, compare_by, cuts_by, diff_by, dumped_by, explain_by, file_in, given_items, guid_by};
 ghost use Rattle.cli_args.specs.Words.{audit_keys_by, import_by, in_subnet, roots_by};
 ghost use Rattle.text_words.specs.Number.{if_under, number_in};
 ghost use Rattle.cli_args.specs.Words.{graph_by, graph_with, inspect_by, is_given, load_by, load_with, loads_in, named_call, named_found, named_inspection};
 ghost use Rattle.cli_args.specs.Words.{manage_by, named_work, run_by, smps_by, subcommand_in, text_for, trace_by, u16_by};
 
 use crate::call::{
-    Asked, Call, CutView, DumpView, Inspection, NamedWork, Refused, Subcommand, Work,
+    Asked, Call, CutView, DumpView, Inspection, NamedWork, Refused, Subcommand, ThirdFile, Work,
 };
 use crate::command_line::Parser;
 use crate::help::{
     NO_SECOND_PORT, NO_SUCH_CODE, NO_SUCH_IMPORT, NO_SUCH_KEYS_GUID, NO_SUCH_NUMBER, NOT_TEXT,
-    ONE_PICTURE, PARTS_OR_DUMP,
+    ONE_PICTURE, ONE_THIRD_FILE, PARTS_OR_DUMP,
 };
 use clap::ArgMatches;
 use code_texts::Code;
@@ -119,6 +119,7 @@ fn text_for(command: Subcommand) -> &'static str
         Subcommand::AuditKeys => NO_SUCH_KEYS_GUID,
         Subcommand::Cuts => NO_SECOND_PORT,
         Subcommand::Graph => ONE_PICTURE,
+        Subcommand::Audit => ONE_THIRD_FILE,
         Subcommand::Load => PARTS_OR_DUMP,
         _ => NO_SUCH_CODE,
     }
@@ -371,31 +372,50 @@ fn dumped_by<'a>(
     })
 }
 
-/// The audit of the LFTs of a fabric, and of its MFTs if they are given.
+/// The audit of the LFTs of a fabric, and of what a third file has if one is given; nothing if two are.
 fn audit_by<'a>(found: &ArgMatches<'a>) -> Option<Call<Asked<'a>, &'a str>>
     ensures { option_map named_call result ≡ audit_by (rows_of (found_of found.now)) }
 {
     let fabric = word_of(found, "FABRIC");
     let dump = word_of(found, "DUMP");
-    audit_with(word_of(found, "MFTS"), fabric, dump)
+    let mfts = word_of(found, "MFTS");
+    let lanes = word_of(found, "LANES");
+    audit_with(mfts, lanes, fabric, dump)
 }
 
 fn audit_with<'a>(
     mfts: Option<&'a str>,
+    lanes: Option<&'a str>,
     fabric: Option<&'a str>,
     dump: Option<&'a str>,
 ) -> Option<Call<Asked<'a>, &'a str>>
-    ensures { option_map named_call result ≡ audit_with (option_map (λ word. word.now) mfts.entry)
+    ensures { option_map named_call result ≡ audit_with (option_map (λ word. word.now) mfts.entry) (option_map (λ word. word.now) lanes.entry)
         (option_map (λ word. word.now) fabric.entry) (option_map (λ word. word.now) dump.entry) }
 {
-    match mfts {
-        Some(mfts) => Some(Call::AuditMfts {
-            fabric: fabric?,
-            dump: dump?,
-            mfts,
-        }),
-        None => dumped_by(DumpView::Audit, fabric, dump),
+    match (mfts, lanes) {
+        (None, None) => dumped_by(DumpView::Audit, fabric, dump),
+        (Some(mfts), None) => audit_three(ThirdFile::Mfts, fabric, dump, mfts),
+        (None, Some(lanes)) => audit_three(ThirdFile::Lanes, fabric, dump, lanes),
+        (Some(_), Some(_)) => None,
     }
+}
+
+/// The audit of the LFTs of a fabric and of this third file.
+fn audit_three<'a>(
+    third: ThirdFile,
+    fabric: Option<&'a str>,
+    dump: Option<&'a str>,
+    file: &'a str,
+) -> Option<Call<Asked<'a>, &'a str>>
+    ensures { option_map named_call result ≡ audit_three third (option_map (λ word. word.now) fabric.entry)
+        (option_map (λ word. word.now) dump.entry) file.entry.now }
+{
+    Some(Call::AuditThree {
+        third,
+        fabric: fabric?,
+        dump: dump?,
+        file,
+    })
 }
 
 /// The loads of cables by a dump, or those of the subnet of a topology and partitions.

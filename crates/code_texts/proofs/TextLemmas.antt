@@ -9,6 +9,7 @@ use Rattle.code_texts.specs.declared.code.Code.TheVariants.{Sf1, Sf2, Sf3, Sf4, 
 use Rattle.code_texts.specs.declared.code.Code.TheVariants.{Nd1, Nd2, Nd3, Nd4, Nd5, Nd6, Nd7}
 use Rattle.code_texts.specs.declared.code.Code.TheVariants.{Ft1, Ft2, Ft3, Ft4, Ft5, Ft6, Ft7}
 use Rattle.code_texts.specs.declared.code.Code.TheVariants.{Fm1, Fm2, Fm3, Fm4, Fm5}
+use Rattle.code_texts.specs.declared.code.Code.TheVariants.{Fv1, Fv2, Fv3, Fv4, Fv5, Fv6}
 use Rattle.code_texts.specs.declared.code.Code.TheVariants.{Kt1, Kt2, Kt3, Kt4, Kt5}
 use Rattle.code_texts.specs.declared.code.Code.TheVariants.{Mf1, Mf2, Sw1, Sw2, Sw3, Sw4, Ur1, Tp1, Tp2, Tp3}
 use Rattle.code_texts.specs.declared.code.Code.TheVariants.{Memory, Read, Write}
@@ -65,6 +66,12 @@ begins_with_code Fm2 = refl
 begins_with_code Fm3 = refl
 begins_with_code Fm4 = refl
 begins_with_code Fm5 = refl
+begins_with_code Fv1 = refl
+begins_with_code Fv2 = refl
+begins_with_code Fv3 = refl
+begins_with_code Fv4 = refl
+begins_with_code Fv5 = refl
+begins_with_code Fv6 = refl
 begins_with_code Kt1 = refl
 begins_with_code Kt2 = refl
 begins_with_code Kt3 = refl

@@ -9,6 +9,7 @@ use Rattle.code_texts.specs.declared.code.Code.TheVariants.{Sf1, Sf2, Sf3, Sf4, 
 use Rattle.code_texts.specs.declared.code.Code.TheVariants.{Nd1, Nd2, Nd3, Nd4, Nd5, Nd6, Nd7}
 use Rattle.code_texts.specs.declared.code.Code.TheVariants.{Ft1, Ft2, Ft3, Ft4, Ft5, Ft6, Ft7}
 use Rattle.code_texts.specs.declared.code.Code.TheVariants.{Fm1, Fm2, Fm3, Fm4, Fm5}
+use Rattle.code_texts.specs.declared.code.Code.TheVariants.{Fv1, Fv2, Fv3, Fv4, Fv5, Fv6}
 use Rattle.code_texts.specs.declared.code.Code.TheVariants.{Kt1, Kt2, Kt3, Kt4, Kt5}
 use Rattle.code_texts.specs.declared.code.Code.TheVariants.{Mf1, Mf2, Sw1, Sw2, Sw3, Sw4, Ur1, Tp1, Tp2, Tp3}
 use Rattle.code_texts.specs.declared.code.Code.TheVariants.{Memory, Read, Write}
@@ -66,6 +67,12 @@ spelling Fm2 = codes "FM2"
 spelling Fm3 = codes "FM3"
 spelling Fm4 = codes "FM4"
 spelling Fm5 = codes "FM5"
+spelling Fv1 = codes "FV1"
+spelling Fv2 = codes "FV2"
+spelling Fv3 = codes "FV3"
+spelling Fv4 = codes "FV4"
+spelling Fv5 = codes "FV5"
+spelling Fv6 = codes "FV6"
 spelling Kt1 = codes "KT1"
 spelling Kt2 = codes "KT2"
 spelling Kt3 = codes "KT3"
@@ -101,6 +108,7 @@ codes_in_order =
     ++ codes "ND1 ND2 ND3 ND4 ND5 ND6 ND7 "
     ++ codes "FT1 FT2 FT3 FT4 FT5 FT6 FT7 "
     ++ codes "FM1 FM2 FM3 FM4 FM5 "
+    ++ codes "FV1 FV2 FV3 FV4 FV5 FV6 "
     ++ codes "KT1 KT2 KT3 KT4 KT5 MF1 MF2 "
     ++ codes "SW1 SW2 SW3 SW4 UR1 TP1 TP2 TP3 "
     ++ codes "memory read write "

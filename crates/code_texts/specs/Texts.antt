@@ -9,6 +9,7 @@ use Rattle.code_texts.specs.declared.code.Code.TheVariants.{Sf1, Sf2, Sf3, Sf4, 
 use Rattle.code_texts.specs.declared.code.Code.TheVariants.{Nd1, Nd2, Nd3, Nd4, Nd5, Nd6, Nd7}
 use Rattle.code_texts.specs.declared.code.Code.TheVariants.{Ft1, Ft2, Ft3, Ft4, Ft5, Ft6, Ft7}
 use Rattle.code_texts.specs.declared.code.Code.TheVariants.{Fm1, Fm2, Fm3, Fm4, Fm5}
+use Rattle.code_texts.specs.declared.code.Code.TheVariants.{Fv1, Fv2, Fv3, Fv4, Fv5, Fv6}
 use Rattle.code_texts.specs.declared.code.Code.TheVariants.{Kt1, Kt2, Kt3, Kt4, Kt5}
 use Rattle.code_texts.specs.declared.code.Code.TheVariants.{Mf1, Mf2, Sw1, Sw2, Sw3, Sw4, Ur1, Tp1, Tp2, Tp3}
 use Rattle.code_texts.specs.declared.code.Code.TheVariants.{Memory, Read, Write}
@@ -17,6 +18,7 @@ use Rattle.code_texts.specs.declared.discovery_texts.TheConstants.{ND1, ND2, ND3
 use Rattle.code_texts.specs.declared.dump_texts.TheConstants.{FT1, FT2, FT3, FT4, FT5, FT6, FT7}
 use Rattle.code_texts.specs.declared.fabric_texts.TheConstants.{SW1, SW2, SW3, SW4, TP1, TP2, TP3, UR1}
 use Rattle.code_texts.specs.declared.keys_texts.TheConstants.{KT1, KT2, KT3, KT4, KT5}
+use Rattle.code_texts.specs.declared.lanes_texts.TheConstants.{FV1, FV2, FV3, FV4, FV5, FV6}
 use Rattle.code_texts.specs.declared.machine_texts.TheConstants.{MEMORY, READ, WRITE}
 use Rattle.code_texts.specs.declared.mft_texts.TheConstants.{FM1, FM2, FM3, FM4, FM5}
 use Rattle.code_texts.specs.declared.partition_texts.TheConstants.{PF1, PF2, PF3, PF4, PF5, PF6, PF7, PF8, PF9}
@@ -80,6 +82,12 @@ text_of Fm2 = FM2.now
 text_of Fm3 = FM3.now
 text_of Fm4 = FM4.now
 text_of Fm5 = FM5.now
+text_of Fv1 = FV1.now
+text_of Fv2 = FV2.now
+text_of Fv3 = FV3.now
+text_of Fv4 = FV4.now
+text_of Fv5 = FV5.now
+text_of Fv6 = FV6.now
 text_of Kt1 = KT1.now
 text_of Kt2 = KT2.now
 text_of Kt3 = KT3.now

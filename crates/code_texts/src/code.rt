@@ -8,6 +8,7 @@ use crate::discovery_texts::{ND1, ND2, ND3, ND4, ND5, ND6, ND7};
 use crate::dump_texts::{FT1, FT2, FT3, FT4, FT5, FT6, FT7};
 use crate::fabric_texts::{SW1, SW2, SW3, SW4, TP1, TP2, TP3, UR1};
 use crate::keys_texts::{KT1, KT2, KT3, KT4, KT5};
+use crate::lanes_texts::{FV1, FV2, FV3, FV4, FV5, FV6};
 use crate::machine_texts::{MEMORY, READ, WRITE};
 use crate::mft_texts::{FM1, FM2, FM3, FM4, FM5};
 use crate::partition_texts::{PF1, PF2, PF3, PF4, PF5, PF6, PF7, PF8, PF9};
@@ -121,6 +122,18 @@ pub enum Code {
     Fm4,
     /// A file that ends within an MFT, or has none.
     Fm5,
+    /// A line that smpquery sl2vl or saquery PR does not print, or not there.
+    Fv1,
+    /// A row of an SL-to-VL mapping table that stands twice.
+    Fv2,
+    /// An SL-to-VL mapping table that does not say the LID.
+    Fv3,
+    /// A field of a path record that stands twice.
+    Fv4,
+    /// A path record without its SLID, DLID or SL.
+    Fv5,
+    /// A file with neither a row nor a path record.
+    Fv6,
     /// A line that smpquery does not print, or not there.
     Kt1,
     /// A query that stands twice.
@@ -160,7 +173,7 @@ pub enum Code {
 }
 
 /// All codes, in the order in which they are listed.
-pub const ALL: [Code; 69] = [
+pub const ALL: [Code; 75] = [
     Code::Tf1,
     Code::Tf2,
     Code::Tf3,
@@ -212,6 +225,12 @@ pub const ALL: [Code; 69] = [
     Code::Fm3,
     Code::Fm4,
     Code::Fm5,
+    Code::Fv1,
+    Code::Fv2,
+    Code::Fv3,
+    Code::Fv4,
+    Code::Fv5,
+    Code::Fv6,
     Code::Kt1,
     Code::Kt2,
     Code::Kt3,
@@ -289,6 +308,12 @@ impl Code {
             Code::Fm3 => "FM3",
             Code::Fm4 => "FM4",
             Code::Fm5 => "FM5",
+            Code::Fv1 => "FV1",
+            Code::Fv2 => "FV2",
+            Code::Fv3 => "FV3",
+            Code::Fv4 => "FV4",
+            Code::Fv5 => "FV5",
+            Code::Fv6 => "FV6",
             Code::Kt1 => "KT1",
             Code::Kt2 => "KT2",
             Code::Kt3 => "KT3",
@@ -376,6 +401,12 @@ impl Code {
             Code::Fm3 => FM3,
             Code::Fm4 => FM4,
             Code::Fm5 => FM5,
+            Code::Fv1 => FV1,
+            Code::Fv2 => FV2,
+            Code::Fv3 => FV3,
+            Code::Fv4 => FV4,
+            Code::Fv5 => FV5,
+            Code::Fv6 => FV6,
             Code::Kt1 => KT1,
             Code::Kt2 => KT2,
             Code::Kt3 => KT3,

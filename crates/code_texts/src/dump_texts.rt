@@ -45,9 +45,9 @@ A table is a heading, two lines of titles, rows and the count of these, as dump_
 infiniband-diags print them, with their option -a or without, and as `fabric tables` does. Multicast
 tables are allowed between tables, and comments and empty lines anywhere. What the tools write on
 standard error, as `ibwarn: ..`, is none of these: keep it apart, by `dump_fts >tables 2>errors`. The
-file that OpenSM itself writes has another format. A dump shows no virtual lanes: `fabric audit` judges
-routes as if all packets used one virtual lane. The multicast tables here are passed over: give them by
-`--mft`.
+file that OpenSM itself writes has another format. A dump shows no virtual lanes: without `--sl2vl`,
+`fabric audit` judges routes as if all packets used one virtual lane. The multicast tables here are passed
+over: give them by `--mft`.
 ",
     "fault FT1 dump line 4",
     "    Unicast lids [0x0-0x3] of switch Lid 2 guid 0x0000000000000010 (A):

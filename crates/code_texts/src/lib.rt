@@ -9,6 +9,7 @@ mod discovery_texts;
 mod dump_texts;
 mod fabric_texts;
 mod keys_texts;
+mod lanes_texts;
 mod laws;
 mod lines;
 mod machine_texts;

@@ -4,7 +4,7 @@ use Rattle.std.specs.List.{All}
 use Rattle.std.specs.Option.{option_to_list}
 use Rattle.std.proofs.lemmas.List.Elements.{All-head, All-tail}
 use Rattle.cli_args.specs.Words.{Names, work_names}
-use Rattle.cli_args.specs.declared.call.Call.TheVariants.{AuditKeys, AuditMfts, Dumped, Explain, Import, Subnet}
+use Rattle.cli_args.specs.declared.call.Call.TheVariants.{AuditKeys, AuditThree, Dumped, Explain, Import, Subnet}
 use Rattle.cli_args.specs.declared.call.Work.{Work}
 use Rattle.cli_args.specs.declared.call.Work.TheVariants as work
 use Rattle.fabric_cli.specs.Files.{Contents}
@@ -71,13 +71,13 @@ judged_alike file other (Ok (Dumped view topology dump)) same =
       bytes_alike file other topology (All-head (λ name. file name ≡ other name) topology (dump ∷ []) same),
       bytes_alike file other dump (All-head (λ name. file name ≡ other name) dump [] more),
     ) refl
-judged_alike file other (Ok (AuditMfts topology dump mfts)) same =
-    let more = All-tail (λ name. file name ≡ other name) topology (dump ∷ mfts ∷ []) same in
-    let last = All-tail (λ name. file name ≡ other name) dump (mfts ∷ []) more in
+judged_alike file other (Ok (AuditThree third topology dump name)) same =
+    let more = All-tail (λ name. file name ≡ other name) topology (dump ∷ name ∷ []) same in
+    let last = All-tail (λ name. file name ≡ other name) dump (name ∷ []) more in
     rw (
-      bytes_alike file other topology (All-head (λ name. file name ≡ other name) topology (dump ∷ mfts ∷ []) same),
-      bytes_alike file other dump (All-head (λ name. file name ≡ other name) dump (mfts ∷ []) more),
-      bytes_alike file other mfts (All-head (λ name. file name ≡ other name) mfts [] last),
+      bytes_alike file other topology (All-head (λ name. file name ≡ other name) topology (dump ∷ name ∷ []) same),
+      bytes_alike file other dump (All-head (λ name. file name ≡ other name) dump (name ∷ []) more),
+      bytes_alike file other name (All-head (λ name. file name ≡ other name) name [] last),
     ) refl
 judged_alike file other (Ok (AuditKeys netdiscover pkeys partitions manager all)) same =
     let more = All-tail (λ name. file name ≡ other name) netdiscover (pkeys ∷ option_to_list partitions) same in

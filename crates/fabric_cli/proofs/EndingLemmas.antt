@@ -12,12 +12,13 @@ use Rattle.fabric_cli.specs.Faults.{line_of, run_line, run_status, status_of}
 use Rattle.fabric_cli.specs.Files.{Contents}
 use Rattle.fabric_cli.specs.declared.answering.Answer.{Answer}
 use Rattle.fabric_cli.specs.declared.answering.Answer.TheVariants.{Complete, Warned}
-use Rattle.fabric_cli.specs.Serving.{AppendsSome, Ending, Judged, bytes_if_named, keys_audited, multicast_viewed, broken_off, complete, faulted, managed, status_in, warned, imported, judged_for, output_in, refused, ended, to_judge, viewed}
+use Rattle.fabric_cli.specs.Serving.{AppendsSome, Ending, Judged, bytes_if_named, keys_audited, three_viewed, broken_off, complete, faulted, managed, status_in, warned, imported, judged_for, output_in, refused, ended, to_judge, viewed}
 use Rattle.fabric_cli.specs.Serving.{Answers, BreaksOff, Ends, EndsAs, ForEnding, ForSomeBytes, GoesOut, GoesPartly, GrowsPartly, IsOfManage, IsRefusal, IsReportedStop, RunStops, Stops, StopsBehind}
 use Rattle.code_texts.specs.Texts.{explained}
 use Rattle.cli_args.specs.Words.{Asking, asked_by_given, asking_by_clap}
 use Rattle.cli_args.specs.declared.call.DumpView.{DumpView}
-use Rattle.cli_args.specs.declared.call.Call.TheVariants.{AuditKeys, AuditMfts, Dumped, Explain, Import, Subnet}
+use Rattle.cli_args.specs.declared.call.ThirdFile.{ThirdFile}
+use Rattle.cli_args.specs.declared.call.Call.TheVariants.{AuditKeys, AuditThree, Dumped, Explain, Import, Subnet}
 use Rattle.text_streams.specs.Writing.{AppendsPart}
 use Rattle.text_streams.proofs.KnownBytesLemmas.{appends_nothing}
 use Rattle.fabric_cli.proofs.JudgedLemmas.{for_ending}
@@ -226,7 +227,7 @@ for_some_bytes (Err shown) P Q f some = f (ended (refused shown)) some
 for_some_bytes (Ok (Subnet names)) P Q f some = (some.0, some.1, f (to_judge some.0) some.2)
 for_some_bytes (Ok (Import netdiscover manager roots)) P Q f some = (some.0, f (ended (imported manager roots some.0)) some.1)
 for_some_bytes (Ok (Dumped view fabric dump)) P Q f some = (some.0, some.1, f (ended (viewed view some.0 some.1)) some.2)
-for_some_bytes (Ok (AuditMfts fabric dump mfts)) P Q f some = (some.0, some.1, some.2, f (ended (multicast_viewed some.0 some.1 some.2)) some.3)
+for_some_bytes (Ok (AuditThree third fabric dump name)) P Q f some = (some.0, some.1, some.2, f (ended (three_viewed third some.0 some.1 some.2)) some.3)
 for_some_bytes (Ok (AuditKeys netdiscover pkeys partitions manager all)) P Q f some =
     (some.0, some.1, some.2, some.3, f (ended (keys_audited manager all some.0 some.1 some.2)) some.4)
 for_some_bytes (Ok (Explain code)) P Q f some = f (ended (complete (explained code))) some
@@ -246,12 +247,12 @@ of_two None view first second one other result a out out' is are answers = tt
 of_two (Some file) view first second one other result a out out' is are answers = rw (is, are) answers
 
 -- and of three
-pub of_masks : (reported : Option Contents) (first second third one other last : List ℕ) (result : Result Answer Stop) (a : Bool) (out out' : Option (List ℕ))
+pub of_third : (reported : Option Contents) (file : ThirdFile) (first second third one other last : List ℕ) (result : Result Answer Stop) (a : Bool) (out out' : Option (List ℕ))
     → IfSome reported (λ file. file first ≡ Some one) → IfSome reported (λ file. file second ≡ Some other) → IfSome reported (λ file. file third ≡ Some last)
-    → Answers (ended (multicast_viewed one other last)) result a out out'
-    → IfSome reported (λ file. Answers (judged_for file (Ok (AuditMfts first second third))) result a out out')
-of_masks None first second third one other last result a out out' is are too answers = tt
-of_masks (Some file) first second third one other last result a out out' is are too answers = rw (is, are, too) answers
+    → Answers (ended (three_viewed file one other last)) result a out out'
+    → IfSome reported (λ contents. Answers (judged_for contents (Ok (AuditThree file first second third))) result a out out')
+of_third None file first second third one other last result a out out' is are too answers = tt
+of_third (Some contents) file first second third one other last result a out out' is are too answers = rw (is, are, too) answers
 
 -- and of three, the last of which need not be there
 pub of_three : (reported : Option Contents) (first second one other : List ℕ) (third last : Option (List ℕ)) (manager : Option ℕ) (all : Bool) (result : Result Answer Stop) (a : Bool)

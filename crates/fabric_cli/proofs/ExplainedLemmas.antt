@@ -33,8 +33,10 @@ use Rattle.netdiscover_file.specs.declared.fault.DiscoveryCause.TheVariants as d
 use Rattle.topology_import.specs.declared.fault.ImportCause.TheVariants as import
 use Rattle.mft_file.specs.declared.fault.MftCause.{MftCause}
 use Rattle.mft_file.specs.declared.fault.MftCause.TheVariants as mfts
+use Rattle.sl2vl_file.specs.declared.fault.LanesCause.{LanesCause}
+use Rattle.sl2vl_file.specs.declared.fault.LanesCause.TheVariants as lanes
 use Rattle.fabric_cli.specs.declared.faults.ForeignCause.{ForeignCause}
-use Rattle.fabric_cli.specs.declared.faults.ForeignCause.TheVariants.{Discovery, Dump, Import, Keys, Masks, Replies, Smps}
+use Rattle.fabric_cli.specs.declared.faults.ForeignCause.TheVariants.{Discovery, Dump, Import, Keys, Lanes, Masks, Replies, Smps}
 use Rattle.fabric_cli.specs.Faults.{foreign_line, managed_line, partitions_line, port_line, run_line, script_line, second_line, second_script_line, topology_line}
 use Rattle.fabric_cli.specs.declared.faults.Stop.{Stop}
 use Rattle.fabric_cli.specs.declared.faults.Stop.TheVariants.{Words, NoMemory, Unread, Unwritten, Run, Second, Unmanaged, Unheard, Unsent, Foreign}
@@ -157,6 +159,14 @@ mfts_reported mfts.WrongMlid number = reported_as code.Fm3 _ refl refl refl
 mfts_reported mfts.WrongCount number = reported_as code.Fm4 _ refl refl refl
 mfts_reported mfts.Unfinished number = reported_as code.Fm5 _ refl refl refl
 
+lanes_reported : (cause : LanesCause) (number : ℕ) → ReportsCode (foreign_line (Lanes cause) number)
+lanes_reported lanes.Malformed number = reported_as code.Fv1 _ refl refl refl
+lanes_reported lanes.DuplicateRow number = reported_as code.Fv2 _ refl refl refl
+lanes_reported lanes.DirectedRoute number = reported_as code.Fv3 _ refl refl refl
+lanes_reported lanes.DuplicateField number = reported_as code.Fv4 _ refl refl refl
+lanes_reported lanes.MissingField number = reported_as code.Fv5 _ refl refl refl
+lanes_reported lanes.Empty number = reported_as code.Fv6 _ refl refl refl
+
 keys_reported : (cause : KeysCause) (number : ℕ) → ReportsCode (foreign_line (Keys cause) number)
 keys_reported keys.Malformed number = reported_as code.Kt1 _ refl refl refl
 keys_reported keys.DuplicateQuery number = reported_as code.Kt2 _ refl refl refl
@@ -172,6 +182,7 @@ foreign_reported (Import import.Unlike) number = reported_as code.Nd7 _ refl ref
 foreign_reported (Import (import.Refused cause)) number = refused_reported cause number
 foreign_reported (Dump cause) number = dump_reported cause number
 foreign_reported (Masks cause) number = mfts_reported cause number
+foreign_reported (Lanes cause) number = lanes_reported cause number
 foreign_reported (Keys cause) number = keys_reported cause number
 foreign_reported Smps number = reported_as code.Mf1 _ refl refl refl
 foreign_reported Replies number = reported_as code.Mf2 _ refl refl refl

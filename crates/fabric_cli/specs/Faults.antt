@@ -16,11 +16,12 @@ use Rattle.subnet_core.specs.declared.fault.RunFault.{RunFault}
 use Rattle.subnet_core.specs.declared.fault.RunFault.TheVariants as run
 use Rattle.fabric_cli.specs.Files.{Contents, Opened, StopsAt}
 use Rattle.fabric_cli.specs.declared.faults.ForeignCause.{ForeignCause}
-use Rattle.fabric_cli.specs.declared.faults.ForeignCause.TheVariants.{Discovery, Dump, Import, Keys, Masks, Replies, Smps}
+use Rattle.fabric_cli.specs.declared.faults.ForeignCause.TheVariants.{Discovery, Dump, Import, Keys, Lanes, Masks, Replies, Smps}
 use Rattle.fabric_cli.specs.declared.faults.Stop.{Stop}
 use Rattle.fabric_cli.specs.declared.faults.Stop.TheVariants.{Words, NoMemory, Unread, Unwritten, Run, Second, Unmanaged, Unheard, Unsent, Foreign}
 use Rattle.dump_file.specs.Fault.{code_of as dump_code}
 use Rattle.mft_file.specs.Fault.{code_of as mft_code}
+use Rattle.sl2vl_file.specs.Fault.{code_of as lanes_code}
 use Rattle.pkeys_file.specs.Fault.{code_of as keys_code}
 use Rattle.text_parts.specs.Parts.{hex_text}
 use Rattle.netdiscover_file.specs.Fault.{code_of as discovery_code}
@@ -73,6 +74,10 @@ dump_line code number = codes "fault " ++ (code ++ (codes " dump line " ++ (deci
 abbrev pub mfts_line : List ℕ → ℕ → List ℕ
 mfts_line code number = codes "fault " ++ (code ++ (codes " mfts line " ++ (decimal number ++ codes "\n")))
 
+-- `fault CODE lanes line L`
+abbrev pub lanes_line : List ℕ → ℕ → List ℕ
+lanes_line code number = codes "fault " ++ (code ++ (codes " lanes line " ++ (decimal number ++ codes "\n")))
+
 -- `fault CODE pkeys line L`
 abbrev pub pkeys_line : List ℕ → ℕ → List ℕ
 pkeys_line code number = codes "fault " ++ (code ++ (codes " pkeys line " ++ (decimal number ++ codes "\n")))
@@ -98,6 +103,7 @@ foreign_line (Import (GuidTaken port guid)) number = guids_line number port guid
 foreign_line (Import cause) number = netdiscover_line (import_code cause) number
 foreign_line (Dump cause) number = dump_line (dump_code cause) number
 foreign_line (Masks cause) number = mfts_line (mft_code cause) number
+foreign_line (Lanes cause) number = lanes_line (lanes_code cause) number
 foreign_line (Keys cause) number = pkeys_line (keys_code cause) number
 foreign_line Smps number = smps_line number
 foreign_line Replies number = replies_line number

@@ -3,5 +3,6 @@ pub mod Explained
 pub mod Faults
 pub mod Serving
 pub mod KeyFiles
+pub mod ThreeFiles
 pub mod Printed
 pub mod Laws

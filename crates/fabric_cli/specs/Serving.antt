@@ -58,7 +58,7 @@ use Rattle.cli_args.specs.declared.call.Inspection.TheVariants.{Graph, Keys, Loa
 use Rattle.cli_args.specs.declared.call.Work.{Work}
 use Rattle.cli_args.specs.declared.call.Work.TheVariants as work
 use Rattle.fabric_cli.specs.declared.faults.Stop.TheVariants.{Words, NoMemory, Unread, Unwritten, Run, Second, Unmanaged, Unheard, Unsent, Foreign}
-use Rattle.fabric_cli.specs.declared.faults.ForeignCause.TheVariants.{Discovery, Dump, Import, Keys as KeysFault, Masks, Replies, Smps}
+use Rattle.fabric_cli.specs.declared.faults.ForeignCause.TheVariants.{Discovery, Dump, Import, Keys as KeysFault, Lanes as LanesFault, Masks, Replies, Smps}
 use Rattle.smp_lines.specs.SmpLines.{Answered, answered}
 use Rattle.fabric_cli.specs.declared.answering.Answer.{Answer}
 use Rattle.fabric_cli.specs.declared.answering.Answer.TheVariants.{Complete, Warned}
@@ -69,10 +69,15 @@ use Rattle.route_audit.specs.Audit.{AuditState, audit, audit_discovery}
 use Rattle.mft_file.specs.Mfts.{MftState, mfts_of}
 use Rattle.mft_file.specs.declared.fault.MftCause.{MftCause}
 use Rattle.multicast_audit.specs.Audit.{audit_multicast, audit_multicast_found}
+use Rattle.sl2vl_file.specs.Lanes.{LanesState, lanes_of}
+use Rattle.sl2vl_file.specs.declared.fault.LanesCause.{LanesCause}
+use Rattle.lane_audit.specs.Audit.{audit_lanes, audit_lanes_found}
 use Rattle.keys_audit.specs.Text.{KeysAuditState, audit_without_partitions, keys_audit}
 use Rattle.cable_load.specs.Text.{load_text, load_text_found}
 use Rattle.cli_args.specs.declared.call.DumpView.{DumpView}
 use Rattle.cli_args.specs.declared.call.DumpView.TheVariants as dump_view
+use Rattle.cli_args.specs.declared.call.ThirdFile.{ThirdFile}
+use Rattle.cli_args.specs.declared.call.ThirdFile.TheVariants as third_file
 use Rattle.fabric_cli.specs.declared.outputs.DumpOutput.{DumpOutput}
 use Rattle.fabric_cli.specs.declared.outputs.DumpOutput.TheVariants as dump_output
 use Rattle.fabric_cli.specs.declared.key_audits.KeysOutput.{KeysOutput}
@@ -380,34 +385,50 @@ abbrev pub viewed : DumpView → List ℕ → List ℕ → Ending
 viewed view fabric dump =
     if is_discovery fabric then viewed_from view (discovery_of fabric) dump else viewed_over view (topology_within Large fabric) dump
 
--- ---- its LFTs and its MFTs: the fabric is checked before the dump, and the dump before the MFTs
+-- ---- its LFTs and what a third file has: the fabric is checked before the dump, and the dump before that file
 abbrev pub multicast_by : TopologyState → DumpState → Result MftState (AtLine MftCause) → Ending
 multicast_by plan dump (Ok mfts) = audit_ending (audit_multicast plan dump mfts)
 multicast_by plan dump (Err at) = faulted 1 (foreign_line (Masks at.cause) at.line)
 
-abbrev pub multicast_with : TopologyState → Result DumpState (AtLine DumpCause) → List ℕ → Ending
-multicast_with plan (Ok dump) mfts = multicast_by plan dump (mfts_of mfts)
-multicast_with plan (Err at) mfts = faulted 1 (foreign_line (Dump at.cause) at.line)
+abbrev pub lanes_by : TopologyState → DumpState → Result LanesState (AtLine LanesCause) → Ending
+lanes_by plan dump (Ok lanes) = audit_ending (audit_lanes plan dump lanes)
+lanes_by plan dump (Err at) = faulted 1 (foreign_line (LanesFault at.cause) at.line)
 
-abbrev pub multicast_over : Result TopologyState (AtLine TopologyCause) → (dump mfts : List ℕ) → Ending
-multicast_over (Ok plan) dump mfts = multicast_with plan (dump_of dump) mfts
-multicast_over (Err at) dump mfts = faulted 1 (topology_line (topology_code at.cause) at.line)
+abbrev pub three_by : ThirdFile → TopologyState → DumpState → List ℕ → Ending
+three_by third_file.Mfts plan dump file = multicast_by plan dump (mfts_of file)
+three_by third_file.Lanes plan dump file = lanes_by plan dump (lanes_of file)
+
+abbrev pub three_with : ThirdFile → TopologyState → Result DumpState (AtLine DumpCause) → List ℕ → Ending
+three_with third plan (Ok dump) file = three_by third plan dump file
+three_with third plan (Err at) file = faulted 1 (foreign_line (Dump at.cause) at.line)
+
+abbrev pub three_over : ThirdFile → Result TopologyState (AtLine TopologyCause) → (dump file : List ℕ) → Ending
+three_over third (Ok plan) dump file = three_with third plan (dump_of dump) file
+three_over third (Err at) dump file = faulted 1 (topology_line (topology_code at.cause) at.line)
 
 abbrev pub found_multicast_by : DiscoveryState → DumpState → Result MftState (AtLine MftCause) → Ending
 found_multicast_by found dump (Ok mfts) = audit_ending (audit_multicast_found found dump mfts)
 found_multicast_by found dump (Err at) = faulted 1 (foreign_line (Masks at.cause) at.line)
 
-abbrev pub found_multicast_with : DiscoveryState → Result DumpState (AtLine DumpCause) → List ℕ → Ending
-found_multicast_with found (Ok dump) mfts = found_multicast_by found dump (mfts_of mfts)
-found_multicast_with found (Err at) mfts = faulted 1 (foreign_line (Dump at.cause) at.line)
+abbrev pub found_lanes_by : DiscoveryState → DumpState → Result LanesState (AtLine LanesCause) → Ending
+found_lanes_by found dump (Ok lanes) = audit_ending (audit_lanes_found found dump lanes)
+found_lanes_by found dump (Err at) = faulted 1 (foreign_line (LanesFault at.cause) at.line)
 
-abbrev pub multicast_from : Result DiscoveryState (AtLine DiscoveryCause) → (dump mfts : List ℕ) → Ending
-multicast_from (Ok found) dump mfts = found_multicast_with found (dump_of dump) mfts
-multicast_from (Err at) dump mfts = faulted 1 (foreign_line (Discovery at.cause) at.line)
+abbrev pub found_three_by : ThirdFile → DiscoveryState → DumpState → List ℕ → Ending
+found_three_by third_file.Mfts found dump file = found_multicast_by found dump (mfts_of file)
+found_three_by third_file.Lanes found dump file = found_lanes_by found dump (lanes_of file)
 
-abbrev pub multicast_viewed : (fabric dump mfts : List ℕ) → Ending
-multicast_viewed fabric dump mfts =
-    if is_discovery fabric then multicast_from (discovery_of fabric) dump mfts else multicast_over (topology_within Large fabric) dump mfts
+abbrev pub found_three_with : ThirdFile → DiscoveryState → Result DumpState (AtLine DumpCause) → List ℕ → Ending
+found_three_with third found (Ok dump) file = found_three_by third found dump file
+found_three_with third found (Err at) file = faulted 1 (foreign_line (Dump at.cause) at.line)
+
+abbrev pub three_from : ThirdFile → Result DiscoveryState (AtLine DiscoveryCause) → (dump file : List ℕ) → Ending
+three_from third (Ok found) dump file = found_three_with third found (dump_of dump) file
+three_from third (Err at) dump file = faulted 1 (foreign_line (Discovery at.cause) at.line)
+
+abbrev pub three_viewed : ThirdFile → (fabric dump file : List ℕ) → Ending
+three_viewed third fabric dump file =
+    if is_discovery fabric then three_from third (discovery_of fabric) dump file else three_over third (topology_within Large fabric) dump file
 
 -- ---- the P_Key tables of a discovery's fabric, which is not brought up, against a partition file
 abbrev pub keys_ending : KeysAuditState → Ending
@@ -552,11 +573,11 @@ view_of_files view (Ok fabric) (Ok tables) = viewed view fabric tables
 view_of_files view (Ok fabric) (Err ending) = ending
 view_of_files view (Err ending) tables = ending
 
-abbrev pub multicast_of_files : Result (List ℕ) Ending → Result (List ℕ) Ending → Result (List ℕ) Ending → Ending
-multicast_of_files (Ok fabric) (Ok dump) (Ok mfts) = multicast_viewed fabric dump mfts
-multicast_of_files (Ok fabric) (Ok dump) (Err ending) = ending
-multicast_of_files (Ok fabric) (Err ending) mfts = ending
-multicast_of_files (Err ending) dump mfts = ending
+abbrev pub three_of_files : ThirdFile → Result (List ℕ) Ending → Result (List ℕ) Ending → Result (List ℕ) Ending → Ending
+three_of_files third (Ok fabric) (Ok dump) (Ok file) = three_viewed third fabric dump file
+three_of_files third (Ok fabric) (Ok dump) (Err ending) = ending
+three_of_files third (Ok fabric) (Err ending) file = ending
+three_of_files third (Err ending) dump file = ending
 
 abbrev pub keys_of_files : Option ℕ → (all : Bool) → Result (List ℕ) Ending → Result (List ℕ) Ending → Result (Option (List ℕ)) Ending → Ending
 keys_of_files manager all (Ok netdiscover) (Ok pkeys) (Ok partitions) = keys_audited manager all netdiscover pkeys partitions
@@ -570,7 +591,7 @@ judged_for file (Err shown) = ended (refused shown)
 judged_for file (Ok (Subnet names)) = judged_if_read (texts_of file names)
 judged_for file (Ok (call.Import netdiscover manager roots)) = ended (import_of_file manager roots (bytes_of file netdiscover))
 judged_for file (Ok (call.Dumped view fabric dump)) = ended (view_of_files view (bytes_of file fabric) (bytes_of file dump))
-judged_for file (Ok (call.AuditMfts fabric dump mfts)) = ended (multicast_of_files (bytes_of file fabric) (bytes_of file dump) (bytes_of file mfts))
+judged_for file (Ok (call.AuditThree third fabric dump name)) = ended (three_of_files third (bytes_of file fabric) (bytes_of file dump) (bytes_of file name))
 judged_for file (Ok (call.AuditKeys netdiscover pkeys partitions manager all)) =
     ended (keys_of_files manager all (bytes_of file netdiscover) (bytes_of file pkeys) (bytes_if_named file partitions))
 judged_for file (Ok (Explain code)) = ended (complete (explained code))
@@ -597,7 +618,7 @@ ForSomeBytes (Err shown) Is = Is (ended (refused shown))
 ForSomeBytes (Ok (Subnet names)) Is = (texts : Bytes) × AreFor names texts × Is (to_judge texts)
 ForSomeBytes (Ok (call.Import netdiscover manager roots)) Is = (text : List ℕ) × Is (ended (imported manager roots text))
 ForSomeBytes (Ok (call.Dumped view fabric dump)) Is = (plan tables : List ℕ) × Is (ended (viewed view plan tables))
-ForSomeBytes (Ok (call.AuditMfts fabric dump mfts)) Is = (plan tables masks : List ℕ) × Is (ended (multicast_viewed plan tables masks))
+ForSomeBytes (Ok (call.AuditThree third fabric dump name)) Is = (plan tables file : List ℕ) × Is (ended (three_viewed third plan tables file))
 ForSomeBytes (Ok (call.AuditKeys netdiscover pkeys partitions manager all)) Is =
     (found answers : List ℕ) × (parts : Option (List ℕ)) × (is_some parts ≡ is_some partitions) × Is (ended (keys_audited manager all found answers parts))
 ForSomeBytes (Ok (Explain code)) Is = Is (ended (complete (explained code)))
@@ -699,6 +720,10 @@ dump_stop (of_text.At line cause) = Foreign line (Dump cause)
 abbrev pub mfts_stop : TextFault MftCause → Stop
 mfts_stop of_text.NoMemory = NoMemory
 mfts_stop (of_text.At line cause) = Foreign line (Masks cause)
+
+abbrev pub lanes_stop : TextFault LanesCause → Stop
+lanes_stop of_text.NoMemory = NoMemory
+lanes_stop (of_text.At line cause) = Foreign line (LanesFault cause)
 
 abbrev pub keys_stop : TextFault KeysCause → Stop
 keys_stop of_text.NoMemory = NoMemory

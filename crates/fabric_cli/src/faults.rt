@@ -2,7 +2,7 @@
 
 ghost use Rattle.std.specs.Prelude.{◌≡◌, ◌++◌, IfOk, OnOk, option_map};
 ghost use Rattle.std.specs.Option.{option_map_or};
-ghost use Rattle.fabric_cli.specs.Faults.{dump_line, mfts_line, foreign_line, guid_word, guids_line, netdiscover_line, pkeys_line, replies_line, smps_line};
+ghost use Rattle.fabric_cli.specs.Faults.{dump_line, lanes_line, mfts_line, foreign_line, guid_word, guids_line, netdiscover_line, pkeys_line, replies_line, smps_line};
 ghost use Rattle.fabric_cli.specs.Faults.{fabric_line, line_of, memory_line, no_path_line, port_line, run_line, run_status, unread_line, unwritten_line};
 ghost use Rattle.fabric_cli.specs.Faults.{managed_line, managed_stop, placed_line, replies_stop, run_stop, second_line, smps_stop, status_of, stop_of, sweep_status};
 ghost use Rattle.fabric_cli.specs.declared.faults.Stop.TheVariants.{NoMemory};
@@ -15,6 +15,7 @@ use mft_file::MftCause;
 use netdiscover_file::DiscoveryCause;
 use partition_file::PartitionCause;
 use pkeys_file::KeysCause;
+use sl2vl_file::LanesCause;
 use smp_lines::SmpStop;
 use std::alloc::{AllocError, AllocFailed, Global};
 use subnet_core::{RunFault, ScriptCause};
@@ -85,6 +86,8 @@ pub enum ForeignCause {
     Dump(DumpCause),
     /// In dumped MFTs.
     Masks(MftCause),
+    /// In SL-to-VL mapping tables, or in path records.
+    Lanes(LanesCause),
     /// In P_Key tables that `smpquery` printed.
     Keys(KeysCause),
     /// In SMPs: the line is none.
@@ -334,6 +337,7 @@ fn foreign_line(alloc: Global, line: usize, cause: ForeignCause) -> Result<Vec<u
         ForeignCause::Import(cause) => netdiscover_line(alloc, cause.code(), line),
         ForeignCause::Dump(cause) => dump_line(alloc, cause.code(), line),
         ForeignCause::Masks(cause) => mfts_line(alloc, cause.code(), line),
+        ForeignCause::Lanes(cause) => lanes_line(alloc, cause.code(), line),
         ForeignCause::Keys(cause) => pkeys_line(alloc, cause.code(), line),
         ForeignCause::Smps => smps_line(alloc, line),
         ForeignCause::Replies => replies_line(alloc, line),
@@ -350,6 +354,12 @@ fn mfts_line(alloc: Global, code: &str, line: usize) -> Result<Vec<u8>, AllocErr
     ensures { IfOk result (λ text. text.items ≡ mfts_line code.now line) }
 {
     Ok(format!(in alloc; "fault {code} mfts line {line}\n")?.into_bytes())
+}
+
+fn lanes_line(alloc: Global, code: &str, line: usize) -> Result<Vec<u8>, AllocError>
+    ensures { IfOk result (λ text. text.items ≡ lanes_line code.now line) }
+{
+    Ok(format!(in alloc; "fault {code} lanes line {line}\n")?.into_bytes())
 }
 
 fn dump_line(alloc: Global, code: &str, line: usize) -> Result<Vec<u8>, AllocError>

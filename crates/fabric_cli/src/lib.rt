@@ -9,11 +9,11 @@ mod faults;
 mod files;
 mod key_audits;
 mod laws;
-mod multicast_audits;
 mod outputs;
 mod reading;
 mod serving;
 mod texts;
+mod three_files;
 
 pub use crate::files::{Files, MachineFiles};
 pub use crate::laws::{

@@ -4,23 +4,24 @@ ghost use Rattle.std.specs.Prelude.{◌≡◌, ◌≢◌, ◌⊎◌, ◌∷◌, 
 ghost use Rattle.std.specs.Io.KnownBytes.{Appends};
 ghost use Rattle.std.specs.Process.{exit_status};
 ghost use Rattle.cli_args.specs.Words.{all_names, asked_by_given, asking, asking_by_clap, given_texts, names, opened_for};
-ghost use Rattle.cli_args.specs.declared.call.Call.TheVariants.{AuditKeys as ToAuditKeys, AuditMfts as ToAuditMfts, Dumped as ToView, Import as ToImport, Subnet as InSubnet};
+ghost use Rattle.cli_args.specs.declared.call.Call.TheVariants.{AuditKeys as ToAuditKeys, AuditThree as ToAuditThree, Dumped as ToView, Import as ToImport, Subnet as InSubnet};
 ghost use Rattle.fabric_cli.specs.Faults.{line_of, memory_line, status_of, NamesUnread};
 ghost use Rattle.fabric_cli.specs.Files.{OpensAll, OpensInOrder};
 ghost use Rattle.fabric_cli.specs.Serving.{judged_for, judged_if_read, texts_of, Answers, AppendsSomeFor, EndsAs, EndsFor, ForSomeBytes};
 ghost use Rattle.fabric_cli.specs.Serving.{IsRefusedFor, IsReported, ReportsStop};
 ghost use Rattle.fabric_cli.specs.KeyFiles.{keys_call, keys_names};
+ghost use Rattle.fabric_cli.specs.ThreeFiles.{three_call, three_names};
 ghost use Rattle.text_streams.specs.Writing.{Writes};
 
 use crate::answering::{Answer, answered_of_texts, written, written_view};
 use crate::faults::{MEMORY_LINE, REFUSED, Stop};
 use crate::files::Files;
 use crate::key_audits::{KeysFiles, keys_audited, read_keys_files, written_keys};
-use crate::multicast_audits::{multicast_viewed, read_multicast_files};
 use crate::outputs::{imported, text_or_stop, viewed};
 use crate::reading::{read_fabric_and_dump, read_file};
 use crate::texts::read_texts;
-use cli_args::{Asked, Call, Clap, DumpView, Parser, given_words, read_words};
+use crate::three_files::{ThreeFiles, read_three_files, three_viewed};
+use cli_args::{Asked, Call, Clap, DumpView, Parser, ThirdFile, given_words, read_words};
 use code_texts::explained;
 use std::alloc::Global;
 use std::env::Args;
@@ -160,8 +161,20 @@ fn answered<'a, P: Parser, F: Files, O: Output>(
         Ok(Call::Dumped { view, fabric, dump }) => {
             answered_of_dump(alloc, view, fabric, dump, files, out)
         }
-        Ok(Call::AuditMfts { fabric, dump, mfts }) => {
-            answered_of_mfts(alloc, fabric, dump, mfts, files, out)
+        Ok(
+            Call::AuditThree {
+                third,
+                fabric,
+                dump,
+                file,
+            },
+        ) => {
+            let asked = ThreeFiles {
+                fabric,
+                dump,
+                third: file,
+            };
+            answered_of_three(alloc, third, &asked, files, out)
         }
         Ok(
             Call::AuditKeys {
@@ -234,28 +247,27 @@ fn answered_of_dump<'a, F: Files, O: Output>(
     }
 }
 
-/// Writes the audit of LFTs and MFTs: the three files are read before any is checked.
-fn answered_of_mfts<'a, F: Files, O: Output>(
+/// Writes the audit of LFTs with a third file: the three files are read before any is checked.
+fn answered_of_three<'a, F: Files, O: Output>(
     alloc: Global,
-    fabric: &'a str,
-    dump: &'a str,
-    mfts: &'a str,
+    third: ThirdFile,
+    asked: &ThreeFiles<'a>,
     files: &mut F,
     out: &mut O,
 ) -> Result<Answer, Stop<'a>>
-    ensures order { OpensInOrder (F.opened files.old) (F.opened files.new) (fabric.entry.now ∷ dump.entry.now ∷ mfts.entry.now ∷ []) }
-    ensures all { IsReported result → OpensAll (F.opened files.old) (F.opened files.new) (fabric.entry.now ∷ dump.entry.now ∷ mfts.entry.now ∷ []) }
-    ensures exact { IfSome (F.reported files.old) (λ file. Answers (judged_for file (Ok (ToAuditMfts fabric.entry.now dump.entry.now mfts.entry.now))) result
+    ensures order { OpensInOrder (F.opened files.old) (F.opened files.new) (three_names asked.now) }
+    ensures all { IsReported result → OpensAll (F.opened files.old) (F.opened files.new) (three_names asked.now) }
+    ensures exact { IfSome (F.reported files.old) (λ file. Answers (judged_for file (Ok (three_call third asked.now))) result
         (O.is_sure out.old) (O.contents out.old) (O.contents out.new)) }
-    ensures any_files { IsReported result → ForSomeBytes (Ok (ToAuditMfts fabric.entry.now dump.entry.now mfts.entry.now))
+    ensures any_files { IsReported result → ForSomeBytes (Ok (three_call third asked.now))
         (λ judged. Answers judged result (O.is_sure out.old) (O.contents out.old) (O.contents out.new)) }
     ensures unread { IfErr result (NamesUnread (F.reported files.old) (F.reads files.old)
-        (F.opened files.old) (F.opened files.new) (fabric.entry.now ∷ dump.entry.now ∷ mfts.entry.now ∷ [])) }
+        (F.opened files.old) (F.opened files.new) (three_names asked.now)) }
 {
-    match read_multicast_files(alloc, files, fabric, dump, mfts) {
+    match read_three_files(alloc, files, asked.fabric, asked.dump, asked.third) {
         Ok(read) => {
-            let (fabric, mfts) = (read.fabric.as_slice(), read.mfts.as_slice());
-            written_view(out, multicast_viewed(alloc, fabric, &read.dump, mfts))
+            let (fabric, file) = (read.fabric.as_slice(), read.third.as_slice());
+            written_view(out, three_viewed(alloc, third, fabric, &read.dump, file))
         }
         Err(stop) => Err(stop),
     }

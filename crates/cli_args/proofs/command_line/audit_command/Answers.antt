@@ -4,4 +4,5 @@ pub returns-clause-words : goal.returns-clause-words
 returns-clause-words c =
     let found = c.with_arg-found.ensures _ _ c.new.ensures.app c.wanted_fabric.ensures.rule in
     let files = c.with_arg-files.ensures _ _ found c.wanted_dump.ensures.rule in
-    c.described.ensures.words _ (c.with_arg-command.ensures _ _ files c.mfts_option.ensures.rule)
+    let masks = c.with_arg-masks.ensures _ _ files c.mfts_option.ensures.rule in
+    c.described.ensures.words _ (c.with_arg-command.ensures _ _ masks c.lanes_option.ensures.rule)

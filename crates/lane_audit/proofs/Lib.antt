@@ -1,0 +1,9 @@
+pub mod SetLemmas
+pub mod HopLemmas
+pub mod WaitLemmas
+pub mod RingLemmas
+pub mod FollowLemmas
+pub mod LaneLawLemmas
+pub mod LaneReasonLemmas
+pub mod WrongLemmas
+pub mod ExampleLemmas

@@ -1,0 +1,92 @@
+-- What is so of all fabrics, dumps and records: the statements of the laws of `src/laws.rt`.
+use Rattle.std.specs.Prelude.{ℕ, ◌≡◌, ◌&&◌, Bool, true, false, not, List, [], ◌∷◌, codes, filter, Option, Some, None}
+use Rattle.std.specs.List.{list_all, list_any}
+use Rattle.fabric_parts.specs.declared.cable.PortRef.{PortRef}
+use Rattle.sl2vl_file.specs.declared.path.PathSl.{PathSl}
+use Rattle.credit_loops.specs.Channels.{depends}
+use Rattle.audit_net.specs.Net.{NetState}
+use Rattle.lid_owners.specs.declared.lids.Aim.{Aim}
+use Rattle.route_audit.specs.Audit.{credit_loop, lids_of}
+use Rattle.route_audit.specs.Laws.{has_word}
+use Rattle.route_audit.specs.Verdict.{is_others, verdict_by}
+use Rattle.route_audit.specs.declared.verdict.Verdict.{Verdict}
+use Rattle.lane_audit.specs.declared.hop.Hop.{Hop}
+use Rattle.lane_audit.specs.declared.lane.Lane.{Lane}
+use Rattle.lane_audit.specs.declared.verdict.LaneVerdict.{LaneVerdict}
+use Rattle.lane_audit.specs.Deadlock.{lane_deadlock}
+use Rattle.lane_audit.specs.Hops.{traces}
+use Rattle.lane_audit.specs.Lanes.{is_same_lane, lanes, waits}
+use Rattle.lane_audit.specs.Tables.{TablesState}
+use Rattle.lane_audit.specs.Verdict.{all_are_safe, all_reasons}
+
+-- ---- cycles of lanes
+-- each waits for the next, and the last for this one
+abbrev pub wait_round : (Lane → Lane → Bool) → Lane → List Lane → Bool
+wait_round waits first [] = false
+wait_round waits first (a ∷ []) = waits a first
+wait_round waits first (a ∷ b ∷ rest) = waits a b && wait_round waits first (b ∷ rest)
+
+abbrev pub is_cycle : (Lane → Lane → Bool) → List Lane → Bool
+is_cycle waits [] = false
+is_cycle waits (a ∷ rest) = wait_round waits a (a ∷ rest)
+
+abbrev pub are_lanes : NetState → List Lane → Bool
+are_lanes net ring = list_all (λ one. list_any (is_same_lane one) (lanes net)) ring
+
+-- what finds a cycle, by what is known of LIDs and the hops of records
+abbrev pub Reports : Type 0
+Reports = NetState → List Aim → List (List Hop) → Option (List Lane)
+
+-- what is reported is a cycle, of lanes that wait for one another
+abbrev pub ReportsCycles : Reports → Type 0
+ReportsCycles reports =
+    (net : NetState) (aims : List Aim) (all : List (List Hop)) (ring : List Lane) → reports net aims all ≡ Some ring
+    → (are_lanes net ring ≡ true) × (is_cycle (waits net aims all) ring ≡ true)
+
+abbrev pub LaneCyclesWait : Type 0
+LaneCyclesWait = ReportsCycles lane_deadlock
+
+-- if none is reported no lanes wait for one another in a cycle, however long
+abbrev pub MissesNone : Reports → Type 0
+MissesNone reports =
+    (net : NetState) (aims : List Aim) (all : List (List Hop)) → reports net aims all ≡ None → (ring : List Lane) → are_lanes net ring ≡ true
+    → is_cycle (waits net aims all) ring ≡ false
+
+abbrev pub NoLaneCycleIsMissed : Type 0
+NoLaneCycleIsMissed = MissesNone lane_deadlock
+
+-- ---- lanes and channels
+-- a lane waits for another only if its channel depends on the other's along LIDs that are not switches'
+abbrev pub other_lids : NetState → List Aim → List ℕ
+other_lids net aims = lids_of (filter (is_others net) aims)
+
+abbrev pub Waiting : Type 0
+Waiting = NetState → TablesState → List PathSl → Lane → Lane → Bool
+
+pub record LanesFollowChannels (waiting : Waiting) (reports : Reports) : Type 0 where
+  pub waits : (net : NetState) (tables : TablesState) (paths : List PathSl) (a b : Lane) → waiting net tables paths a b ≡ true
+      → depends net (other_lids net tables.aims) a.at b.at ≡ true
+  -- so if there is no credit loop by the entries, there is none by lanes
+  pub free : (net : NetState) (tables : TablesState) (paths : List PathSl) → credit_loop net tables.aims ≡ None
+      → reports net tables.aims (traces net tables paths) ≡ None
+
+abbrev pub waits_by_records : Waiting
+waits_by_records net tables paths a b = waits net tables.aims (traces net tables paths) a b
+
+abbrev pub LanesMakeNoLoop : Type 0
+LanesMakeNoLoop = LanesFollowChannels waits_by_records lane_deadlock
+
+-- ---- a verdict that is not safe has a reason, and each reason is named if and only if it holds
+pub record NamesAllReasons (words : Verdict → LaneVerdict → List ℕ) : Type 0 where
+  pub some : (net : NetState) (all : List Aim) (ring : Option (List PortRef)) (lanes : LaneVerdict)
+      → all_are_safe (verdict_by net all ring) lanes ≡ false → words (verdict_by net all ring) lanes ≡ [] → ⊥
+  pub lids : (routes : Verdict) (lanes : LaneVerdict) → has_word (codes "no-lid") (words routes lanes) ≡ not routes.has_lids
+  pub pairs : (routes : Verdict) (lanes : LaneVerdict) → has_word (codes "unreached") (words routes lanes) ≡ routes.loses
+  pub waits : (routes : Verdict) (lanes : LaneVerdict) → has_word (codes "deadlock") (words routes lanes) ≡ not lanes.is_free
+  pub names : (routes : Verdict) (lanes : LaneVerdict) → has_word (codes "mismatch") (words routes lanes) ≡ not routes.is_same
+  pub entries : (routes : Verdict) (lanes : LaneVerdict)
+      → has_word (codes "unknown") (words routes lanes) ≡ not ((routes.is_known && (lanes.has_paths && lanes.has_rows)) && not routes.lacks_entries)
+  pub drops : (routes : Verdict) (lanes : LaneVerdict) → has_word (codes "dropped") (words routes lanes) ≡ lanes.drops
+
+abbrev pub AllReasonsAreNamed : Type 0
+AllReasonsAreNamed = NamesAllReasons all_reasons

@@ -1,0 +1,14 @@
+pub mod Tables
+pub mod Hops
+pub mod Lanes
+pub mod Deadlock
+pub mod Records
+pub mod Lines
+pub mod Verdict
+pub mod Audit
+pub mod Keys
+pub mod Laws
+pub mod WrongRules
+pub mod Examples
+pub use Rattle.audit_net.specs.Net
+pub use Rattle.audit_plan.specs.Plan

@@ -1,0 +1,18 @@
+//! What is found of lanes in a ring of three switches, computed. Each function does nothing: its contract is the example.
+
+ghost use Rattle.lane_audit.specs.Examples.{HopsAreReported, LanesAreReported, RecordsAreReported};
+
+/// Cycles of lanes.
+pub fn lanes_are_reported()
+    ensures { LanesAreReported }
+{}
+
+/// The hops of packets of path records.
+pub fn hops_are_reported()
+    ensures { HopsAreReported }
+{}
+
+/// Pairs, and those of which there is no path record.
+pub fn records_are_reported()
+    ensures { RecordsAreReported }
+{}

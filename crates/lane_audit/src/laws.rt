@@ -1,0 +1,23 @@
+//! Laws of cycles of lanes, and of verdicts. The functions do nothing; their clauses are the theorems.
+
+ghost use Rattle.lane_audit.specs.Laws.{AllReasonsAreNamed, LaneCyclesWait, LanesMakeNoLoop, NoLaneCycleIsMissed};
+
+/// A cycle of lanes that is printed is one: each lane waits for the next, and the last for the first.
+pub fn lane_cycles_wait()
+    ensures { LaneCyclesWait }
+{}
+
+/// If none is printed there is none, however long.
+pub fn no_lane_cycle_is_missed()
+    ensures { NoLaneCycleIsMissed }
+{}
+
+/// Lanes wait as their channels do by the entries, so if there is no credit loop by the entries there is none by lanes.
+pub fn lanes_make_no_loop()
+    ensures { LanesMakeNoLoop }
+{}
+
+/// A verdict that is not safe names a reason, and it names each reason if and only if that holds.
+pub fn all_reasons_are_named()
+    ensures { AllReasonsAreNamed }
+{}

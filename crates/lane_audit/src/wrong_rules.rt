@@ -1,0 +1,40 @@
+//! Wrong rules for what is reported of lanes, and the law that each breaks, so that a reader sees that the laws say something. Each
+//! function does nothing: its contract says that with this rule the law is false.
+
+ghost use Rattle.lane_audit.specs.WrongRules.{DropsAreAReason, EachVlCounts, LanesAreApart, LanesDecideOnDeadlocks};
+ghost use Rattle.lane_audit.specs.WrongRules.{PacketsFollowEntries, SwitchLidsDoNotCount, UnplacedLidsCount};
+
+/// If a loop of channels is reported as one of lanes, lanes are reported that do not wait for one another.
+pub fn lanes_are_apart()
+    ensures { LanesAreApart }
+{}
+
+/// If VL 0 alone is looked at, a cycle on VL 1 is missed.
+pub fn each_vl_counts()
+    ensures { EachVlCounts }
+{}
+
+/// If LIDs whose end ports the fabric lacks do not count, a cycle of their packets is missed.
+pub fn unplaced_lids_count()
+    ensures { UnplacedLidsCount }
+{}
+
+/// If a lane waits for each lane behind it that has its VL, it waits where no entry leads.
+pub fn packets_follow_entries()
+    ensures { PacketsFollowEntries }
+{}
+
+/// If the LIDs of switches count, a loop is reported though there is none by the other LIDs.
+pub fn switch_lids_do_not_count()
+    ensures { SwitchLidsDoNotCount }
+{}
+
+/// If dropped packets are no reason, none is named for them.
+pub fn drops_are_a_reason()
+    ensures { DropsAreAReason }
+{}
+
+/// If a deadlock by the entries is a reason, it is named though lanes make none.
+pub fn lanes_decide_on_deadlocks()
+    ensures { LanesDecideOnDeadlocks }
+{}

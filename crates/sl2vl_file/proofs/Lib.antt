@@ -1,0 +1,2 @@
+pub mod LaneSoundLemmas
+pub mod LaneExampleLemmas

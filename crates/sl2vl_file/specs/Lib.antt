@@ -1,0 +1,10 @@
+pub mod Fault
+pub mod Parts
+pub mod Row
+pub mod Rows
+pub mod Path
+pub mod Lanes
+pub mod Sound
+pub mod Examples
+pub use Rattle.text_words.specs.Lines
+pub use Rattle.text_words.specs.Number
