@@ -240,7 +240,8 @@ impl Fabric {
         if is_multicast(packet.dlid) {
             return self.spread_from(alloc, from, packet);
         }
-        let mut deliveries = Vec::new(alloc);
+        // Room for the one delivery: an empty list would take room for four.
+        let mut deliveries = Vec::with_capacity(alloc, 1)?;
         if let Some(receiver) = receiver(&self.nodes, &self.cabling, packet, from) {
             deliveries.push(Delivery::at(receiver.port_guid(), packet)?)?;
         }

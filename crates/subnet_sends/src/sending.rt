@@ -105,5 +105,9 @@ fn refused(alloc: Global, port_guid: u64, refusal: Refusal) -> Result<Vec<Event>
 pub(crate) fn events_of(alloc: Global, deliveries: Vec<Delivery>) -> Result<Vec<Event>, AllocError>
     ensures { IfOk result (λ events. events.items ≡ map Event.Received deliveries.items) }
 {
-    deliveries.into_iter().map(Event::Received).collect(alloc)
+    let mut events = Vec::with_capacity(alloc, deliveries.len())?;
+    for delivery in deliveries {
+        events.push(Event::Received(delivery))?;
+    }
+    Ok(events)
 }
