@@ -92,6 +92,7 @@ planned_of plan keys routes fabric by = record {
   laid = laid_out (fabric_of plan) routes.graph by.are.found;
   assigned = by.are.assigned;
   made = by.are.made;
+  reached = by.are.reached;
   chosen = record { of = by.home.of; ranks = by.are.made.ranks_are; chosen = by.home.chosen };
 }
 

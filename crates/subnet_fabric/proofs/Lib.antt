@@ -5,6 +5,7 @@ pub mod MaskLemmas
 pub mod ListedLemmas
 pub mod GroupLemmas
 pub mod FoundLemmas
+pub mod SameGraphLemmas
 pub mod OneFateLemmas
 pub mod OneTableLemmas
 pub mod RecabledCableLemmas

@@ -1,12 +1,14 @@
 -- What is planned over the graph of a fabric.
-use Rattle.std.proofs.Common.{ℕ, ◌≡◌, ◌∙◌, ap, refl, Bool, true, false, List}
+use Rattle.std.proofs.Common.{ℕ, ◌≡◌, ◌∙◌, ap, refl, subst, Bool, true, false, List}
 use Rattle.std.specs.Bool.{Decides}
+use Rattle.std.specs.Option.{ForSome}
 use Rattle.std.proofs.lemmas.Bool.{false≢true}
+use Rattle.std.proofs.lemmas.Option.{none-some, same_Some}
 use Rattle.fabric_parts.specs.declared.cable.Cable.{Cable}
 use Rattle.fabric_parts.specs.declared.cable.PortRef.{PortRef}
 use Rattle.smp_wire.specs.FabricState.{FabricState}
 use Rattle.smp_wire.specs.Good.{IsGood}
-use Rattle.subnet_fabric.specs.Planning.{IsPlan, RoutesGive, is_routed, planned, planned_in, port_in}
+use Rattle.subnet_fabric.specs.Planning.{ArePlannedOver, IsPlan, RoutesGive, is_routed, planned, planned_in, port_in, routes_in}
 use Rattle.subnet_fabric.specs.SetUp.{CanBeSetUp, IsLaidOut}
 use Rattle.subnet_fabric.specs.declared.planning.Planned.{Planned}
 use Rattle.subnet_fabric.specs.declared.planning.Planned.TheVariants.{Routed, NotWhole, NoLegalPath}
@@ -56,3 +58,10 @@ pub plan_decides : (fabric : FabricState) (roots : List ℕ) (plan : Planned) �
 plan_decides fabric roots (Routed routes) is = (λ routed. is.0, λ can. refl)
 plan_decides fabric roots NotWhole is = (λ routed. absurd (false≢true routed), λ can. absurd (is (can.joined, can.near)))
 plan_decides fabric roots (NoLegalPath switch port) is = (λ routed. absurd (false≢true routed), λ can. absurd (can.reached switch port is))
+
+-- ---- its routes, if it has some
+pub routes_are_planned : (fabric : FabricState) (roots : List ℕ) (plan : Planned) → IsPlan fabric roots plan
+    → ForSome (routes_in plan) (ArePlannedOver fabric roots)
+routes_are_planned fabric roots (Routed routes) is = λ some same. subst (ArePlannedOver fabric roots) (same_Some routes some same) is.1
+routes_are_planned fabric roots NotWhole is = λ some same. absurd (none-some some same)
+routes_are_planned fabric roots (NoLegalPath switch port) is = λ some same. absurd (none-some some same)

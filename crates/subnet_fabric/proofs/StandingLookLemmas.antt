@@ -263,6 +263,7 @@ planned_alike one other roots routes alike planned = record {
   laid = laid_alike one other routes.graph alike planned.laid;
   assigned = planned.assigned;
   made = planned.made;
+  reached = planned.reached;
   chosen = planned.chosen;
 }
 

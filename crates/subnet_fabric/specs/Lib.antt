@@ -2,6 +2,7 @@ pub mod Fault
 pub mod SetUp
 pub mod Managing
 pub mod Planning
+pub mod SameGraph
 pub mod BringUp
 pub mod Laws
 pub mod Recabled

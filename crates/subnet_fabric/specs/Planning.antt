@@ -1,5 +1,5 @@
 -- What would become of a fabric with a cable cut, or mended: it is planned over the graph of its routes.
-use Rattle.std.specs.Prelude.{ℕ, ◌≡◌, ◌==◌, Bool, true, false, List, position, unwrap_or}
+use Rattle.std.specs.Prelude.{ℕ, ◌≡◌, ◌==◌, Bool, true, false, List, Option, Some, None, position, unwrap_or}
 use Rattle.fabric_parts.specs.Cable.{port}
 use Rattle.fabric_parts.specs.declared.cable.Cable.{Cable}
 use Rattle.fabric_parts.specs.declared.cable.PortRef.{PortRef}
@@ -14,7 +14,7 @@ use Rattle.sweep.specs.Graph.{GraphState, is_linked}
 use Rattle.sweep.specs.Hops.{IsTooFar}
 use Rattle.sweep.specs.Recabled.{MayBeCabled, with_cable, without}
 use Rattle.topo_file.specs.Topology.{TopologyState}
-use Rattle.updn_routes.specs.Routes.{AreRoutesOf}
+use Rattle.updn_routes.specs.Routes.{AllReached, AreRoutesOf, order_of}
 use Rattle.updn_routes.specs.Subnet.{RoutesState, guids_of, homes_of, rows_of}
 
 -- ---- the graph
@@ -45,6 +45,7 @@ pub record ArePlannedOver (fabric : FabricState) (roots : List ℕ) (routes : Ro
   pub laid : IsLaidOut fabric routes.graph
   pub assigned : AreAssigned routes.graph routes.lids
   pub made : AreRoutesOf (rows_of routes.graph) (guids_of routes.graph) roots (homes_of routes.graph routes.lids) routes.between
+  pub reached : AllReached (rows_of routes.graph) (order_of routes.between) (homes_of routes.graph routes.lids)
   pub chosen : AreChosenFrom roots routes
 
 -- what routes over a layout of a fabric come to: each port is reached, or a pair has no up/down path
@@ -59,6 +60,12 @@ abbrev pub IsPlan : FabricState → List ℕ → Planned → Type 0
 IsPlan fabric roots (Routed routes) = CanBeSetUp fabric roots × ArePlannedOver fabric roots routes
 IsPlan fabric roots NotWhole = (SwitchesJoined fabric × (IsTooFar fabric → ⊥)) → ⊥
 IsPlan fabric roots (NoLegalPath switch port) = HasNoPathFrom fabric roots switch port
+
+-- the routes, if there are some
+abbrev pub routes_in : Planned → Option RoutesState
+routes_in (Routed routes) = Some routes
+routes_in NotWhole = None
+routes_in (NoLegalPath switch port) = None
 
 abbrev pub is_routed : Planned → Bool
 is_routed (Routed routes) = true

@@ -19,6 +19,7 @@ mod laws;
 mod managing;
 mod planning;
 mod recabling;
+mod same_graph;
 mod setting_up;
 
 pub use crate::bring_up::{BroughtUp, bring_up_fabric};

@@ -6,7 +6,7 @@ ghost use Rattle.std.specs.List.{list_all, list_any};
 ghost use Rattle.smp_wire.specs.FabricState.{FabricState};
 ghost use Rattle.smp_wire.specs.Good.{IsGood};
 ghost use Rattle.subnet_fabric.specs.BringUp.{root_guids};
-ghost use Rattle.subnet_fabric.specs.Planning.{IsPlan, MayBePlanned, MayBePlannedIn, RoutesGive, is_routed, planned, planned_in, port_in};
+ghost use Rattle.subnet_fabric.specs.Planning.{IsPlan, MayBePlanned, MayBePlannedIn, RoutesGive, is_routed, planned, planned_in, port_in, routes_in};
 ghost use Rattle.subnet_fabric.specs.SetUp.{IsLaidOut};
 ghost use Rattle.sweep.specs.Joined.{AllJoined};
 ghost use Rattle.sweep.specs.OfFabric.{IsLayoutOf};
@@ -47,6 +47,17 @@ impl Planned {
             Planned::Routed(_) => true,
             Planned::NotWhole => false,
             Planned::NoLegalPath { .. } => false,
+        }
+    }
+
+    /// The routes, if it can be set up.
+    pub(crate) fn into_routes(self) -> Option<Routes>
+        ensures { result ≡ routes_in self }
+    {
+        match self {
+            Planned::Routed(routes) => Some(routes),
+            Planned::NotWhole => None,
+            Planned::NoLegalPath { .. } => None,
         }
     }
 }

@@ -6,7 +6,7 @@ ghost use Rattle.subnet_fabric.specs.Standing.{IsStanding, Recables};
 use crate::bring_up::root_guids;
 use crate::fault::FabricFault;
 use crate::planning::plan;
-use crate::setting_up::set_up;
+use crate::setting_up::set_up_by;
 use fabric_wire::Fabric;
 use pkey_rules::{KeyTable, PARTITIONS};
 use std::alloc::Global;
@@ -45,7 +45,7 @@ pub fn recable(
     let roots = root_guids(alloc, topology)?;
     fabric.set_cable(cable.first, cable.second, up);
     fabric.known_kept();
-    match set_up(alloc, fabric, &roots, keys) {
+    match set_up_by(alloc, fabric, &roots, keys, planned.into_routes()) {
         Ok(routes) => Ok(Some(routes)),
         Err(fault) => Err(fault),
     }

@@ -1,6 +1,8 @@
 //! How a fabric is set up, whatever its agents hold.
 
 ghost use Rattle.std.specs.Prelude.{ℕ, ◌≡◌, ◌==◌, true, IfOk, IfErr, List};
+ghost use Rattle.std.specs.Option.{ForSome};
+ghost use Rattle.subnet_fabric.specs.Planning.{ArePlannedOver};
 ghost use Rattle.std.specs.List.{list_all, list_any};
 ghost use Rattle.smp_wire.specs.FabricState.{FabricState};
 ghost use Rattle.subnet_fabric.specs.SetUp.{IsFound, IsNotSetUp, RoutesAre, SetsUp, are_switches};
@@ -9,6 +11,7 @@ ghost use Rattle.sweep.specs.Sweeps.{IsSweepable};
 ghost use Rattle.updn_routes.specs.Subnet.{guids_of};
 
 use crate::fault::FabricFault;
+use crate::same_graph::is_same_graph;
 use fabric_wire::Fabric;
 use lid_assign::assign;
 use pkey_rules::{KeyTable, PARTITIONS};
@@ -33,8 +36,24 @@ pub fn set_up(
     requires roots { are_switches fabric.old roots.now ≡ true }
     ensures { SetsUp fabric.old roots.now keys.now fabric.new result }
 {
+    set_up_by(alloc, fabric, roots, keys, None)
+}
+
+/// Sets it up so by routes that were planned, if a sweep finds the graph that they were planned over; else by new ones.
+pub(crate) fn set_up_by(
+    alloc: Global,
+    fabric: &mut Fabric,
+    roots: &[u64],
+    keys: &[KeyTable<PARTITIONS>],
+    planned: Option<Routes>,
+) -> Result<Routes, FabricFault>
+    requires swept { IsSweepable fabric.old }
+    requires roots { are_switches fabric.old roots.now ≡ true }
+    requires planned { ForSome planned (ArePlannedOver fabric.old roots.now) }
+    ensures { SetsUp fabric.old roots.now keys.now fabric.new result }
+{
     let graph = graph_of(alloc, fabric)?;
-    let routes = routes_of(alloc, graph, roots)?;
+    let routes = routes_by(alloc, graph, roots, planned)?;
     known_to_lead_home(&routes);
     match push_all(fabric, &routes, keys) {
         Ok(()) => Ok(routes),
@@ -60,4 +79,37 @@ fn routes_of(alloc: Global, graph: Graph, roots: &[u64]) -> Result<Routes, Fabri
 {
     let lids = assign(alloc, &graph)?;
     Ok(routes(alloc, graph, lids, roots)?)
+}
+
+/// The planned routes, if they were planned over this graph; else those that are computed of it.
+fn routes_by(
+    alloc: Global,
+    graph: Graph,
+    roots: &[u64],
+    planned: Option<Routes>,
+) -> Result<Routes, FabricFault>
+    requires joined { AllJoined graph.rows }
+    requires named { list_all (λ root. list_any (λ guid. guid == root) (guids_of graph)) roots.now ≡ true }
+    ensures { (fabric : FabricState) → IsFound fabric graph → ForSome planned (ArePlannedOver fabric roots.now) → RoutesAre fabric roots.now result }
+{
+    match planned {
+        Some(routes) => planned_or_new(alloc, graph, roots, routes),
+        None => routes_of(alloc, graph, roots),
+    }
+}
+
+fn planned_or_new(
+    alloc: Global,
+    graph: Graph,
+    roots: &[u64],
+    planned: Routes,
+) -> Result<Routes, FabricFault>
+    requires joined { AllJoined graph.rows }
+    requires named { list_all (λ root. list_any (λ guid. guid == root) (guids_of graph)) roots.now ≡ true }
+    ensures { (fabric : FabricState) → IsFound fabric graph → ArePlannedOver fabric roots.now planned → RoutesAre fabric roots.now result }
+{
+    if is_same_graph(&graph, planned.graph()) {
+        return Ok(planned);
+    }
+    routes_of(alloc, graph, roots)
 }

@@ -13,6 +13,7 @@ returns-in-Ok c fabric good laid =
         laid = subst (IsLaidOut fabric) (sym made.graph) laid;
         assigned = rw (made.graph, made.lids) assigned;
         made = rw (made.graph, made.lids) made.made;
+        reached = rw (made.graph, made.lids) made.reached;
         chosen = record {
           of = c.known_of_graph.ensures;
           ranks = rw made.graph made.made.ranks_are;

@@ -1,13 +1,14 @@
 use Rattle.std.proofs.Common.{◌≡◌, ◌∙◌, ap, refl, subst, sym, true, Bool, if◌then◌else◌, List}
 use Rattle.std.specs.Bool.{Decides}
+use Rattle.std.specs.Option.{ForSome}
 use Rattle.std.proofs.lemmas.Bool.{false≢true}
 use Rattle.fabric_wire.specs.Recabling.{can_change, changed}
 use Rattle.smp_wire.specs.FabricState.{FabricState}
 use Rattle.smp_wire.specs.Good.{SwitchesJoined}
-use Rattle.subnet_fabric.proofs.PlanningLemmas.{plan_decides}
+use Rattle.subnet_fabric.proofs.PlanningLemmas.{plan_decides, routes_are_planned}
 use Rattle.subnet_fabric.proofs.StandingLemmas.{good_next, is_moved, is_recabled, it_is_planned, no_fault, roots_named, roots_then, stays, stays_so}
 use Rattle.subnet_fabric.specs.BringUp.{root_guids}
-use Rattle.subnet_fabric.specs.Planning.{is_routed}
+use Rattle.subnet_fabric.specs.Planning.{ArePlannedOver, is_routed}
 use Rattle.subnet_fabric.specs.SetUp.{CanBeSetUp, IsNotSetUp, IsSetUpBy, are_switches}
 use Rattle.sweep.specs.Graph.{IsGraph}
 use Rattle.subnet_fabric.proofs.recabling.recable.Goals as goal
@@ -48,8 +49,8 @@ returns-then-not-is_routed c =
     )
 
 -- ---- once it is changed
-pub set_up-requires-clause-swept : goal.set_up-requires-clause-swept
-set_up-requires-clause-swept c =
+pub set_up_by-requires-clause-swept : goal.set_up_by-requires-clause-swept
+set_up_by-requires-clause-swept c =
     let can : can_change c.args.command.now.cable.first c.args.command.now.cable.second c.args.command.now.up c.args.fabric.now ≡ true = sym c.if-not-can_change.ensures in
     let graph : IsGraph c.args.routes.now.graph = c.requires.up.set_up.home.graph in
     let next : FabricState = changed c.args.command.now.cable.first c.args.command.now.cable.second c.args.command.now.up c.args.fabric.now in
@@ -66,8 +67,8 @@ set_up-requires-clause-swept c =
     c.set_cable.ensures ∙ ap (λ (goes : Bool). if goes then next else c.args.fabric.now) can in
     record { good = c.known_kept-2.ensures.good; links = c.known_kept-2.ensures.links; joined = subst SwitchesJoined (sym is) ready.joined }
 
-pub set_up-requires-clause-roots : goal.set_up-requires-clause-roots
-set_up-requires-clause-roots c =
+pub set_up_by-requires-clause-roots : goal.set_up_by-requires-clause-roots
+set_up_by-requires-clause-roots c =
     let can : can_change c.args.command.now.cable.first c.args.command.now.cable.second c.args.command.now.up c.args.fabric.now ≡ true = sym c.if-not-can_change.ensures in
     let next : FabricState = changed c.args.command.now.cable.first c.args.command.now.cable.second c.args.command.now.up c.args.fabric.now in
     let is : c.set_cable.new.self ≡ next =
@@ -76,6 +77,25 @@ set_up-requires-clause-roots c =
     (subst (λ (roots : List _). are_switches next roots ≡ true) (sym (c.deref.ensures.value ∙ c.in_ok-roots.ensures))
     (roots_then c.args.topology.now c.args.keys.now c.args.routes.now c.args.fabric.now c.known_sound.ensures c.known_kept.ensures.good c.requires
     c.args.command.now.cable.first c.args.command.now.cable.second c.args.command.now.up can c.requires.up.set_up.home.graph))
+
+pub set_up_by-requires-clause-planned : goal.set_up_by-requires-clause-planned
+set_up_by-requires-clause-planned c =
+    let can : can_change c.args.command.now.cable.first c.args.command.now.cable.second c.args.command.now.up c.args.fabric.now ≡ true = sym c.if-not-can_change.ensures in
+    let graph : IsGraph c.args.routes.now.graph = c.requires.up.set_up.home.graph in
+    let next : FabricState = changed c.args.command.now.cable.first c.args.command.now.cable.second c.args.command.now.up c.args.fabric.now in
+    let planned =
+    it_is_planned c.args.topology.now c.args.keys.now c.args.routes.now c.args.fabric.now c.known_sound.ensures c.known_kept.ensures.good c.requires
+    c.args.command.now.cable.first c.args.command.now.cable.second c.args.command.now.up can graph in
+    let good =
+    good_next c.args.topology.now c.args.keys.now c.args.routes.now c.args.fabric.now c.known_sound.ensures c.known_kept.ensures.good c.requires
+    c.args.command.now.cable.first c.args.command.now.cable.second c.args.command.now.up can graph in
+    let is : c.set_cable.new.self ≡ next =
+    c.set_cable.ensures ∙ ap (λ (goes : Bool). if goes then next else c.args.fabric.now) can in
+    let routes : ForSome c.into_routes.result (ArePlannedOver next (root_guids c.args.topology.now)) =
+    subst (λ some. ForSome some (ArePlannedOver next (root_guids c.args.topology.now))) (sym c.into_routes.ensures)
+    (routes_are_planned next (root_guids c.args.topology.now) c.in_ok-planned.planned (c.in_ok-planned.ensures next good planned.layout)) in
+    subst (λ (fabric : FabricState). ForSome c.into_routes.result (ArePlannedOver fabric c.deref.result.now)) (sym is)
+    (subst (λ (roots : List _). ForSome c.into_routes.result (ArePlannedOver next roots)) (sym (c.deref.ensures.value ∙ c.in_ok-roots.ensures)) routes)
 
 pub returns-in-Ok : goal.returns-in-Ok
 returns-in-Ok c =
@@ -91,13 +111,13 @@ returns-in-Ok c =
     let ready : CanBeSetUp next (root_guids c.args.topology.now) =
     (plan_decides next (root_guids c.args.topology.now) c.in_ok-planned.planned (c.in_ok-planned.ensures next good planned.layout)).0
     (sym c.if-not-is_routed.ensures) in
-    let set = subst (λ (roots : List _). IsSetUpBy c.set_cable.new.self roots c.args.keys.now c.in-Ok.routes c.set_up.new.fabric)
+    let set = subst (λ (roots : List _). IsSetUpBy c.set_cable.new.self roots c.args.keys.now c.in-Ok.routes c.set_up_by.new.fabric)
     (c.deref.ensures.value ∙ c.in_ok-roots.ensures) c.in-Ok.ensures in
-    let set_there = subst (λ (was : FabricState). IsSetUpBy was (root_guids c.args.topology.now) c.args.keys.now c.in-Ok.routes c.set_up.new.fabric) c.set_cable.ensures set in (
+    let set_there = subst (λ (was : FabricState). IsSetUpBy was (root_guids c.args.topology.now) c.args.keys.now c.in-Ok.routes c.set_up_by.new.fabric) c.set_cable.ensures set in (
       is_recabled c.args.topology.now c.args.keys.now c.args.routes.now c.args.fabric.now c.known_sound.ensures c.known_kept.ensures.good c.requires
-          c.args.command.now.cable.first c.args.command.now.cable.second c.args.command.now.up can graph c.set_up.new.fabric c.in-Ok.routes ready set_there,
+          c.args.command.now.cable.first c.args.command.now.cable.second c.args.command.now.up can graph c.set_up_by.new.fabric c.in-Ok.routes ready set_there,
       is_moved c.args.topology.now c.args.keys.now c.args.routes.now c.args.fabric.now c.known_sound.ensures c.known_kept.ensures.good c.requires
-          c.args.command.now.cable.first c.args.command.now.cable.second c.args.command.now.up can graph c.set_up.new.fabric c.in-Ok.routes set_there,
+          c.args.command.now.cable.first c.args.command.now.cable.second c.args.command.now.up can graph c.set_up_by.new.fabric c.in-Ok.routes set_there,
     )
 
 -- memory alone is refused: all else was planned for
