@@ -49,10 +49,11 @@ class Lanes:
         self.all_hops = {hop for trace in self.traces for hop in trace}
 
     def hops(self, source, destination, sl):
-        at = self.net.far.get(self.net.ends[source])
-        for _ in self.net.switches:
-            if at is None or not self.net.is_switch(at[0]):
-                return
+        """Up to the first that packets take a second time: where they come in says all that they do from there on."""
+        at, seen, again = self.net.far.get(self.net.ends[source]), set(), False
+        while at and self.net.is_switch(at[0]) and not again:
+            again = at in seen
+            seen.add(at)
             entry = self.net.entry(at[0], destination)
             if entry in (None, "unknown", 0) or (at[0], entry) not in self.net.far:
                 return

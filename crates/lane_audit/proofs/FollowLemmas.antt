@@ -11,7 +11,6 @@ use Rattle.sl2vl_file.specs.declared.path.PathSl.{PathSl}
 use Rattle.topo_file.specs.Node.{is_switch_at}
 use Rattle.audit_net.specs.declared.entry.Entry.{Entry}
 use Rattle.audit_net.specs.declared.entry.Entry.TheVariants.{Out, Missing, Unreported}
-use Rattle.audit_net.specs.Following.{switch_total}
 use Rattle.audit_net.specs.Net.{NetState, entry}
 use Rattle.credit_loops.specs.Channels.{depends, is_out, leads_to, leaves_by}
 use Rattle.credit_loops.proofs.CycleLemmas.{any_of}
@@ -20,7 +19,7 @@ use Rattle.route_audit.specs.Verdict.{is_others}
 use Rattle.lane_audit.specs.declared.hop.Hop.{Hop}
 use Rattle.lane_audit.specs.declared.hop.Step.{Step}
 use Rattle.lane_audit.specs.declared.lane.Lane.{Lane}
-use Rattle.lane_audit.specs.Hops.{counts, hop_by, hops_by, hops_from, hops_of, hops_on, hops_within, out_of, step_by, step_of, step_to, traces}
+use Rattle.lane_audit.specs.Hops.{counts, enough_hops, hop_by, hops_by, hops_from, hops_of, hops_on, hops_within, out_of, step_by, step_of, step_to, traces}
 use Rattle.lane_audit.specs.Lanes.{is_same_lane, is_same_pair, lane, lane_of, leaves_by_both, pair_by, pairs_after, takes_both, two}
 use Rattle.lane_audit.specs.Laws.{other_lids, waits_by_records}
 use Rattle.lane_audit.specs.Tables.{TablesState, if_others, others_end, unplaced_lids}
@@ -70,7 +69,7 @@ within_leave net tables path (suc count) at = by (step_of net tables path at) re
 from_leave : (net : NetState) (tables : TablesState) (path : PathSl) (at : Option PortRef) → all_leave net path.destination (hops_from net tables path at) ≡ true
 from_leave net tables path None = refl
 from_leave net tables path (Some at) = elim (cases_Bool (is_switch_at net.plan.nodes at.node)) [
-  | inl here ↦ rw here (within_leave net tables path (switch_total net) at)
+  | inl here ↦ rw here (within_leave net tables path (enough_hops net) at)
   | inr other ↦ rw other refl
 ]
 

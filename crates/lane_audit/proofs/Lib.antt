@@ -3,6 +3,7 @@ pub mod HopLemmas
 pub mod WaitLemmas
 pub mod RingLemmas
 pub mod FollowLemmas
+pub mod EnoughLemmas
 pub mod LaneLawLemmas
 pub mod LaneReasonLemmas
 pub mod WrongLemmas

@@ -1,11 +1,17 @@
--- What wrong rules report of two switches, and of verdicts.
+-- What wrong rules report of one switch, of two, and of verdicts.
 use Rattle.std.proofs.Common.{◌≡◌, refl, sym, true, false, [], Some, None}
 use Rattle.std.proofs.lemmas.Bool.{false≢true}
 use Rattle.fabric_parts.specs.Cable.{port}
 use Rattle.audit_net.specs.SmallNets.{two_switches}
 use Rattle.route_audit.specs.Verdict.{reasons}
 use Rattle.lane_audit.specs.Lanes.{lane}
-use Rattle.lane_audit.specs.WrongRules.{DropsAreAReason, EachVlCounts, LanesAreApart, LanesDecideOnDeadlocks, PacketsFollowEntries, SwitchLidsDoNotCount, UnplacedLidsCount, adapters, both_on, lanes_that, nobodys, round_on, routes_that, switches_own}
+use Rattle.lane_audit.specs.WrongRules.{DropsAreAReason, EachVlCounts, LanesAreApart, LanesDecideOnDeadlocks, OneMoreIsNotEnough, OneRoundIsNotEnough, PacketsFollowEntries, SwitchLidsDoNotCount, UnplacedLidsCount, adapters, both_on, is_on_vl_1, lanes_that, nobodys, round_net, round_on, round_path, round_tables, routes_that, switches_own}
+
+pub one_round_is_not_enough : OneRoundIsNotEnough
+one_round_is_not_enough law = false≢true (law.hops round_net round_tables round_path (port 0 3) is_on_vl_1 2 refl refl)
+
+pub one_more_is_not_enough : OneMoreIsNotEnough
+one_more_is_not_enough law = false≢true (law.lanes round_net round_tables round_path (port 0 3) (lane (port 0 1) 1) (lane (port 0 1) 1) 3 refl refl)
 
 pub lanes_are_apart : LanesAreApart
 lanes_are_apart law = false≢true (law (two_switches 1 1) adapters [] (both_on 0) refl).1

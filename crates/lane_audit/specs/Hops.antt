@@ -1,5 +1,5 @@
 -- The hops of packets of a path record: by which port they leave each switch, and on which VL.
-use Rattle.std.specs.Prelude.{ℕ, zero, suc, ◌==◌, ◌&&◌, Bool, false, not, List, [], ◌∷◌, map, if◌then◌else◌, Option, Some, None, is_none, is_some}
+use Rattle.std.specs.Prelude.{ℕ, zero, suc, ◌+◌, ◌==◌, ◌&&◌, Bool, false, not, List, [], ◌∷◌, map, if◌then◌else◌, Option, Some, None, is_none, is_some}
 use Rattle.std.specs.List.{list_any}
 use Rattle.std.specs.Option.{option_and_then, option_map_or}
 use Rattle.fabric_parts.specs.Cable.{far_end, port}
@@ -70,9 +70,14 @@ hops_within net tables path (suc count) at = hops_by (λ there. hops_within net 
 abbrev pub counts : NetState → List Aim → PathSl → Bool
 counts net aims path = is_some (others_end net aims path.source) && is_some (others_end net aims path.destination)
 
+-- Packets that have crossed as many switches as there are, and go on, loop: they come to one again. It may be by another port, so they
+-- may leave it on another VL: that hop is new, and so is its wait for the next one. After that all repeats (`src/laws.rt`).
+abbrev pub enough_hops : NetState → ℕ
+enough_hops net = switch_total net + 2
+
 -- the end port of its source is cabled to a switch: packets come into that at the port of the cable
 abbrev pub hops_from : NetState → TablesState → PathSl → Option PortRef → List Hop
-hops_from net tables path (Some at) = if is_switch_at net.plan.nodes at.node then hops_within net tables path (switch_total net) at else []
+hops_from net tables path (Some at) = if is_switch_at net.plan.nodes at.node then hops_within net tables path (enough_hops net) at else []
 hops_from net tables path None = []
 
 abbrev pub hops_of : NetState → TablesState → PathSl → List Hop

@@ -3,6 +3,7 @@ use Rattle.std.specs.Prelude.{ℕ, ◌≡◌, ◌&&◌, Bool, true, false, not, 
 use Rattle.std.specs.List.{list_all, list_any}
 use Rattle.fabric_parts.specs.declared.cable.PortRef.{PortRef}
 use Rattle.sl2vl_file.specs.declared.path.PathSl.{PathSl}
+use Rattle.topo_file.specs.Node.{is_switch_at}
 use Rattle.credit_loops.specs.Channels.{depends}
 use Rattle.audit_net.specs.Net.{NetState}
 use Rattle.lid_owners.specs.declared.lids.Aim.{Aim}
@@ -14,10 +15,22 @@ use Rattle.lane_audit.specs.declared.hop.Hop.{Hop}
 use Rattle.lane_audit.specs.declared.lane.Lane.{Lane}
 use Rattle.lane_audit.specs.declared.verdict.LaneVerdict.{LaneVerdict}
 use Rattle.lane_audit.specs.Deadlock.{lane_deadlock}
-use Rattle.lane_audit.specs.Hops.{traces}
-use Rattle.lane_audit.specs.Lanes.{is_same_lane, lanes, waits}
+use Rattle.lane_audit.specs.Hops.{enough_hops, hops_within, traces}
+use Rattle.lane_audit.specs.Lanes.{is_same_lane, lanes, takes_both, waits}
 use Rattle.lane_audit.specs.Tables.{TablesState}
 use Rattle.lane_audit.specs.Verdict.{all_are_safe, all_reasons}
+
+-- ---- hops
+-- so many are enough, from a port of a switch on: however far packets are followed, no other hop is found,
+pub record AreEnoughHops (many : NetState → ℕ) : Type 0 where
+  pub hops : (net : NetState) (tables : TablesState) (path : PathSl) (at : PortRef) (test : Hop → Bool) (count : ℕ) → is_switch_at net.plan.nodes at.node ≡ true
+      → list_any test (hops_within net tables path count at) ≡ true → list_any test (hops_within net tables path (many net) at) ≡ true
+  -- and no other two lanes one behind the other
+  pub lanes : (net : NetState) (tables : TablesState) (path : PathSl) (at : PortRef) (a b : Lane) (count : ℕ) → is_switch_at net.plan.nodes at.node ≡ true
+      → takes_both a b (hops_within net tables path count at) ≡ true → takes_both a b (hops_within net tables path (many net) at) ≡ true
+
+abbrev pub NoHopIsMissed : Type 0
+NoHopIsMissed = AreEnoughHops enough_hops
 
 -- ---- cycles of lanes
 -- each waits for the next, and the last for this one

@@ -1,9 +1,17 @@
 -- Wrong rules for what is reported of lanes, and the law that each breaks.
-use Rattle.std.specs.Prelude.{ℕ, ◌==◌, ◌&&◌, Bool, true, false, not, List, [], ◌∷◌, codes, filter, map, Option, Some, None, option_map}
+use Rattle.std.specs.Prelude.{ℕ, ◌+◌, ◌==◌, ◌&&◌, Bool, true, false, not, List, [], ◌∷◌, codes, filter, map, Option, Some, None, option_map}
+use Rattle.std.specs.Option.{option_map_or}
 use Rattle.fabric_parts.specs.Cable.{port}
 use Rattle.fabric_parts.specs.declared.cable.PortRef.{PortRef}
+use Rattle.fabric_parts.specs.declared.node_type.NodeType.TheVariants.{ChannelAdapter, Switch}
+use Rattle.sl2vl_file.specs.declared.path.PathSl.{PathSl}
+use Rattle.sl2vl_file.specs.declared.row.LaneRow.{LaneRow}
+use Rattle.topo_file.specs.Topology.{TopologyState}
+use Rattle.audit_net.specs.Following.{switch_total}
 use Rattle.credit_loops.specs.Channels.{deadlock, leads_to}
 use Rattle.audit_net.specs.Net.{NetState}
+use Rattle.audit_net.specs.SmallNets.{a_table}
+use Rattle.audit_plan.specs.Plan.{plan_of}
 use Rattle.lid_owners.specs.declared.lids.Aim.{Aim}
 use Rattle.route_audit.specs.Audit.{credit_loop, lids_of}
 use Rattle.route_audit.specs.Verdict.{reasons, with_reason}
@@ -13,8 +21,47 @@ use Rattle.lane_audit.specs.declared.lane.Lane.{Lane}
 use Rattle.lane_audit.specs.declared.verdict.LaneVerdict.{LaneVerdict}
 use Rattle.lane_audit.specs.Deadlock.{deadlock_among, lane_deadlock}
 use Rattle.lane_audit.specs.Lanes.{lane, lanes, some_take, waits}
-use Rattle.lane_audit.specs.Laws.{LanesFollowChannels, MissesNone, NamesAllReasons, Reports, ReportsCycles, Waiting, waits_by_records}
+use Rattle.lane_audit.specs.Laws.{AreEnoughHops, LanesFollowChannels, MissesNone, NamesAllReasons, Reports, ReportsCycles, Waiting, waits_by_records}
+use Rattle.lane_audit.specs.Tables.{TablesState}
 use Rattle.lane_audit.specs.Verdict.{joined}
+
+-- ---- a switch with a cable from its port 1 to its port 2, and a CA at port 3. It sends LID 1 out of port 1, so packets of the CA come
+-- in at port 3 first, and at port 2 from then on. By the rows they leave on VL 0 first, and on VL 1 from then on
+abbrev pub round_cabled : TopologyState
+round_cabled = record {
+  nodes = record { name = codes "A"; node_type = Switch; guid = 16; ports = 3 }
+      ∷ record { name = codes "h"; node_type = ChannelAdapter; guid = 256; ports = 1 } ∷ [];
+  cables = record { first = port 0 1; second = port 0 2 } ∷ record { first = port 0 3; second = port 1 1 } ∷ [];
+  roots = [];
+  sm = port 1 1;
+}
+
+abbrev pub round_net : NetState
+round_net = record { plan = plan_of round_cabled; dump = record { tables = a_table 16 1 ∷ [] } }
+
+-- LID 2 is the switch's; the VL is that of SL 0
+abbrev pub round_row : (input vl : ℕ) → LaneRow
+round_row input vl = record { line = 1; lid = 2; input = input; output = 1; lanes = vl ∷ [] }
+
+abbrev pub round_tables : TablesState
+round_tables = record { aims = record { lid = 2; guid = None; end = Some (port 0 0) } ∷ []; rows = round_row 3 0 ∷ round_row 2 1 ∷ [] }
+
+abbrev pub round_path : PathSl
+round_path = record { source = 3; destination = 1; sl = 0 }
+
+-- ---- packets are followed through as many switches as there are
+abbrev pub OneRoundIsNotEnough : Type 0
+OneRoundIsNotEnough = AreEnoughHops switch_total → ⊥
+
+abbrev pub is_on_vl_1 : Hop → Bool
+is_on_vl_1 hop = option_map_or (λ vl. vl == 1) hop.vl false
+
+-- ---- and through one more
+abbrev pub one_more : NetState → ℕ
+one_more net = switch_total net + 1
+
+abbrev pub OneMoreIsNotEnough : Type 0
+OneMoreIsNotEnough = AreEnoughHops one_more → ⊥
 
 -- ---- of two switches with a cable that send LID 1 to one another, whose LID 1 is: a CA's, a switch's, nobody's
 abbrev pub lid_1_of : Option PortRef → List Aim

@@ -4,9 +4,8 @@ ghost use Rattle.std.specs.Prelude.{◌≡◌, IfOk};
 ghost use Rattle.std.specs.Option.{option_and_then};
 ghost use Rattle.fabric_parts.specs.Cable.{far_end};
 ghost use Rattle.audit_net.specs.declared.entry.Entry.TheVariants.{Out};
-ghost use Rattle.lane_audit.specs.Hops.{counts, goes_on, hop_by, hops_from, hops_of, hops_within, step_by, step_of, step_to, traces};
+ghost use Rattle.lane_audit.specs.Hops.{counts, enough_hops, goes_on, hop_by, hops_from, hops_of, hops_within, step_by, step_of, step_to, traces};
 ghost use Rattle.lane_audit.specs.Tables.{others_end};
-ghost use Rattle.audit_net.specs.Following.{switch_total};
 
 use crate::hop::{Crossing, Hop, Step, Trace};
 use crate::tables::Tables;
@@ -68,7 +67,14 @@ fn step_of(net: &Net<'_>, tables: &Tables<'_>, path: PathSl, at: PortRef) -> Opt
     }
 }
 
-/// All hops from there on, through as many switches at most as there are.
+/// How far packets are followed: what they do farther on they did before.
+fn enough_hops(net: &Net<'_>) -> usize
+    ensures { result ≡ enough_hops net.now }
+{
+    net.switches().len() + 2
+}
+
+/// All hops from there on; of packets that loop, as many as are enough.
 fn hops_within(
     alloc: Global,
     net: &Net<'_>,
@@ -76,11 +82,11 @@ fn hops_within(
     path: PathSl,
     start: PortRef,
 ) -> Result<Vec<Hop>, AllocError>
-    ensures { IfOk result (λ hops. hops.items ≡ hops_within net.now tables.now path (switch_total net.now) start) }
+    ensures { IfOk result (λ hops. hops.items ≡ hops_within net.now tables.now path (enough_hops net.now) start) }
 {
     let mut hops = Vec::new(alloc);
     let mut at = start;
-    for _ in 0..net.switches().len() {
+    for _ in 0..enough_hops(net) {
         let Some(step) = step_of(net, tables, path, at) else {
             return Ok(hops);
         };

@@ -1,6 +1,11 @@
-//! Laws of cycles of lanes, and of verdicts. The functions do nothing; their clauses are the theorems.
+//! Laws of hops, of cycles of lanes, and of verdicts. The functions do nothing; their clauses are the theorems.
 
-ghost use Rattle.lane_audit.specs.Laws.{AllReasonsAreNamed, LaneCyclesWait, LanesMakeNoLoop, NoLaneCycleIsMissed};
+ghost use Rattle.lane_audit.specs.Laws.{AllReasonsAreNamed, LaneCyclesWait, LanesMakeNoLoop, NoHopIsMissed, NoLaneCycleIsMissed};
+
+/// Packets that loop are followed far enough: farther on they take no other hop, and no other two lanes one behind the other.
+pub fn no_hop_is_missed()
+    ensures { NoHopIsMissed }
+{}
 
 /// A cycle of lanes that is printed is one: each lane waits for the next, and the last for the first.
 pub fn lane_cycles_wait()

@@ -1,8 +1,18 @@
 //! Wrong rules for what is reported of lanes, and the law that each breaks, so that a reader sees that the laws say something. Each
 //! function does nothing: its contract says that with this rule the law is false.
 
-ghost use Rattle.lane_audit.specs.WrongRules.{DropsAreAReason, EachVlCounts, LanesAreApart, LanesDecideOnDeadlocks};
-ghost use Rattle.lane_audit.specs.WrongRules.{PacketsFollowEntries, SwitchLidsDoNotCount, UnplacedLidsCount};
+ghost use Rattle.lane_audit.specs.WrongRules.{DropsAreAReason, EachVlCounts, LanesAreApart, LanesDecideOnDeadlocks, OneMoreIsNotEnough};
+ghost use Rattle.lane_audit.specs.WrongRules.{OneRoundIsNotEnough, PacketsFollowEntries, SwitchLidsDoNotCount, UnplacedLidsCount};
+
+/// If packets are followed through as many switches as there are, a hop is missed that they take when they come to one again.
+pub fn one_round_is_not_enough()
+    ensures { OneRoundIsNotEnough }
+{}
+
+/// If they are followed through one more, it is missed which lane that hop waits for.
+pub fn one_more_is_not_enough()
+    ensures { OneMoreIsNotEnough }
+{}
 
 /// If a loop of channels is reported as one of lanes, lanes are reported that do not wait for one another.
 pub fn lanes_are_apart()
