@@ -1,4 +1,4 @@
--- Each cable is drawn once: as an edge, or as the line of the adapter in a list at which it ends.
+-- The lines of lists that show a cable: one, if an end of it stands in a list.
 use Rattle.std.proofs.Common.{ℕ, zero, suc, ◌+◌, ◌<◌, ◌≡◌, ◌⊎◌, ◌==◌, ◌∙◌, ap, ap₂, refl, sym, arith, ◌&&◌, ◌||◌, not, inl, inr, if◌then◌else◌}
 use Rattle.std.proofs.Common.{Bool, true, false, List, [], ◌∷◌, length, nat_le, Option, Some, None, option_map, slice_get}
 use Rattle.std.specs.Prelude.{filter, find}
@@ -10,7 +10,7 @@ use Rattle.std.proofs.lemmas.List.FromFn.{length-range_with_len}
 use Rattle.std.proofs.lemmas.Map.Keys.{IsDistinct-tail}
 use Rattle.std.proofs.lemmas.Option.{same_Some, slice_get-map, slice_get_within}
 use Rattle.fabric_graph.proofs.DrawnLemmas.{and_both, clashing, listed_is, one_in_range, only}
-use Rattle.fabric_graph.specs.Laws.{EachCableIsDrawnOnce, shows_cable}
+use Rattle.fabric_graph.specs.Laws.{shows_cable}
 use Rattle.fabric_graph.specs.Lists.{AttachmentState, is_in_list, is_listed, listed_attachment, may_be_listed, places, attachment_at, attachment_behind, attachment_in, attachment_of, attachments_of}
 use Rattle.fabric_parts.specs.Cable.{ends_at, far_end, is_same_port, port}
 use Rattle.fabric_parts.specs.declared.cable.Cable.{Cable}
@@ -76,6 +76,15 @@ found_at (c ∷ cs) (suc k) cable at own there ends = elim (cases_Bool (ends_at 
   | inr e ↦ rw e (found_at cs k cable at (IsDistinct-tail shares_port c cs own) there ends)
 ]
 
+-- ---- what a test leaves of numbers
+pub none_kept : (test : ℕ → Bool) → ((place : ℕ) → test place ≡ false) → (xs : List ℕ) → filter test xs ≡ []
+none_kept test none [] = refl
+none_kept test none (x ∷ xs) = rw (none x) (none_kept test none xs)
+
+pub same_kept : (test other : ℕ → Bool) → ((place : ℕ) → test place ≡ other place) → (xs : List ℕ) → filter test xs ≡ filter other xs
+same_kept test other same [] = refl
+same_kept test other same (x ∷ xs) = rw (same x, same_kept test other same xs) refl
+
 -- ---- what is so of a node that stands in a list
 pub record IsListedNode (plan : TopologyState) (subnet : ConfigurationState) (place : ℕ) (attachment : AttachmentState) : Type 0 where
   pub low : place < length plan.nodes
@@ -86,7 +95,7 @@ pub record IsListedNode (plan : TopologyState) (subnet : ConfigurationState) (pl
   pub switch_is : attachment.switch ≡ far.node
   pub port_is : attachment.port ≡ far.port
 
-not_true : (b : Bool) → not b ≡ true → b ≡ false
+pub not_true : (b : Bool) → not b ≡ true → b ≡ false
 not_true true e = absurd (clashing (sym e))
 not_true false e = refl
 
@@ -145,6 +154,16 @@ module _ (plan : TopologyState) (subnet : ConfigurationState) where
           let there : k ≡ 0 + place = same_Some k (0 + place) (sym e ∙ range_at 0 (length plan.nodes) place low) in
           let here : k ≡ place = omega (arith, there) in
           of_node place attachment low (slice_get plan.nodes place) refl (ap (attachment_at plan subnet) (sym here) ∙ sym (rw e refl) ∙ has)
+
+  listed_some : (place : ℕ) → is_listed attachments place ≡ true → (attachment : AttachmentState) × (listed_attachment attachments place ≡ Some attachment)
+  listed_some place is = by (listed_attachment attachments place) refl
+    where
+      by : (given : Option AttachmentState) → listed_attachment attachments place ≡ given → (attachment : AttachmentState) × (listed_attachment attachments place ≡ Some attachment)
+      by None e = absurd (clashing (sym is ∙ rw e refl))
+      by (Some attachment) e = (attachment, e)
+
+  pub listed_is_adapter : (place : ℕ) → is_listed attachments place ≡ true → is_switch_at plan.nodes place ≡ false
+  listed_is_adapter place is = let own = listed_some place is in (listed_node place own.0 own.1).adapter
 
   module _ (k : ℕ) (cable : Cable) (sound : AreSound plan.nodes plan.cables) (there : slice_get plan.cables k ≡ Some cable) where
     ports_right : ends_at_ports plan.nodes cable ≡ true
@@ -229,22 +248,7 @@ module _ (plan : TopologyState) (subnet : ConfigurationState) where
         let b = (listed_node cable.second.node other second).adapter in
         clashing (sym (and_both (not (cable.first.node == cable.second.node)) _ joined_right).1 ∙ rw (a, b) refl)
 
-    listed_some : (place : ℕ) → is_listed attachments place ≡ true → (attachment : AttachmentState) × (listed_attachment attachments place ≡ Some attachment)
-    listed_some place is = by (listed_attachment attachments place) refl
-      where
-        by : (given : Option AttachmentState) → listed_attachment attachments place ≡ given → (attachment : AttachmentState) × (listed_attachment attachments place ≡ Some attachment)
-        by None e = absurd (clashing (sym is ∙ rw e refl))
-        by (Some attachment) e = (attachment, e)
-
     -- ---- how many lines show the cable
-    none_kept : (test : ℕ → Bool) → ((place : ℕ) → test place ≡ false) → (xs : List ℕ) → filter test xs ≡ []
-    none_kept test none [] = refl
-    none_kept test none (x ∷ xs) = rw (none x) (none_kept test none xs)
-
-    same_kept : (test other : ℕ → Bool) → ((place : ℕ) → test place ≡ other place) → (xs : List ℕ) → filter test xs ≡ filter other xs
-    same_kept test other same [] = refl
-    same_kept test other same (x ∷ xs) = rw (same x, same_kept test other same xs) refl
-
     one_line : (place : ℕ) → place < length plan.nodes → shows_cable attachments cable place ≡ true
         → ((other : ℕ) → shows_cable attachments cable other ≡ true → other ≡ place) → length (filter (shows_cable attachments cable) (places attachments)) ≡ 1
     one_line place low shows alone =
@@ -297,8 +301,10 @@ module _ (plan : TopologyState) (subnet : ConfigurationState) where
             by true e = absurd (elsewhere place (shows_end place e))
             by false e = refl
 
-pub each_cable_is_drawn_once : EachCableIsDrawnOnce
-each_cable_is_drawn_once plan subnet k cable sound there = by (is_listed (attachments_of plan subnet) cable.first.node) refl (is_listed (attachments_of plan subnet) cable.second.node) refl
+-- one line shows a cable of a list, and none another
+pub lines_of_cable : (plan : TopologyState) (subnet : ConfigurationState) (k : ℕ) (cable : Cable) → AreSound plan.nodes plan.cables → slice_get plan.cables k ≡ Some cable
+    → length (filter (shows_cable (attachments_of plan subnet) cable) (places (attachments_of plan subnet))) ≡ (if is_in_list (attachments_of plan subnet) cable then 1 else 0)
+lines_of_cable plan subnet k cable sound there = by (is_listed (attachments_of plan subnet) cable.first.node) refl (is_listed (attachments_of plan subnet) cable.second.node) refl
   where
     by : (a : Bool) → is_listed (attachments_of plan subnet) cable.first.node ≡ a → (b : Bool) → is_listed (attachments_of plan subnet) cable.second.node ≡ b
         → length (filter (shows_cable (attachments_of plan subnet) cable) (places (attachments_of plan subnet))) ≡ (if is_in_list (attachments_of plan subnet) cable then 1 else 0)

@@ -3,3 +3,5 @@ pub mod DrawnLemmas
 pub mod CableLemmas
 pub mod AttachmentLemmas
 pub mod StepLemmas
+pub mod ThickLemmas
+pub mod WrongRowLemmas

@@ -1,5 +1,5 @@
 -- The steps of loads: their greatest loads ascend, so that a load is of the first that it does not exceed.
-use Rattle.std.proofs.Common.{ℕ, zero, suc, ◌+◌, ◌-◌, ◌*◌, ◌/◌, ◌<◌, ◌≤◌, ◌≡◌, ◌&&◌, ◌++◌, ◌∙◌, ap, refl, sym, arith, cond, lit<, inl, inr, Bool, true, false, List, [], ◌∷◌, count_by, nat_le}
+use Rattle.std.proofs.Common.{ℕ, zero, suc, ◌+◌, ◌-◌, ◌*◌, ◌<◌, ◌≤◌, ◌≡◌, ◌&&◌, ◌++◌, ◌∙◌, ap, refl, arith, cond, lit<, inl, inr, Bool, true, false, List, [], ◌∷◌, count_by, nat_le}
 use Rattle.std.specs.Prelude.{filter, flat_map, length}
 use Rattle.std.specs.List.{range_with_len}
 use Rattle.std.proofs.lemmas.Bool.{cases_lt, le-leb, lt-leb, lt-ltb}

@@ -1,21 +1,19 @@
 -- The cables of a topology in DOT, as edges with the numbers of the ports at both ends, those that are cut dashed. DOT draws the
 -- first end of an edge above the second if they are not in one row, so that each row of switches stands below that of the rank
 -- before, and adapters stand below their switches.
-use Rattle.std.specs.Prelude.{ℕ, Bool, true, false, nat_lt, if◌then◌else◌, List, [], ◌++◌, codes, decimal, slice_get, Option}
+use Rattle.std.specs.Prelude.{ℕ, Bool, true, false, nat_lt, if◌then◌else◌, List, [], ◌++◌, codes, decimal, Option}
 use Rattle.std.specs.Prelude.{Some, None, is_none}
-use Rattle.std.specs.Option.{option_and_then}
 use Rattle.text_parts.specs.Parts.{quoted}
 use Rattle.fabric_graph.specs.declared.loads.Look.{Look}
 use Rattle.fabric_graph.specs.declared.loads.Look.TheVariants.{Loaded, Needed, Plain}
 use Rattle.fabric_graph.specs.declared.cables.TheConstants.{LABELLED}
 use Rattle.fabric_graph.specs.Loads.{end_name, loaded_look}
-use Rattle.fabric_graph.specs.Ranks.{rank_of}
+use Rattle.fabric_graph.specs.Ranks.{rank_at}
 use Rattle.fabric_parts.specs.Cable.{far_end}
 use Rattle.fabric_parts.specs.declared.cable.Cable.{Cable}
 use Rattle.smp_wire.specs.FabricState.{FabricState}
 use Rattle.topo_file.specs.declared.node.Node.{Node}
 use Rattle.topo_file.specs.Node.{name_at}
-use Rattle.updn_routes.specs.Subnet.{RoutesState}
 
 -- ---- which end is first
 -- the lesser rank is above, and any rank is above none, as an adapter has
@@ -24,13 +22,10 @@ is_above (Some rank) (Some other) = nat_lt rank other
 is_above (Some rank) None = true
 is_above None other = false
 
-abbrev pub rank_at : RoutesState → List Node → ℕ → Option ℕ
-rank_at routes nodes place = option_and_then (rank_of routes) (slice_get nodes place)
-
 -- the cable from its upper end, and as its line names the ends if neither is above the other
-abbrev pub downward : RoutesState → List Node → Cable → Cable
-downward routes nodes cable =
-    if is_above (rank_at routes nodes cable.second.node) (rank_at routes nodes cable.first.node)
+abbrev pub downward : List (Option ℕ) → Cable → Cable
+downward ranks cable =
+    if is_above (rank_at ranks cable.second.node) (rank_at ranks cable.first.node)
     then record { first = cable.second; second = cable.first }
     else cable
 
@@ -78,6 +73,6 @@ abbrev pub edge_line : (crowded : Bool) → List Node → (stroke shade : List �
 edge_line crowded nodes stroke shade cable = edge_head crowded nodes cable ++ stroke ++ shade ++ codes "];\n"
 
 -- as `"A" -- "h1" [taillabel="2", headlabel="1"];`, or, if it is cut, `"A" -- "B" [taillabel="3", headlabel="3", style=dashed];`
-abbrev pub cable_line : (crowded : Bool) → RoutesState → List Node → FabricState → (most : ℕ) → Look → Cable → List ℕ
-cable_line crowded routes nodes fabric most look cable =
-    edge_line crowded nodes (stroke (is_cut fabric cable)) (shade nodes most cable look) (downward routes nodes cable)
+abbrev pub cable_line : (crowded : Bool) → List (Option ℕ) → List Node → FabricState → (most : ℕ) → Look → Cable → List ℕ
+cable_line crowded ranks nodes fabric most look cable =
+    edge_line crowded nodes (stroke (is_cut fabric cable)) (shade nodes most cable look) (downward ranks cable)

@@ -4,6 +4,8 @@ pub mod Lists
 pub mod Ranks
 pub mod Loads
 pub mod Cables
+pub mod Rows
+pub mod ThickEdges
 pub mod Graph
 pub mod Laws
 pub mod WrongRules

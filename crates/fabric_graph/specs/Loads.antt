@@ -1,5 +1,5 @@
 -- The loads of cables, drawn in five steps of width and colour.
-use Rattle.std.specs.Prelude.{ℕ, ◌+◌, ◌-◌, ◌*◌, ◌/◌, ◌==◌, Bool, true, false, nat_lt, if◌then◌else◌, List, [], ◌∷◌, ◌++◌, codes, count_by, decimal, flat_map}
+use Rattle.std.specs.Prelude.{ℕ, ◌+◌, ◌-◌, ◌*◌, ◌/◌, ◌==◌, Bool, true, false, nat_lt, if◌then◌else◌, List, [], ◌++◌, codes, count_by, decimal, flat_map, get_or}
 use Rattle.std.specs.List.{fold, list_any, range_with_len}
 use Rattle.text_parts.specs.Parts.{port_name}
 use Rattle.fabric_graph.specs.declared.loads.CableLoad.{CableLoad}
@@ -10,7 +10,11 @@ use Rattle.fabric_parts.specs.declared.cable.PortRef.{PortRef}
 use Rattle.topo_file.specs.declared.node.Node.{Node}
 use Rattle.topo_file.specs.Node.{name_at}
 
--- ---- a cable that is needed
+-- ---- how cables look, by their places; one of which nothing is said is plain
+abbrev pub look_at : List Look → ℕ → Look
+look_at looks place = get_or looks place Plain
+
+-- a cable that is needed
 abbrev pub needed_look : (needed : Bool) → Look
 needed_look needed = if needed then Needed else Plain
 

@@ -1,18 +1,17 @@
 //! The cables of a topology, as edges; those that are cut in the fabric are dashed.
 
 ghost use Rattle.std.specs.Prelude.{◌≡◌, ◌++◌, length, OnOk};
-ghost use Rattle.fabric_graph.specs.Cables.{cable_line, downward, edge_head, end_label, end_labels, ends, is_above, is_cut, rank_at};
+ghost use Rattle.fabric_graph.specs.Cables.{cable_line, downward, edge_head, end_label, end_labels, ends, is_above, is_cut};
 ghost use Rattle.fabric_graph.specs.Cables.{ends_tooltip, is_crowded, ports_shown, shade, stroke};
 
 use crate::lists::Attachment;
 use crate::loads::{Look, push_end_name, push_loaded_look};
-use crate::ranks::rank_of;
+use crate::ranks::rank_at;
 use fabric_parts::Cable;
 use fabric_wire::Fabric;
 use std::alloc::AllocError;
 use text_parts::{push_decimal, push_quoted};
 use topo_file::{Node, Topology, name_at};
-use updn_routes::Routes;
 
 /// How many cables a picture has at most in which the numbers of ports are at the ends of edges. The number is ours.
 pub const LABELLED: usize = 200;
@@ -21,7 +20,8 @@ pub const LABELLED: usize = 200;
 #[derive(Clone, Copy)]
 pub(crate) struct Edges<'a> {
     pub(crate) topology: &'a Topology,
-    pub(crate) routes: &'a Routes,
+    /// The ranks of nodes, by their places.
+    pub(crate) ranks: &'a [Option<usize>],
     pub(crate) fabric: &'a Fabric,
     /// Where each adapter that may stand in a list is attached.
     pub(crate) attachments: &'a [Option<Attachment>],
@@ -39,29 +39,30 @@ pub(crate) fn push_cable_line(
     cable: &Cable,
 ) -> Result<(), AllocError>
     ensures { OnOk result (text.new.items ≡ text.old.items
-        ++ cable_line (is_crowded (length edges.entry.topology.now.cables)) edges.entry.routes.now edges.entry.topology.now.nodes edges.entry.fabric.now edges.entry.most look cable.now) }
+        ++ cable_line (is_crowded (length edges.entry.topology.now.cables)) edges.entry.ranks.now edges.entry.topology.now.nodes
+        edges.entry.fabric.now edges.entry.most look cable.now) }
 {
     let nodes = edges.topology.nodes();
     let crowded = is_crowded(edges.topology.cables().len());
-    push_edge_head(text, crowded, nodes, downward(edges.routes, nodes, *cable))?;
+    push_edge_head(text, crowded, nodes, downward(edges.ranks, *cable))?;
     text.extend_from_slice(stroke(is_cut(edges.fabric, cable)))?;
     push_shade(text, nodes, edges.most, *cable, look)?;
     text.extend_from_slice(b"];\n")
 }
 
 /// Whether nothing goes over this cable of the topology in the fabric.
-fn is_cut(fabric: &Fabric, cable: &Cable) -> bool
+pub(crate) fn is_cut(fabric: &Fabric, cable: &Cable) -> bool
     ensures { result ≡ is_cut fabric.now cable.now }
 {
     fabric.far_end(cable.first).is_none()
 }
 
 /// The cable from its upper end.
-fn downward(routes: &Routes, nodes: &[Node], cable: Cable) -> Cable
-    ensures { result ≡ downward routes.now nodes.now cable }
+fn downward(ranks: &[Option<usize>], cable: Cable) -> Cable
+    ensures { result ≡ downward ranks.now cable }
 {
-    let first = rank_at(routes, nodes, cable.first.node);
-    let second = rank_at(routes, nodes, cable.second.node);
+    let first = rank_at(ranks, cable.first.node);
+    let second = rank_at(ranks, cable.second.node);
     if is_above(second, first) {
         Cable {
             first: cable.second,
@@ -70,13 +71,6 @@ fn downward(routes: &Routes, nodes: &[Node], cable: Cable) -> Cable
     } else {
         cable
     }
-}
-
-/// The rank of the node there, if it is a switch.
-fn rank_at(routes: &Routes, nodes: &[Node], place: usize) -> Option<usize>
-    ensures { result ≡ rank_at routes.now nodes.now place }
-{
-    rank_of(routes, nodes.get(place)?)
 }
 
 /// Whether a node of the one rank is drawn above one of the other; one without a rank is above none.
@@ -91,7 +85,7 @@ fn is_above(one: Option<usize>, other: Option<usize>) -> bool
 }
 
 /// Whether a picture has too many cables for the numbers of their ports.
-fn is_crowded(cables: usize) -> bool
+pub(crate) fn is_crowded(cables: usize) -> bool
     ensures { result ≡ is_crowded cables }
 {
     cables > LABELLED

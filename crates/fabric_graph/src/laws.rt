@@ -3,6 +3,7 @@
 ghost use Rattle.std.specs.Prelude.{◌≡◌};
 ghost use Rattle.fabric_graph.specs.declared.cables.TheConstants.{LABELLED};
 ghost use Rattle.fabric_graph.specs.Laws.{EachCableIsDrawnOnce, EachLoadHasOneRow, EachNodeIsDrawnOnce, EachRankHasARow, StepsAreFifths};
+ghost use Rattle.fabric_graph.specs.Laws.{ThickEdgesJoinAllToAll, ThickEdgesShowNumbers};
 
 /// In a picture of how many cables at most the numbers of ports are at the ends of edges. The number is ours.
 pub fn the_numbers()
@@ -20,9 +21,21 @@ pub fn each_node_is_drawn_once()
     ensures { EachNodeIsDrawnOnce }
 {}
 
-/// Each cable is drawn once: as an edge, or as the line of the adapter in a list at which it ends.
+/// Each cable is drawn once: as an edge, as the line of the adapter in a list at which it ends, or as one of those that a thick edge
+/// counts.
 pub fn each_cable_is_drawn_once()
     ensures { EachCableIsDrawnOnce }
+{}
+
+/// There is a thick edge only if each of the upper switches is cabled to each of the lower ones. It counts no cable that is cut, and
+/// none that is drawn in red or shows its load.
+pub fn thick_edges_join_all_to_all()
+    ensures { ThickEdgesJoinAllToAll }
+{}
+
+/// The number at a thick edge is that of the cables that it counts.
+pub fn thick_edges_show_numbers()
+    ensures { ThickEdgesShowNumbers }
 {}
 
 /// The step of a load is the least number of fifths of the greatest load, from 1 on, that the load does not exceed.

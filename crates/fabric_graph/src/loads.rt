@@ -3,7 +3,7 @@
 ghost use Rattle.std.specs.Prelude.{◌≡◌, ◌≤◌, ◌++◌, cond, OnOk, IfOk, flat_map, map};
 ghost use Rattle.std.specs.List.{list_any, range_with_len};
 ghost use Rattle.fabric_graph.specs.Loads.{busier, colour_cell, colour_words, direction, end_name, exceeds, greater, is_loaded, least_of, legend, legend_foot, legend_head, legend_of, legend_row, legend_row_if};
-ghost use Rattle.fabric_graph.specs.Loads.{legend_rows, load_shown, loaded_look, most_of, needed_look, range_cell, range_words, step_cell, step_colour, step_look, step_of, tooltip, tooltip_words, top_of, width_words};
+ghost use Rattle.fabric_graph.specs.Loads.{legend_rows, load_shown, loaded_look, look_at, most_of, needed_look, range_cell, range_words, step_cell, step_colour, step_look, step_of, tooltip, tooltip_words, top_of, width_words};
 
 use fabric_parts::{Cable, PortRef};
 use std::alloc::{AllocError, Global};
@@ -71,6 +71,16 @@ fn greater(most: usize, look: Look) -> usize
 {
     let load = load_shown(look);
     if most < load { load } else { most }
+}
+
+/// How the cable at that place is drawn.
+pub(crate) fn look_at(looks: &[Look], place: usize) -> Look
+    ensures { result ≡ look_at looks.now place }
+{
+    match looks.get(place) {
+        Some(look) => *look,
+        None => Look::Plain,
+    }
 }
 
 /// The greatest load that is shown.

@@ -1,7 +1,8 @@
 //! Wrong rules for what is drawn, and the law that each breaks, so that a reader sees that the laws say something. Each function
 //! does nothing: its contract says that with this rule the law is false.
 
-ghost use Rattle.fabric_graph.specs.WrongRules.{NotAllAreHot, RowsDoNotOverlap, StepsAreNotQuarters};
+ghost use Rattle.fabric_graph.specs.WrongRules.{CountedCablesAreNoEdges, CutCablesAreNotNumbered, CutCablesStayApart, NotAllAreHot};
+ghost use Rattle.fabric_graph.specs.WrongRules.{RowsDoNotOverlap, SomeCablesAreNotAll, StepsAreNotQuarters};
 
 /// If all cables were of the last step, one without load would be.
 pub fn not_all_are_hot()
@@ -16,4 +17,24 @@ pub fn steps_are_not_quarters()
 /// If each row began with the last load of the row before, that load would be in two.
 pub fn rows_do_not_overlap()
     ensures { RowsDoNotOverlap }
+{}
+
+/// If thick edges counted cables that are cut too, one that is cut would not be seen.
+pub fn cut_cables_stay_apart()
+    ensures { CutCablesStayApart }
+{}
+
+/// If the number at a thick edge counted cables that are cut too, it would be greater than that of the cables that it stands for.
+pub fn cut_cables_are_not_numbered()
+    ensures { CutCablesAreNotNumbered }
+{}
+
+/// If cables that thick edges count were edges too, each of them would be drawn twice.
+pub fn counted_cables_are_no_edges()
+    ensures { CountedCablesAreNoEdges }
+{}
+
+/// If there were a thick edge between rows of which some switches alone are cabled, it would say more than is so.
+pub fn some_cables_are_not_all()
+    ensures { SomeCablesAreNotAll }
 {}

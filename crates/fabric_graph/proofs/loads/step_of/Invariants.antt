@@ -1,4 +1,4 @@
-use Rattle.std.proofs.Common.{ℕ, ◌≡◌, ◌-◌, ◌<◌, ◌≤◌, count_by}
+use Rattle.std.proofs.Common.{◌≡◌, ◌-◌, ◌<◌, ◌≤◌, count_by}
 use Rattle.std.specs.List.{range_with_len}
 use Rattle.fabric_graph.specs.Loads.{exceeds}
 use Rattle.fabric_graph.proofs.loads.step_of.Given as goal
