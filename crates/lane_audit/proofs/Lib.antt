@@ -5,6 +5,7 @@ pub mod RingLemmas
 pub mod FollowLemmas
 pub mod EnoughLemmas
 pub mod LaneLawLemmas
+pub mod SafeLaneLemmas
 pub mod LaneReasonLemmas
 pub mod WrongLemmas
 pub mod ExampleLemmas

@@ -17,14 +17,19 @@ use Rattle.audit_net.specs.SmallNets.{a_row}
 use Rattle.audit_plan.specs.Plan.{plan_of}
 use Rattle.lid_owners.specs.declared.lids.Aim.{Aim}
 use Rattle.route_audit.specs.Audit.{credit_loop}
+use Rattle.route_audit.specs.declared.verdict.Verdict.{Verdict}
+use Rattle.route_audit.specs.Examples.{a_verdict}
 use Rattle.lane_audit.specs.declared.hop.Hop.{Hop}
 use Rattle.lane_audit.specs.declared.lane.Lane.{Lane}
+use Rattle.lane_audit.specs.declared.verdict.LaneVerdict.{LaneVerdict}
+use Rattle.lane_audit.specs.Audit.{lane_text, with_lanes}
 use Rattle.lane_audit.specs.Deadlock.{deadlock_among}
 use Rattle.lane_audit.specs.Hops.{hops_of, is_dropped, lacks_row, some_hop, traces}
 use Rattle.lane_audit.specs.Lanes.{lane, waits}
-use Rattle.lane_audit.specs.Lines.{no_path_line}
+use Rattle.lane_audit.specs.Lines.{counts_line, crossing_lines, no_path_line, ring_line}
 use Rattle.lane_audit.specs.Records.{owned, records}
 use Rattle.lane_audit.specs.Tables.{TablesState}
+use Rattle.lane_audit.specs.Verdict.{all_verdict_line, lane_verdict}
 
 -- ---- three switches in a ring, from port 1 of each to port 2 of the next, and an adapter at port 3 of each. The entries send packets
 -- to each adapter round by ports 1
@@ -122,3 +127,60 @@ pub record RecordsAreReported : Type 0 where
   pub line : no_path_line net (a_path 1 3 0 ∷ []) (owned net aims) (record { lid = 1; end = port 3 1 }) ≡ codes "lanes no-path 1 (h1/1) 2 (h2/1)\n"
   pub more : no_path_line net (a_path 1 3 0 ∷ []) (owned net aims) (record { lid = 2; end = port 4 1 })
       ≡ codes "lanes no-path 2 (h2/1) 1 (h1/1) and 1 more\n"
+
+-- ---- lines
+-- what is found of packets of these records
+abbrev traced : List PathSl → List (List Hop)
+traced some = traces net tables some
+
+-- the rows of the first switch alone
+abbrev traced_by_first : List (List Hop)
+traced_by_first = traces net (record { aims = aims; rows = lane_rows 4 }) (a_path 1 2 0 ∷ [])
+
+pub record LaneLinesAreReported : Type 0 where
+  pub cycle : ring_line net (Some (on_vl 0)) ≡ codes "lanes deadlock A/1 VL 0 B/1 VL 0 C/1 VL 0\n"
+  pub no_row : crossing_lines net traced_by_first ≡ codes "lanes no-row B in 2 out 3\n"
+  pub dropped : crossing_lines net (traced (a_path 3 2 2 ∷ [])) ≡ codes "lanes dropped C in 3 out 1 SL 2\n"
+  pub counts : counts_line net aims (paths 1) (traced (paths 1)) ≡ codes "lanes: 6 pairs, 6 with a path record, SLs 0 1, VLs 0 1\n"
+  pub no_counts : counts_line net aims [] [] ≡ codes "lanes: 6 pairs, 0 with a path record, SLs none, VLs none\n"
+  -- all of them, in this order; VL 15 is not among those that carry packets
+  pub all : lane_text net aims (a_path 3 2 2 ∷ []) (traced (a_path 3 2 2 ∷ [])) (Some (on_vl 0))
+      ≡ codes "lanes deadlock A/1 VL 0 B/1 VL 0 C/1 VL 0\nlanes no-path 1 (h1/1) 2 (h2/1) and 1 more\n"
+      ++ codes "lanes no-path 2 (h2/1) 1 (h1/1) and 1 more\nlanes no-path 3 (h3/1) 1 (h1/1)\n"
+      ++ codes "lanes dropped C in 3 out 1 SL 2\nlanes: 6 pairs, 1 with a path record, SLs 2, VLs none\n"
+
+-- ---- verdicts
+abbrev all_is_well : LaneVerdict
+all_is_well = record { is_free = true; has_paths = true; has_rows = true; drops = false }
+
+abbrev safe_routes : Verdict
+safe_routes = a_verdict true true true true true
+
+-- by the entries alone there is a credit loop
+abbrev looping_routes : Verdict
+looping_routes = a_verdict true true false true true
+
+abbrev the_rest : List ℕ
+the_rest = codes ", by virtual lanes; multicast is not judged\n"
+
+abbrev judged : List ℕ
+judged = codes "# lanes: packets of a path record use its SL; other packets are not judged\n"
+
+pub record LaneVerdictsAreReported : Type 0 where
+  pub of_all : lane_verdict net aims (paths 1) (traced (paths 1)) None ≡ all_is_well
+  pub of_a_cycle : lane_verdict net aims (paths 0) (traced (paths 0)) (Some (on_vl 0)) ≡ record all_is_well { is_free = false }
+  pub of_one_path : lane_verdict net aims (a_path 1 2 0 ∷ []) (traced (a_path 1 2 0 ∷ [])) None ≡ record all_is_well { has_paths = false }
+  pub of_few_rows : lane_verdict net aims (paths 1) traced_by_first None ≡ record all_is_well { has_rows = false }
+  pub of_drops : lane_verdict net aims (paths 2) (traced (paths 2)) None ≡ record all_is_well { drops = true }
+  pub cycle : all_verdict_line safe_routes (record all_is_well { is_free = false }) ≡ codes "verdict: not safe (deadlock)" ++ the_rest
+  pub lacks : all_verdict_line safe_routes (record all_is_well { has_paths = false }) ≡ codes "verdict: not safe (unknown)" ++ the_rest
+  pub drops : all_verdict_line safe_routes (record all_is_well { has_rows = false; drops = true }) ≡ codes "verdict: not safe (unknown, dropped)" ++ the_rest
+  -- behind what is found of the routes stand the lines on lanes, and then the verdict by lanes, which free them of a credit loop
+  pub freed : with_lanes (record { text = codes "routes\n"; verdict = looping_routes }) (record { text = codes "lanes\n"; verdict = all_is_well })
+      ≡ record {
+        text =
+            codes "routes\nlanes\n# lanes: by virtual lanes the deadlock above does not happen\n" ++ judged ++ codes "verdict: safe" ++ the_rest;
+        is_safe = true;
+      }
+  pub unsafe : with_lanes (record { text = []; verdict = safe_routes }) (record { text = []; verdict = record all_is_well { drops = true } })
+      ≡ record { text = judged ++ codes "verdict: not safe (dropped)" ++ the_rest; is_safe = false }

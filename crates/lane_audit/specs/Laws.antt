@@ -1,6 +1,7 @@
 -- What is so of all fabrics, dumps and records: the statements of the laws of `src/laws.rt`.
-use Rattle.std.specs.Prelude.{ℕ, ◌≡◌, ◌&&◌, Bool, true, false, not, List, [], ◌∷◌, codes, filter, Option, Some, None}
+use Rattle.std.specs.Prelude.{ℕ, ◌≡◌, ◌&&◌, Bool, true, false, not, List, [], ◌∷◌, codes, filter, slice_get, Option, Some, None}
 use Rattle.std.specs.List.{list_all, list_any}
+use Rattle.fabric_parts.specs.Cable.{far_end, is_same_port}
 use Rattle.fabric_parts.specs.declared.cable.PortRef.{PortRef}
 use Rattle.sl2vl_file.specs.declared.path.PathSl.{PathSl}
 use Rattle.topo_file.specs.Node.{is_switch_at}
@@ -9,16 +10,17 @@ use Rattle.audit_net.specs.Net.{NetState}
 use Rattle.lid_owners.specs.declared.lids.Aim.{Aim}
 use Rattle.route_audit.specs.Audit.{credit_loop, lids_of}
 use Rattle.route_audit.specs.Laws.{has_word}
-use Rattle.route_audit.specs.Verdict.{is_others, verdict_by}
+use Rattle.route_audit.specs.Verdict.{is_others, leads, verdict_by}
 use Rattle.route_audit.specs.declared.verdict.Verdict.{Verdict}
 use Rattle.lane_audit.specs.declared.hop.Hop.{Hop}
 use Rattle.lane_audit.specs.declared.lane.Lane.{Lane}
+use Rattle.lane_audit.specs.declared.owned.OwnedLid.{OwnedLid}
 use Rattle.lane_audit.specs.declared.verdict.LaneVerdict.{LaneVerdict}
 use Rattle.lane_audit.specs.Deadlock.{lane_deadlock}
-use Rattle.lane_audit.specs.Hops.{enough_hops, hops_within, traces}
+use Rattle.lane_audit.specs.Hops.{enough_hops, hops_within, is_dropped, lacks_row, traces}
 use Rattle.lane_audit.specs.Lanes.{is_same_lane, lanes, takes_both, waits}
-use Rattle.lane_audit.specs.Tables.{TablesState}
-use Rattle.lane_audit.specs.Verdict.{all_are_safe, all_reasons}
+use Rattle.lane_audit.specs.Tables.{TablesState, others_end}
+use Rattle.lane_audit.specs.Verdict.{all_are_safe, all_reasons, lane_verdict}
 
 -- ---- hops
 -- so many are enough, from a port of a switch on: however far packets are followed, no other hop is found,
@@ -103,3 +105,51 @@ pub record NamesAllReasons (words : Verdict → LaneVerdict → List ℕ) : Type
 
 abbrev pub AllReasonsAreNamed : Type 0
 AllReasonsAreNamed = NamesAllReasons all_reasons
+
+-- ---- what is safe by virtual lanes
+-- the LID is that of an end port of the fabric, which is not a switch's
+pub record IsOwned (net : NetState) (aims : List Aim) (one : OwnedLid) : Type 0 where
+  pub place : ℕ
+  pub aim : Aim
+  pub there : slice_get aims place ≡ Some aim
+  pub lid : aim.lid ≡ one.lid
+  pub end : aim.end ≡ Some one.end
+  pub others : is_switch_at net.plan.nodes one.end.node ≡ false
+
+-- there is a path record from the one LID to the other
+pub record HasRecord (paths : List PathSl) (source destination : ℕ) : Type 0 where
+  pub place : ℕ
+  pub path : PathSl
+  pub there : slice_get paths place ≡ Some path
+  pub from : path.source ≡ source
+  pub to : path.destination ≡ destination
+
+-- packets of any path record, from the switch on to which the port of its source is cabled, and however far they go, take no such hop
+abbrev pub TakeNoHop : NetState → TablesState → List PathSl → (Hop → Bool) → Type 0
+TakeNoHop net tables paths test =
+    (place count : ℕ) (path : PathSl) (from to at : PortRef) → slice_get paths place ≡ Some path
+    → others_end net tables.aims path.source ≡ Some from → others_end net tables.aims path.destination ≡ Some to
+    → far_end net.plan.cables from ≡ Some at → is_switch_at net.plan.nodes at.node ≡ true → list_any test (hops_within net tables path count at) ≡ false
+
+pub record AreSafeLanes (net : NetState) (tables : TablesState) (paths : List PathSl) : Type 0 where
+  -- no lanes wait for one another in a cycle, however long
+  pub free : (ring : List Lane) → are_lanes net ring ≡ true → is_cycle (waits_by_records net tables paths) ring ≡ false
+  -- there is a record of each two of these LIDs, either way, unless both are of one port
+  pub named : (a b : OwnedLid) → IsOwned net tables.aims a → IsOwned net tables.aims b → is_same_port a.end b.end ≡ false → HasRecord paths a.lid b.lid
+  -- there is a row for each hop of their packets, and none is dropped
+  pub known : TakeNoHop net tables paths lacks_row
+  pub kept : TakeNoHop net tables paths is_dropped
+
+-- this says so if and only if routes are safe by virtual lanes: they are safe, credit loops aside, and so are the lanes
+pub record ReportsSafeLanes (says : NetState → TablesState → List PathSl → LaneVerdict) : Type 0 where
+  pub safe : (net : NetState) (tables : TablesState) (paths : List PathSl) (routes : Verdict) → all_are_safe routes (says net tables paths) ≡ true
+      → (leads routes ≡ true) × AreSafeLanes net tables paths
+  pub reported : (net : NetState) (tables : TablesState) (paths : List PathSl) (routes : Verdict) → leads routes ≡ true
+      → AreSafeLanes net tables paths → all_are_safe routes (says net tables paths) ≡ true
+
+abbrev pub says_of_lanes : NetState → TablesState → List PathSl → LaneVerdict
+says_of_lanes net tables paths =
+    lane_verdict net tables.aims paths (traces net tables paths) (lane_deadlock net tables.aims (traces net tables paths))
+
+abbrev pub SafeLanesAreReported : Type 0
+SafeLanesAreReported = ReportsSafeLanes says_of_lanes

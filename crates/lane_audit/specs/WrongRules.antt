@@ -1,5 +1,6 @@
 -- Wrong rules for what is reported of lanes, and the law that each breaks.
-use Rattle.std.specs.Prelude.{ℕ, ◌+◌, ◌==◌, ◌&&◌, Bool, true, false, not, List, [], ◌∷◌, codes, filter, map, Option, Some, None, option_map}
+use Rattle.std.specs.Prelude.{ℕ, ◌+◌, ◌==◌, ◌&&◌, ◌||◌, Bool, true, false, not, List, [], ◌∷◌, codes, filter, flat_map, map, Option, Some, None, option_map}
+use Rattle.std.specs.List.{list_all}
 use Rattle.std.specs.Option.{option_map_or}
 use Rattle.fabric_parts.specs.Cable.{port}
 use Rattle.fabric_parts.specs.declared.cable.PortRef.{PortRef}
@@ -18,10 +19,12 @@ use Rattle.route_audit.specs.Verdict.{reasons, with_reason}
 use Rattle.route_audit.specs.declared.verdict.Verdict.{Verdict}
 use Rattle.lane_audit.specs.declared.hop.Hop.{Hop}
 use Rattle.lane_audit.specs.declared.lane.Lane.{Lane}
+use Rattle.lane_audit.specs.declared.owned.OwnedLid.{OwnedLid}
 use Rattle.lane_audit.specs.declared.verdict.LaneVerdict.{LaneVerdict}
 use Rattle.lane_audit.specs.Deadlock.{deadlock_among, lane_deadlock}
 use Rattle.lane_audit.specs.Lanes.{lane, lanes, some_take, waits}
-use Rattle.lane_audit.specs.Laws.{AreEnoughHops, LanesFollowChannels, MissesNone, NamesAllReasons, Reports, ReportsCycles, Waiting, waits_by_records}
+use Rattle.lane_audit.specs.Laws.{AreEnoughHops, LanesFollowChannels, MissesNone, NamesAllReasons, Reports, ReportsCycles, ReportsSafeLanes, Waiting, says_of_lanes, waits_by_records}
+use Rattle.lane_audit.specs.Records.{has_record, is_pair, owned}
 use Rattle.lane_audit.specs.Tables.{TablesState}
 use Rattle.lane_audit.specs.Verdict.{joined}
 
@@ -153,3 +156,61 @@ routes_that free = record { has_lids = true; is_reached = true; is_free = free; 
 
 abbrev pub lanes_that : (drop : Bool) → LaneVerdict
 lanes_that drop = record { is_free = true; has_paths = true; has_rows = true; drops = drop }
+
+-- ---- a record either way is enough
+abbrev pub has_either : List PathSl → OwnedLid → OwnedLid → Bool
+has_either paths a b = has_record paths a b || has_record paths b a
+
+abbrev pub either_from : List PathSl → List OwnedLid → OwnedLid → List Bool
+either_from paths all a = map (has_either paths a) (filter (is_pair a) all)
+
+abbrev pub with_either : NetState → TablesState → List PathSl → LaneVerdict
+with_either net tables paths =
+    record (says_of_lanes net tables paths) { has_paths = list_all (λ is. is) (flat_map (either_from paths (owned net tables.aims)) (owned net tables.aims)) }
+
+abbrev pub EachWayHasItsRecord : Type 0
+EachWayHasItsRecord = ReportsSafeLanes with_either → ⊥
+
+-- of two CAs that no cable joins, with LIDs 1 and 2, there is a record from LID 1 to LID 2
+abbrev pub apart_net : NetState
+apart_net = record {
+  plan = plan_of (record {
+    nodes = record { name = codes "h"; node_type = ChannelAdapter; guid = 256; ports = 1 }
+        ∷ record { name = codes "i"; node_type = ChannelAdapter; guid = 512; ports = 1 } ∷ [];
+    cables = [];
+    roots = [];
+    sm = port 0 1;
+  });
+  dump = record { tables = [] };
+}
+
+abbrev pub apart_tables : TablesState
+apart_tables = record { aims = record { lid = 1; guid = None; end = Some (port 0 1) } ∷ record { lid = 2; guid = None; end = Some (port 1 1) } ∷ []; rows = [] }
+
+abbrev pub there_alone : List PathSl
+there_alone = record { source = 1; destination = 2; sl = 0 } ∷ []
+
+-- ---- rows that are missing are not looked at
+abbrev pub without_rows : NetState → TablesState → List PathSl → LaneVerdict
+without_rows net tables paths = record (says_of_lanes net tables paths) { has_rows = true }
+
+abbrev pub MissingRowsAreUnknown : Type 0
+MissingRowsAreUnknown = ReportsSafeLanes without_rows → ⊥
+
+-- LIDs 1 and 3 are of the CA at the switch with a cable to itself, and no row is known
+abbrev pub own_tables : List LaneRow → TablesState
+own_tables rows = record { aims = record { lid = 1; guid = None; end = Some (port 1 1) } ∷ record { lid = 3; guid = None; end = Some (port 1 1) } ∷ []; rows = rows }
+
+-- ---- packets are dropped, and that is no matter
+abbrev pub without_drops : NetState → TablesState → List PathSl → LaneVerdict
+without_drops net tables paths = record (says_of_lanes net tables paths) { drops = false }
+
+abbrev pub DroppedPacketsAreLost : Type 0
+DroppedPacketsAreLost = ReportsSafeLanes without_drops → ⊥
+
+-- LIDs 1 and 3 are the CA's, and LID 2 the switch's, whose row from port 3 to port 1 has VL 15
+abbrev pub dropping_tables : TablesState
+dropping_tables = record {
+  aims = record { lid = 1; guid = None; end = Some (port 1 1) } ∷ record { lid = 2; guid = None; end = Some (port 0 0) } ∷ record { lid = 3; guid = None; end = Some (port 1 1) } ∷ [];
+  rows = round_row 3 15 ∷ [];
+}

@@ -1,6 +1,7 @@
 //! Laws of hops, of cycles of lanes, and of verdicts. The functions do nothing; their clauses are the theorems.
 
 ghost use Rattle.lane_audit.specs.Laws.{AllReasonsAreNamed, LaneCyclesWait, LanesMakeNoLoop, NoHopIsMissed, NoLaneCycleIsMissed};
+ghost use Rattle.lane_audit.specs.Laws.{SafeLanesAreReported};
 
 /// Packets that loop are followed far enough: farther on they take no other hop, and no other two lanes one behind the other.
 pub fn no_hop_is_missed()
@@ -25,4 +26,11 @@ pub fn lanes_make_no_loop()
 /// A verdict that is not safe names a reason, and it names each reason if and only if that holds.
 pub fn all_reasons_are_named()
     ensures { AllReasonsAreNamed }
+{}
+
+/// The verdict is safe if and only if the conditions of an audit hold, credit loops aside (`leading_routes_are_reported` of
+/// `route_audit`); no lanes wait for one another in a cycle; there is a path record of each two LIDs of two CA ports, either way;
+/// there is a row for each hop of the packets of these records, however far they go; and none of them is dropped.
+pub fn safe_lanes_are_reported()
+    ensures { SafeLanesAreReported }
 {}

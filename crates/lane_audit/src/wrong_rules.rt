@@ -2,6 +2,7 @@
 //! function does nothing: its contract says that with this rule the law is false.
 
 ghost use Rattle.lane_audit.specs.WrongRules.{DropsAreAReason, EachVlCounts, LanesAreApart, LanesDecideOnDeadlocks, OneMoreIsNotEnough};
+ghost use Rattle.lane_audit.specs.WrongRules.{DroppedPacketsAreLost, EachWayHasItsRecord, MissingRowsAreUnknown};
 ghost use Rattle.lane_audit.specs.WrongRules.{OneRoundIsNotEnough, PacketsFollowEntries, SwitchLidsDoNotCount, UnplacedLidsCount};
 
 /// If packets are followed through as many switches as there are, a hop is missed that they take when they come to one again.
@@ -47,4 +48,19 @@ pub fn drops_are_a_reason()
 /// If a deadlock by the entries is a reason, it is named though lanes make none.
 pub fn lanes_decide_on_deadlocks()
     ensures { LanesDecideOnDeadlocks }
+{}
+
+/// If a record either way is enough, it is safe though a pair has none.
+pub fn each_way_has_its_record()
+    ensures { EachWayHasItsRecord }
+{}
+
+/// If rows that are missing are not looked at, it is safe though a hop has none.
+pub fn missing_rows_are_unknown()
+    ensures { MissingRowsAreUnknown }
+{}
+
+/// If dropped packets are no matter, it is safe though a switch drops some.
+pub fn dropped_packets_are_lost()
+    ensures { DroppedPacketsAreLost }
 {}

@@ -226,15 +226,17 @@ module _ (plan : TopologyState) (sound : IsSound plan) (keys : List (List ℕ)) 
   -- ---- so they are safe
   pub are_safe : AreSafe net
   are_safe = record {
-    named = λ end is. it_names_each_port plan keys routes fabric end sound up is.0 is.1;
-    reached = λ place lid end carries below is host.
-        comes_there net place lid end
-        (reached plan sound keys routes fabric up (dump_of plan routes.lids fabric) (a_dump_shows_what_is_held plan keys routes fabric sound up) lid end is
-        place carries (host_is_no_switch (plan_of plan) end.node host));
+    lead = record {
+      named = λ end is. it_names_each_port plan keys routes fabric end sound up is.0 is.1;
+      reached = λ place lid end carries below is host.
+          comes_there net place lid end
+          (reached plan sound keys routes fabric up (dump_of plan routes.lids fabric) (a_dump_shows_what_is_held plan keys routes fabric sound up) lid end is
+          place carries (host_is_no_switch (plan_of plan) end.node host));
+      same = same;
+      known = λ place lid next switch there goes unknown. known place lid next switch goes unknown;
+    };
     free = no_cycle_is_missed net (other_lids net)
         (is_free plan sound keys routes fabric up (dump_of plan routes.lids fabric) (a_dump_shows_what_is_held plan keys routes fabric sound up) (other_lids net));
-    same = same;
-    known = λ place lid next switch there goes unknown. known place lid next switch goes unknown;
   }
 
 pub own_routes_are_safe : OwnRoutesAreSafe

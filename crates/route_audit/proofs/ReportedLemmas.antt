@@ -23,7 +23,7 @@ use Rattle.audit_net.specs.Attached.{carries_host, leads_to_host}
 use Rattle.route_audit.specs.Audit.{audit_of, credit_loop}
 use Rattle.credit_loops.specs.Channels.{deadlock}
 use Rattle.audit_net.specs.Following.{end_from, fate_by, turn}
-use Rattle.route_audit.specs.Laws.{AreSafe, CarriesAHost, IsOfKind, NameTheSame, SafeRoutesAreReported, other_lids, says_safe}
+use Rattle.route_audit.specs.Laws.{AreSafe, CarriesAHost, IsOfKind, LeadThere, LeadingRoutesAreReported, NameTheSame, SafeRoutesAreReported, other_lids, says_lead, says_safe}
 use Rattle.lid_owners.specs.Laws.{end_port_of}
 use Rattle.lid_owners.specs.Lids.{aim_of, aims, all_lids, has_lid, have_lids, is_known_lid, is_lacking, is_of, is_of_fabric, known_lids, says_of_fabric}
 use Rattle.audit_net.specs.Net.{NetState, has_table, row_at}
@@ -32,7 +32,7 @@ use Rattle.route_audit.specs.Pairs.{all_reached, between_hosts, is_between_hosts
 use Rattle.route_audit.specs.Verdict.{goes_on_known, have_tables, is_known, is_unknown, knows_all, knows_entries, knows_next, name_the_same}
 use Rattle.credit_loops.proofs.CycleLawLemmas.{reported_loops_wait}
 use Rattle.audit_net.proofs.EndlessLemmas.{in_kept, ways_are_followed}
-use Rattle.route_audit.proofs.SafeLemmas.{flat_mapped, has_end, reported_is_safe}
+use Rattle.route_audit.proofs.SafeLemmas.{flat_mapped, has_end, reported_is_safe, reported_leads}
 use Rattle.lid_owners.proofs.LidLemmas.{in_lids}
 
 itself : (at : PortRef) → is_same_port at at ≡ true
@@ -126,7 +126,7 @@ in_mapped net end lid (n ∷ lids) there is = elim (cases_Bool (n == lid)) [
   | inr other ↦ or_right (is_of end (aim_of net n)) _ (in_mapped net end lid lids (rw other at there) is)
 ]
 
-port_has : (net : NetState) (at : PortRef) → AreSafe net → is_cabled net.plan.cables at ≡ true → has_lid net (aims net) at ≡ true
+port_has : (net : NetState) (at : PortRef) → LeadThere net → is_cabled net.plan.cables at ≡ true → has_lid net (aims net) at ≡ true
 port_has net at safe cabled = elim (cases_Bool (is_switch_at net.plan.nodes at.node)) [
   | inl switch ↦ rw switch refl
   | inr adapter ↦
@@ -145,7 +145,7 @@ all_cables p whole (cable ∷ cables) among each =
     and_from (p cable) _ (each cable (λ at ends. among at (rw ends refl)))
     (all_cables p whole cables (λ at is. among at (or_right (ends_at at cable) _ is)) each)
 
-cables_have : (net : NetState) → AreSafe net → list_all (have_lids net (aims net)) net.plan.cables ≡ true
+cables_have : (net : NetState) → LeadThere net → list_all (have_lids net (aims net)) net.plan.cables ≡ true
 cables_have net safe =
     all_cables (have_lids net (aims net)) net.plan.cables net.plan.cables (λ at is. is)
     (λ cable ends. and_from (has_lid net (aims net) cable.first) _
@@ -220,7 +220,7 @@ carried net place switch some = by found.0 found.1 found.2 (far_end net.plan.cab
       host = leads;
     }
 
-all_pairs : (net : NetState) → AreSafe net → all_reached (between_hosts (pairs_by net (aims net))) ≡ true
+all_pairs : (net : NetState) → LeadThere net → all_reached (between_hosts (pairs_by net (aims net))) ≡ true
 unfolding all_lids
 all_pairs net safe =
     each_in_range (pairs_at net (aims net)) (is_switch_at net.plan.nodes) 0 (length net.plan.nodes)
@@ -249,7 +249,7 @@ unknown_is (turns.Arrives there) is = absurd (false≢true is)
 unknown_is turns.Hole is = absurd (false≢true is)
 unknown_is (turns.Nowhere number) is = absurd (false≢true is)
 
-knows_one : (net : NetState) → AreSafe net → (place lid : ℕ) → is_switch_at net.plan.nodes place ≡ true → list_any (λ n. n == lid) (other_lids net) ≡ true
+knows_one : (net : NetState) → LeadThere net → (place lid : ℕ) → is_switch_at net.plan.nodes place ≡ true → list_any (λ n. n == lid) (other_lids net) ≡ true
     → knows_next net place lid ≡ true
 knows_one net safe place lid switch there = by (turn net lid place) refl
   where
@@ -269,7 +269,7 @@ all_listed p whole [] among each = refl
 all_listed p whole (x ∷ xs) among each =
     and_from (p x) _ (each x (among x (or_left (x == x) _ (eq-eqb x x refl)))) (all_listed p whole xs (λ y is. among y (or_right (x == y) _ is)) each)
 
-knows_each : (net : NetState) → AreSafe net → knows_entries net (other_lids net) ≡ true
+knows_each : (net : NetState) → LeadThere net → knows_entries net (other_lids net) ≡ true
 knows_each net safe =
     all_kept (knows_all net (other_lids net)) (is_switch_at net.plan.nodes) (range_with_len 0 (length net.plan.nodes))
     (λ place switch.
@@ -278,10 +278,19 @@ knows_each net safe =
 safe_is_reported : (net : NetState) → AreSafe net → says_safe net ≡ true
 unfolding audit_of
 safe_is_reported net safe =
-    and_from (list_all (have_lids net (aims net)) net.plan.cables) _ (cables_have net safe)
-    (and_from (all_reached (between_hosts (pairs_by net (aims net)))) _ (all_pairs net safe)
+    and_from (list_all (have_lids net (aims net)) net.plan.cables) _ (cables_have net safe.lead)
+    (and_from (all_reached (between_hosts (pairs_by net (aims net)))) _ (all_pairs net safe.lead)
     (and_from (is_none (credit_loop net (aims net))) _ (no_ring net safe)
-    (and_from (name_the_same net (aims net)) _ (all_same net safe.same) (knows_each net safe))))
+    (and_from (name_the_same net (aims net)) _ (all_same net safe.lead.same) (knows_each net safe.lead))))
+
+leading_is_reported : (net : NetState) → LeadThere net → says_lead net ≡ true
+leading_is_reported net lead =
+    and_from (list_all (have_lids net (aims net)) net.plan.cables) _ (cables_have net lead)
+    (and_from (all_reached (between_hosts (pairs_by net (aims net)))) _ (all_pairs net lead)
+    (and_from (name_the_same net (aims net)) _ (all_same net lead.same) (knows_each net lead)))
+
+pub leading_routes_are_reported : LeadingRoutesAreReported
+leading_routes_are_reported = record { lead = reported_leads; reported = leading_is_reported }
 
 pub safe_routes_are_reported : SafeRoutesAreReported
 safe_routes_are_reported = record { safe = reported_is_safe; reported = safe_is_reported }

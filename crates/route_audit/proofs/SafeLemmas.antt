@@ -27,7 +27,7 @@ use Rattle.route_audit.specs.declared.pairs.Pair.{Pair}
 use Rattle.audit_net.specs.Attached.{carries_host, leads_to_host}
 use Rattle.route_audit.specs.Audit.{audit_of, credit_loop}
 use Rattle.audit_net.specs.Following.{end_from, fate_by, switch_total, turn}
-use Rattle.route_audit.specs.Laws.{AreSafe, CarriesAHost, IsAdaptersEnd, IsOfKind, NameTheSame, other_lids, says_safe}
+use Rattle.route_audit.specs.Laws.{AreSafe, CarriesAHost, IsAdaptersEnd, IsOfKind, LeadThere, NameTheSame, other_lids, says_lead, says_safe}
 use Rattle.audit_net.specs.Laws.{EndsBy}
 use Rattle.lid_owners.specs.Laws.{end_port_of}
 use Rattle.lid_owners.specs.Lids.{aim_of, aims, all_lids, end_by, has_lid, have_lids, if_of_kind, is_known_lid, is_lacking, is_named, is_of, is_of_fabric, is_of_kind, known_lids, owner_of, reported_end, says_kind, says_of_fabric}
@@ -342,17 +342,26 @@ entries_known net all place lid next switch there goes unknown =
     let none : knows_next net place lid ≡ false = ap (goes_on_known net lid) goes ∙ ap (λ (turned : Turn). not (is_unknown turned)) unknown in
     false≢true (sym none ∙ one)
 
+pub reported_leads : (net : NetState) → says_lead net ≡ true → LeadThere net
+reported_leads net says =
+    let lids = and_parts (list_all (have_lids net (aims net)) net.plan.cables) _ says in
+    let all = and_parts (all_reached (between_hosts (pairs_by net (aims net)))) _ lids.1 in
+    let same = and_parts (name_the_same net (aims net)) _ all.1 in
+    record {
+      named = λ end is. names net end lids.0 is;
+      reached = reaches net all.0;
+      same = names_same net same.0;
+      known = entries_known net same.1;
+    }
+
 pub reported_is_safe : (net : NetState) → says_safe net ≡ true → AreSafe net
 unfolding audit_of
 reported_is_safe net safe =
     let lids = and_parts (list_all (have_lids net (aims net)) net.plan.cables) _ safe in
     let all = and_parts (all_reached (between_hosts (pairs_by net (aims net)))) _ lids.1 in
     let free = and_parts (is_none (credit_loop net (aims net))) _ all.1 in
-    let same = and_parts (name_the_same net (aims net)) _ free.1 in
     record {
-      named = λ end is. names net end lids.0 is;
-      reached = reaches net all.0;
+      lead = reported_leads net (and_from (list_all (have_lids net (aims net)) net.plan.cables) _ lids.0
+          (and_from (all_reached (between_hosts (pairs_by net (aims net)))) _ all.0 free.1));
       free = no_cycle_is_missed net (other_lids net) (no_ring (credit_loop net (aims net)) free.0);
-      same = names_same net same.0;
-      known = entries_known net same.1;
     }

@@ -14,17 +14,17 @@ use Rattle.topo_file.specs.Node.{is_switch_at}
 use Rattle.route_audit.specs.Audit.{audit_of}
 use Rattle.credit_loops.specs.Channels.{depends}
 use Rattle.audit_net.specs.Following.{end_within}
-use Rattle.route_audit.specs.Laws.{CarriesAHost, other_lids, says_safe}
+use Rattle.route_audit.specs.Laws.{CarriesAHost, other_lids, says_lead, says_safe}
 use Rattle.audit_net.specs.Laws.{ComesBy, IsWay}
 use Rattle.credit_loops.specs.Laws.{is_cycle}
 use Rattle.lid_owners.specs.Lids.{aim_of, aims, all_lids, is_known_lid, is_named, reported_by}
 use Rattle.audit_net.specs.Net.{NetState, table_at}
 use Rattle.route_audit.specs.Verdict.{is_unknown}
 use Rattle.audit_plan.specs.declared.ends.LidGuid.{LidGuid}
-use Rattle.route_audit.specs.WrongRules.{AggregationDecidesNothing, UnknownEntriesDecide, an_aggregations_hole, an_unknown_entry, to_each_adapter, with_unknown, EachStepHasItsLid, LidsGoOnRound, LostPairsAreAReason, ReasonsHold, all_three, both_ways, one_way, three_ways, HolesAreCounted, HolesHaveALine, LidsAreAsked, LoopsHaveALine, NobodysLoopsHaveALine, OtherLidsDecide, OtherPortsDecide, OtherTablesDecide, OthersHolesHaveALine, RowsLeftOutHaveALine, TransitDecidesNothing, WaysAreAsked, a_row_left_out, a_hole_at_home, a_loop, a_nobodys_loop, a_routers_hole, a_routers_loop, a_third_table, another_adapter, another_row, by_adapters_lids, from_each_switch, is_going, is_hole, no_lids, silent_of_nobody, silent_where, with_other_ports, with_other_tables, without_lids, without_ways}
+use Rattle.route_audit.specs.WrongRules.{AggregationDecidesNothing, CreditLoopsAreApart, UnknownEntriesDecide, an_aggregations_hole, an_unknown_entry, to_each_adapter, with_unknown, EachStepHasItsLid, LidsGoOnRound, LostPairsAreAReason, ReasonsHold, all_three, both_ways, one_way, three_ways, HolesAreCounted, HolesHaveALine, LidsAreAsked, LoopsHaveALine, NobodysLoopsHaveALine, OtherLidsDecide, OtherPortsDecide, OtherTablesDecide, OthersHolesHaveALine, RowsLeftOutHaveALine, TransitDecidesNothing, WaysAreAsked, a_row_left_out, a_hole_at_home, a_loop, a_nobodys_loop, a_routers_hole, a_routers_loop, a_third_table, another_adapter, another_row, by_adapters_lids, from_each_switch, is_going, is_hole, no_lids, silent_of_nobody, silent_where, with_other_ports, with_other_tables, without_lids, without_ways}
 use Rattle.audit_net.specs.SmallNets.{a_hole, adapters_row, two_with, with_rows}
 use Rattle.lid_owners.proofs.LidLemmas.{filter_alike, or_last}
-use Rattle.route_audit.proofs.SafeLemmas.{reported_is_safe}
+use Rattle.route_audit.proofs.SafeLemmas.{reported_is_safe, reported_leads}
 
 pub holes_are_counted : HolesAreCounted
 holes_are_counted law = let none : ◌≡◌ {A = ℕ} 0 1 = law (record { from_hosts = true; to_host = true; to_switch = false; fate = fates.Hole } ∷ []) in cc
@@ -91,7 +91,7 @@ few_aims net none below = aims_by net 3 refl none below
 pub lids_are_asked : LidsAreAsked
 lids_are_asked law =
     let reported : without_lids no_lids ≡ true = rw (few_aims no_lids refl refl) refl in
-    let named = (law.safe no_lids reported).named (port 2 1) (refl, refl) in
+    let named = (law.safe no_lids reported).lead.named (port 2 1) (refl, refl) in
     let is : (aim_of no_lids named.0).end ≡ Some (port 2 1) = named.2 in
     cc
 
@@ -105,7 +105,7 @@ hole_ends (next ∷ way) is = let e : turns.Hole ≡ turns.Goes next = is.0 in c
 pub ways_are_asked : WaysAreAsked
 ways_are_asked law =
     let reported : without_ways a_hole_at_home ≡ true = rw (few_aims a_hole_at_home refl refl) refl in
-    let way = (law.safe a_hole_at_home reported).reached 0 1 (port 2 1) (first_carries _ _) (lit< tt) refl refl in
+    let way = (law.safe a_hole_at_home reported).lead.reached 0 1 (port 2 1) (first_carries _ _) (lit< tt) refl refl in
     hole_ends way.0 way.1
 
 pub lost_pairs_are_a_reason : LostPairsAreAReason
@@ -137,23 +137,25 @@ pub aggregation_decides_nothing : AggregationDecidesNothing
 aggregation_decides_nothing law =
     false≢true (sym aggregation_is_asked ∙ law.reported an_aggregations_hole (reported_is_safe an_aggregations_hole aggregation_is_safe))
 
+loop_waits : is_cycle (depends a_routers_loop (other_lids a_routers_loop)) (port 0 2 ∷ port 1 1 ∷ []) ≡ true
+loop_waits = rw (few_aims a_routers_loop refl refl) refl
+
 pub other_lids_decide : OtherLidsDecide
 other_lids_decide law =
     let reported : by_adapters_lids a_routers_loop ≡ true = rw (few_aims a_routers_loop refl refl) refl in
     let free = (law.safe a_routers_loop reported).free (port 0 2 ∷ port 1 1 ∷ []) refl in
-    let waits : is_cycle (depends a_routers_loop (other_lids a_routers_loop)) (port 0 2 ∷ port 1 1 ∷ []) ≡ true = rw (few_aims a_routers_loop refl refl) refl in
-    false≢true (sym free ∙ waits)
+    false≢true (sym free ∙ loop_waits)
 
 pub other_tables_decide : OtherTablesDecide
 other_tables_decide law =
     let reported : with_other_tables a_third_table ≡ true = rw (few_aims a_third_table refl refl) refl in
-    let known = (law.safe a_third_table reported).same.switches 2 (with_rows 48 (adapters_row 1 ∷ [])) refl in
+    let known = (law.safe a_third_table reported).lead.same.switches 2 (with_rows 48 (adapters_row 1 ∷ [])) refl in
     false≢true known
 
 pub other_ports_decide : OtherPortsDecide
 other_ports_decide law =
     let reported : with_other_ports another_adapter ≡ true = rw (few_aims another_adapter refl refl) refl in
-    let end = (law.safe another_adapter reported).same.ends 0 2 another_row refl (lit< tt) refl in
+    let end = (law.safe another_adapter reported).lead.same.ends 0 2 another_row refl (lit< tt) refl in
     let is : (aim_of another_adapter 2).end ≡ Some end.0 = end.1 in
     cc
 
@@ -161,7 +163,16 @@ pub unknown_entries_decide : UnknownEntriesDecide
 unknown_entries_decide law =
     let reported : with_unknown an_unknown_entry ≡ true = rw (aims_to_64 an_unknown_entry refl refl) refl in
     let among : list_any (λ n. n == 64) (other_lids an_unknown_entry) ≡ true = rw (aims_to_64 an_unknown_entry refl refl) refl in
-    (law.safe an_unknown_entry reported).known 0 64 1 refl among refl refl
+    (law.safe an_unknown_entry reported).lead.known 0 64 1 refl among refl refl
+
+-- the routes of the loop lead there
+loop_leads : says_lead a_routers_loop ≡ true
+loop_leads = rw (few_aims a_routers_loop refl refl) refl
+
+pub credit_loops_are_apart : CreditLoopsAreApart
+credit_loops_are_apart law =
+    let safe = reported_is_safe a_routers_loop (law.reported a_routers_loop (reported_leads a_routers_loop loop_leads)) in
+    false≢true (sym (safe.free (port 0 2 ∷ port 1 1 ∷ []) refl) ∙ loop_waits)
 
 -- ---- lines that are lacking
 loop_is_silent : (there : ℕ) → is_switch_at a_loop.plan.nodes there ≡ true → silent_where is_going a_loop there (aim_of a_loop 1) ≡ []

@@ -1,24 +1,25 @@
 -- What lines are, in examples.
-use Rattle.std.specs.Prelude.{ℕ, ◌≡◌, Bool, true, false, not, List, [], ◌∷◌, ◌++◌, codes, Some, None}
+use Rattle.std.specs.Prelude.{ℕ, ◌≡◌, Bool, true, false, not, List, [], ◌∷◌, ◌++◌, codes, flat_map, Some, None}
 use Rattle.dump_file.specs.declared.destination.Destination.TheVariants.{Nobody}
 use Rattle.dump_file.specs.declared.row.Row.{Row}
 use Rattle.dump_file.specs.declared.table.Table.{Table}
 use Rattle.fabric_parts.specs.Cable.{port}
+use Rattle.fabric_parts.specs.declared.cable.PortRef.{PortRef}
 use Rattle.fabric_parts.specs.declared.node_type.NodeType.TheVariants.{ChannelAdapter, Switch as SwitchNode}
 use Rattle.topo_file.specs.Topology.{TopologyState}
 use Rattle.audit_plan.specs.Plan.{plan_of}
 use Rattle.lid_owners.specs.declared.lids.Aim.{Aim}
 use Rattle.route_audit.specs.declared.verdict.Verdict.{Verdict}
 use Rattle.route_audit.specs.Asks.{asks_by}
-use Rattle.route_audit.specs.Audit.{count_line, counts_by, deadlock_words, ring_line}
+use Rattle.route_audit.specs.Audit.{count_line, counts_by, credit_loop, deadlock_words, lines_by, ring_line, switches_credit_loop, text_by}
 use Rattle.lid_owners.specs.Lids.{aim_of}
 use Rattle.text_parts.specs.Parts.{guid_text}
-use Rattle.route_audit.specs.Lines.{leaves_out, no_lid_lines, no_port_line, no_switch_line, no_table_line, stray_line, trouble_line, troubles_by, unreported_line}
+use Rattle.route_audit.specs.Lines.{files_by, leaves_out, no_lid_lines, no_port_line, no_switch_line, no_table_line, stray_line, trouble_line, troubles_by, unreported_line}
 use Rattle.audit_net.specs.Net.{NetState}
 use Rattle.route_audit.specs.Pairs.{pairs_by}
 use Rattle.route_audit.specs.Verdict.{verdict_line}
 use Rattle.audit_net.specs.SmallNets.{a_hole, a_plan, a_row, a_table, with_entries, with_rows}
-use Rattle.route_audit.specs.WrongRules.{a_routers_hole, a_routers_loop, a_row_left_out}
+use Rattle.route_audit.specs.WrongRules.{a_routers_hole, a_routers_loop, a_row_left_out, an_aggregations_hole}
 use Rattle.audit_net.specs.Examples.{topped}
 
 -- the LID of the adapter's port
@@ -52,8 +53,23 @@ pub record DeadlocksAreReported : Type 0 where
   pub to_the_adapter : ring_line (with_entries 2 1) (codes "deadlock") (an_aim ∷ []) (Some (port 0 2 ∷ port 1 1 ∷ []))
       ≡ codes "deadlock A/2 B/1 by LIDs 1 (h/1) 1 (h/1)\n"
   pub none : ring_line (with_entries 1 1) (codes "deadlock") (an_aim ∷ []) None ≡ []
+  -- along the LID of an adapter it is looked for first; along that of a switch only if those alone make none
+  pub of_adapters : credit_loop (with_entries 2 1) (an_aim ∷ []) ≡ Some (port 0 2 ∷ port 1 1 ∷ [])
+  pub of_adapters_alone : switches_credit_loop (with_entries 2 1) (an_aim ∷ []) ≡ None
+  pub of_no_adapters : credit_loop (with_entries 2 1) (record an_aim { end = Some (port 0 0) } ∷ []) ≡ None
+  pub of_switches : switches_credit_loop (with_entries 2 1) (record an_aim { end = Some (port 0 0) } ∷ []) ≡ Some (port 0 2 ∷ port 1 1 ∷ [])
 
--- what the files lack of one another
+-- ---- what the files lack of one another
+-- a cable between two end ports, a table of no switch, and one whose top is a high multiple of 64
+abbrev some_lacks : NetState
+some_lacks = record {
+  plan = record a_hole.plan { apart = record { first = port 2 1; second = port 2 2 } ∷ [] };
+  dump = record { tables = topped 49088 ∷ a_table 256 1 ∷ [] };
+}
+
+abbrev lost_aim : Aim
+lost_aim = record { lid = 3; guid = Some 999; end = None }
+
 pub record LacksAreReported : Type 0 where
   pub has_the_row : leaves_out 1 (topped 1) ≡ false
   pub table : no_table_line (astray 2) 1 ≡ codes "no-table B\n"
@@ -64,6 +80,12 @@ pub record LacksAreReported : Type 0 where
   pub lid : no_lid_lines a_hole [] (record { first = port 0 1; second = port 2 1 }) ≡ codes "no-lid h/1\n"
   pub untold : unreported_line a_row_left_out [] 64 ≡ codes "untold 64\n"
   pub told : unreported_line a_row_left_out (record an_aim { lid = 64 } ∷ []) 64 ≡ []
+  pub lid_of_first : no_lid_lines a_hole [] (record { first = port 2 1; second = port 0 1 }) ≡ codes "no-lid h/1\n"
+  pub nobodys_lid : no_port_line (record { lid = 3; guid = None; end = None }) ≡ []
+  -- all of them, in this order
+  pub all : files_by some_lacks (lost_aim ∷ [])
+      ≡ codes "# passed over: h/1 h/2\nno-table B\n" ++ flat_map (no_switch_line some_lacks) some_lacks.dump.tables
+      ++ flat_map no_port_line (lost_aim ∷ []) ++ codes "no-lid h/1\n" ++ codes "untold 49088\n"
   pub has_lid : no_lid_lines a_hole (an_aim ∷ []) (record { first = port 0 1; second = port 2 1 }) ≡ []
 
 -- ---- what to ask: of these two switches the first has 128 ports, its own LID is 3, and its table has these rows
@@ -95,6 +117,13 @@ pub record CountsAreReported : Type 0 where
       ++ codes "transit: 1 pairs, 0 reached, 0 holes, 0 nowhere, 0 wrong, 1 loops, 0 unknown\n"
       ++ codes "switches: 0 pairs, 0 reached, 0 holes, 0 nowhere, 0 wrong, 0 loops, 0 unknown\n"
       ++ codes "audit: 2 pairs, 0 reached, 0 holes, 0 nowhere, 0 wrong, 2 loops, 0 unknown, deadlock\n"
+  -- LIDs of aggregation nodes have a line of their own
+  pub of_aggregation : counts_by (pairs_by an_aggregations_hole (record { lid = 2; guid = Some 513; end = Some (port 3 1) } ∷ [])) true false
+      ≡ codes "adapters: 0 pairs, 0 reached, 0 holes, 0 nowhere, 0 wrong, 0 loops, 0 unknown, deadlock\n"
+      ++ codes "transit: 0 pairs, 0 reached, 0 holes, 0 nowhere, 0 wrong, 0 loops, 0 unknown\n"
+      ++ codes "aggregation: 2 pairs, 1 reached, 1 holes, 0 nowhere, 0 wrong, 0 loops, 0 unknown\n"
+      ++ codes "switches: 0 pairs, 0 reached, 0 holes, 0 nowhere, 0 wrong, 0 loops, 0 unknown\n"
+      ++ codes "audit: 2 pairs, 1 reached, 1 holes, 0 nowhere, 0 wrong, 0 loops, 0 unknown, deadlock\n"
 
 -- ---- the last line
 abbrev pub a_verdict : Bool → Bool → Bool → Bool → Bool → Verdict
@@ -124,3 +153,24 @@ pub record VerdictsAreReported : Type 0 where
   pub known : verdict_line (a_verdict true true true true false) ≡ codes "verdict: not safe (unknown)" ++ the_rest
   pub entries : verdict_line lacking ≡ codes "verdict: not safe (unknown)" ++ the_rest
   pub none : verdict_line (a_verdict false false false false false) ≡ codes "verdict: not safe (no-lid, unreached, deadlock, mismatch, unknown)" ++ the_rest
+
+-- ---- all lines, in their order
+-- two ports that wait for one another
+abbrev two_ports : List PortRef
+two_ports = port 0 2 ∷ port 1 1 ∷ []
+
+pub record TextsAreReported : Type 0 where
+  pub lines : lines_by (wide (a_row 3 0 Nobody ∷ [])) (own_aim ∷ an_aim ∷ []) (Some two_ports) (Some two_ports)
+      ≡ codes "left-out A 1 (h/1)\nhole B 3 (A/0)\nhole B 1 (h/1)\n"
+      ++ codes "# ask: ibroute 3, and append its table to the dump\ndeadlock A/2 B/1 by LIDs\ndeadlock switch-lids A/2 B/1 by LIDs\n"
+  pub safe : text_by (with_entries 1 1) (an_aim ∷ []) None None
+      ≡ codes "adapters: 1 pairs, 1 reached, 0 holes, 0 nowhere, 0 wrong, 0 loops, 0 unknown, no deadlock\n"
+      ++ codes "transit: 1 pairs, 1 reached, 0 holes, 0 nowhere, 0 wrong, 0 loops, 0 unknown\n"
+      ++ codes "switches: 0 pairs, 0 reached, 0 holes, 0 nowhere, 0 wrong, 0 loops, 0 unknown\n"
+      ++ codes "audit: 2 pairs, 2 reached, 0 holes, 0 nowhere, 0 wrong, 0 loops, 0 unknown, no deadlock\nverdict: safe" ++ the_rest
+  pub unsafe : text_by (with_entries 255 1) (an_aim ∷ []) None (Some two_ports)
+      ≡ codes "hole A 1 (h/1)\ndeadlock switch-lids A/2 B/1 by LIDs\n"
+      ++ codes "adapters: 1 pairs, 0 reached, 1 holes, 0 nowhere, 0 wrong, 0 loops, 0 unknown, no deadlock\n"
+      ++ codes "transit: 1 pairs, 0 reached, 1 holes, 0 nowhere, 0 wrong, 0 loops, 0 unknown\n"
+      ++ codes "switches: 0 pairs, 0 reached, 0 holes, 0 nowhere, 0 wrong, 0 loops, 0 unknown\n"
+      ++ codes "audit: 2 pairs, 0 reached, 2 holes, 0 nowhere, 0 wrong, 0 loops, 0 unknown, deadlock\nverdict: not safe (unreached)" ++ the_rest

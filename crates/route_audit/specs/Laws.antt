@@ -1,5 +1,5 @@
 -- What is so of all fabrics and dumps: the statements of the laws of `src/laws.rt`.
-use Rattle.std.specs.Prelude.{ℕ, ◌≡◌, ◌<◌, ◌≤◌, ◌+◌, ◌==◌, Bool, true, false, not, ◌&&◌, nat_eq, List, [], ◌∷◌, codes, drop, filter, get_or, length, slice_get, Option, Some, is_some}
+use Rattle.std.specs.Prelude.{ℕ, ◌≡◌, ◌<◌, ◌≤◌, ◌+◌, ◌==◌, Bool, true, false, not, ◌&&◌, nat_eq, List, [], ◌∷◌, codes, drop, filter, get_or, length, slice_get, Option, Some, None, is_some}
 use Rattle.std.specs.List.{list_any, range_with_len, starts_with}
 use Rattle.dump_file.specs.declared.destination.Destination.{Destination}
 use Rattle.dump_file.specs.declared.destination.Destination.TheVariants.{ChannelAdapter, Switch, Router, FurtherLid, Nobody, NotReported}
@@ -18,7 +18,7 @@ use Rattle.route_audit.specs.Audit.{audit_of, behind, closing, lids_of}
 use Rattle.credit_loops.specs.Channels.{channels, deadlock, depends}
 use Rattle.audit_net.specs.Following.{fate}
 use Rattle.lid_owners.specs.Lids.{aim_of, aims}
-use Rattle.route_audit.specs.Verdict.{is_others, reasons, verdict_by, verdict_is_safe}
+use Rattle.route_audit.specs.Verdict.{is_others, leads, reasons, verdict_by, verdict_is_safe}
 use Rattle.route_audit.specs.Lines.{has_switch, trouble_line}
 use Rattle.audit_net.specs.Net.{NetState, row_at, table_at}
 use Rattle.route_audit.specs.Pairs.{count_of}
@@ -117,19 +117,23 @@ pub record NameTheSame (net : NetState) : Type 0 where
   pub ends : (place lid : ℕ) (row : Row) → is_switch_at net.plan.nodes place ≡ true → lid < 65536 → row_at net lid place ≡ Some row
       → IsOfKind net lid row.destination
 
-pub record AreSafe (net : NetState) : Type 0 where
+-- credit loops aside
+pub record LeadThere (net : NetState) : Type 0 where
   -- each port of an adapter that has a cable has a LID
   pub named : (end : PortRef) → IsAdaptersEnd net end → (lid : ℕ) × (lid < 65536) × (end_port_of net lid ≡ Some end)
   -- from each switch to which a host is attached a way leads to the host's port of each LID
   pub reached : (place lid : ℕ) (end : PortRef) → CarriesAHost net place → lid < 65536 → end_port_of net lid ≡ Some end
       → is_host net.plan end.node ≡ true → EndsBy net lid place (turns.Arrives end)
-  -- along all LIDs but the switches' own no channels wait for one another in a cycle, however long
-  pub free : (ring : List PortRef) → are_channels net ring ≡ true → is_cycle (depends net (other_lids net)) ring ≡ false
   -- the dump is of this fabric
   pub same : NameTheSame net
   -- and if a switch sends one of these LIDs to another, the entry there is known
   pub known : (place lid next : ℕ) → is_switch_at net.plan.nodes place ≡ true → list_any (λ n. n == lid) (other_lids net) ≡ true
       → GoesTo net lid place next → IsUnknownAt net lid next → ⊥
+
+pub record AreSafe (net : NetState) : Type 0 where
+  pub lead : LeadThere net
+  -- along all LIDs but the switches' own no channels wait for one another in a cycle, however long
+  pub free : (ring : List PortRef) → are_channels net ring ≡ true → is_cycle (depends net (other_lids net)) ring ≡ false
 
 -- this says so if and only if routes are safe
 pub record ReportsSafe (says : NetState → Bool) : Type 0 where
@@ -141,6 +145,17 @@ says_safe net = (audit_of net).is_safe
 
 abbrev pub SafeRoutesAreReported : Type 0
 SafeRoutesAreReported = ReportsSafe says_safe
+
+-- and this, credit loops aside
+pub record ReportsLeading (says : NetState → Bool) : Type 0 where
+  pub lead : (net : NetState) → says net ≡ true → LeadThere net
+  pub reported : (net : NetState) → LeadThere net → says net ≡ true
+
+abbrev pub says_lead : NetState → Bool
+says_lead net = leads (verdict_by net (aims net) None)
+
+abbrev pub LeadingRoutesAreReported : Type 0
+LeadingRoutesAreReported = ReportsLeading says_lead
 
 -- ---- a verdict that is not safe has a reason, and each reason is named if and only if it holds
 -- the word stands somewhere in the text

@@ -82,6 +82,10 @@ verdict_by net all ring = record {
 abbrev pub verdict_is_safe : Verdict → Bool
 verdict_is_safe verdict = verdict.has_lids && (verdict.is_reached && (verdict.is_free && (verdict.is_same && verdict.is_known)))
 
+-- the same, credit loops aside
+abbrev pub leads : Verdict → Bool
+leads verdict = verdict_is_safe (record verdict { is_free = true })
+
 -- ---- the last line
 -- `verdict: safe, as if ..`, or `verdict: not safe (no-lid, deadlock), as if ..`, with each reason: of a pair that is not reached
 -- that it is lost, or that an entry is unknown

@@ -21,7 +21,7 @@ use Rattle.route_audit.specs.declared.verdict.Verdict.{Verdict}
 use Rattle.route_audit.specs.Audit.{closing, credit_loop, lids_of}
 use Rattle.credit_loops.specs.Channels.{deadlock, leaves_by}
 use Rattle.audit_net.specs.Following.{turn}
-use Rattle.route_audit.specs.Laws.{AddUp, NamesReasons, ReportsClosing, ReportsSafe, ReportsTroubles}
+use Rattle.route_audit.specs.Laws.{AddUp, NamesReasons, ReportsClosing, ReportsLeading, ReportsSafe, ReportsTroubles, says_safe}
 use Rattle.lid_owners.specs.Lids.{aims, is_lacking}
 use Rattle.route_audit.specs.Lines.{stray_line, trouble_line}
 use Rattle.audit_net.specs.Net.{NetState}
@@ -196,6 +196,10 @@ an_unknown_entry = record {
         ∷ record { line = 2; guid = 32; top = 64; rows = adapters_row 1 ∷ [] } ∷ [];
   };
 }
+
+-- credit loops count among the other conditions
+abbrev pub CreditLoopsAreApart : Type 0
+CreditLoopsAreApart = ReportsLeading says_safe → ⊥
 
 -- ---- what goes on has no line, or what is a hole
 abbrev pub is_going : Turn → Bool

@@ -1,6 +1,6 @@
 //! What entries, ports and lines are, computed. Each function does nothing: its contract is the example.
 
-ghost use Rattle.route_audit.specs.Examples.{AsksAreReported, CountsAreReported, DeadlocksAreReported, LacksAreReported, TroublesAreReported, VerdictsAreReported};
+ghost use Rattle.route_audit.specs.Examples.{AsksAreReported, CountsAreReported, DeadlocksAreReported, LacksAreReported, TextsAreReported, TroublesAreReported, VerdictsAreReported};
 
 /// What two switches do wrong.
 pub fn troubles_are_reported()
@@ -30,4 +30,9 @@ pub fn asks_are_reported()
 /// The lines of counts.
 pub fn counts_are_reported()
     ensures { CountsAreReported }
+{}
+
+/// All lines.
+pub fn texts_are_reported()
+    ensures { TextsAreReported }
 {}

@@ -1,7 +1,7 @@
 //! Laws of all audits. The functions do nothing; their clauses are the theorems.
 
 ghost use Rattle.route_audit.specs.Laws.{CountsAddUp, EachTroubleHasALine, LoopsAreClosedByTheirLids};
-ghost use Rattle.route_audit.specs.Laws.{SafeRoutesAreReported, UnsafeRoutesHaveAReason};
+ghost use Rattle.route_audit.specs.Laws.{LeadingRoutesAreReported, SafeRoutesAreReported, UnsafeRoutesHaveAReason};
 
 /// Each pair of a switch and a LID is counted in one part of a line.
 pub fn counts_add_up()
@@ -27,6 +27,11 @@ pub fn loops_are_closed_by_their_lids()
 /// to another switch, the entry there is known.
 pub fn safe_routes_are_reported()
     ensures { SafeRoutesAreReported }
+{}
+
+/// Credit loops aside, the verdict is safe if and only if the other conditions hold. An audit by virtual lanes rests on these.
+pub fn leading_routes_are_reported()
+    ensures { LeadingRoutesAreReported }
 {}
 
 /// A verdict that is not safe names a reason, and it names each reason if and only if that holds.

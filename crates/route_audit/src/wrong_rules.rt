@@ -1,7 +1,7 @@
 //! Wrong rules for what is reported, and the law that each breaks, so that a reader sees that the laws say something. Each
 //! function does nothing: its contract says that with this rule the law is false.
 
-ghost use Rattle.route_audit.specs.WrongRules.{AggregationDecidesNothing, EachStepHasItsLid, LidsGoOnRound};
+ghost use Rattle.route_audit.specs.WrongRules.{AggregationDecidesNothing, CreditLoopsAreApart, EachStepHasItsLid, LidsGoOnRound};
 ghost use Rattle.route_audit.specs.WrongRules.{HolesAreCounted, HolesHaveALine, LidsAreAsked, LoopsHaveALine, LostPairsAreAReason, ReasonsHold};
 ghost use Rattle.route_audit.specs.WrongRules.{NobodysLoopsHaveALine, OtherLidsDecide, OtherPortsDecide, OtherTablesDecide, OthersHolesHaveALine};
 ghost use Rattle.route_audit.specs.WrongRules.{RowsLeftOutHaveALine};
@@ -60,6 +60,11 @@ pub fn other_ports_decide()
 /// If entries may be unknown where no packet of a host comes to them, routes are called safe whose dependency graph is not known.
 pub fn unknown_entries_decide()
     ensures { UnknownEntriesDecide }
+{}
+
+/// If a credit loop counts among the other conditions, routes that lead there are said not to.
+pub fn credit_loops_are_apart()
+    ensures { CreditLoopsAreApart }
 {}
 
 /// If what goes on has no line, packets go round and none reports it.
