@@ -1,6 +1,6 @@
 -- Entries, and what comes of packets, computed.
 use Rattle.std.proofs.Common.{refl}
-use Rattle.audit_net.specs.Examples.{AttachedAreReported, EntriesAreReported, TurnsAreReported}
+use Rattle.audit_net.specs.Examples.{AttachedAreReported, EntriesAreReported, FatesAreReported, LoopsAreReported, TurnsAreReported}
 
 pub entries_are_reported : EntriesAreReported
 entries_are_reported = record {
@@ -20,3 +20,19 @@ attached_are_reported = record { first = refl; second = refl }
 
 pub turns_are_reported : TurnsAreReported
 turns_are_reported = record { there = refl; on = refl; at_the_switch = refl; closed = refl; without_cable = refl; not_shown = refl }
+
+pub fates_are_reported : FatesAreReported
+fates_are_reported = record {
+  there = refl;
+  over_both = refl;
+  back_over_both = refl;
+  at_another_port = refl;
+  at_another_node = refl;
+  closed = refl;
+  without_cable = refl;
+  round = refl;
+  not_shown = refl;
+}
+
+pub loops_are_reported : LoopsAreReported
+loops_are_reported = record { from_first = refl; from_second = refl; none = refl }

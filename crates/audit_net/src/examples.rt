@@ -1,6 +1,6 @@
 //! What entries are, and what comes of packets, computed. Each function does nothing: its contract is the example.
 
-ghost use Rattle.audit_net.specs.Examples.{EntriesAreReported, AttachedAreReported, TurnsAreReported};
+ghost use Rattle.audit_net.specs.Examples.{AttachedAreReported, EntriesAreReported, FatesAreReported, LoopsAreReported, TurnsAreReported};
 
 /// The entries of a table.
 pub fn entries_are_reported()
@@ -15,4 +15,14 @@ pub fn attached_are_reported()
 /// What comes of packets at a switch.
 pub fn turns_are_reported()
     ensures { TurnsAreReported }
+{}
+
+/// What comes of packets from a switch on.
+pub fn fates_are_reported()
+    ensures { FatesAreReported }
+{}
+
+/// The switches of a loop.
+pub fn loops_are_reported()
+    ensures { LoopsAreReported }
 {}

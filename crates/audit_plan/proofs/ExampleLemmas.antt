@@ -1,6 +1,7 @@
 -- End ports and hosts, computed.
 use Rattle.std.proofs.Common.{refl}
-use Rattle.audit_plan.specs.Examples.{PortsAreFound, HostsAreFound}
+use Rattle.audit_plan.specs.Examples.{DiscoveriesAreTaken, HostsAreFound, PortsAreFound}
+use Rattle.audit_plan.specs.Plan.{cable_at, cables_apart, joining_cables, plan_found}
 
 pub ports_are_found : PortsAreFound
 ports_are_found = record {
@@ -15,3 +16,18 @@ ports_are_found = record {
 
 pub hosts_are_found : HostsAreFound
 hosts_are_found = record { switch = refl; adapter = refl; aggregation = refl }
+
+pub discoveries_are_taken : DiscoveriesAreTaken
+unfolding plan_found joining_cables cables_apart cable_at
+discoveries_are_taken = record {
+  nodes = refl;
+  ends = refl;
+  cables = refl;
+  adapter = refl;
+  router = refl;
+  aggregation = refl;
+  lid_0 = refl;
+  first_lid = refl;
+  last_lid = refl;
+  first_mlid = refl;
+}

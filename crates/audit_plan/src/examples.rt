@@ -1,6 +1,6 @@
-//! Which ports have which GUIDs, and which nodes are hosts, computed. Each function does nothing: its contract is the example.
+//! Which ports have which GUIDs, which nodes are hosts, and what a discovery gives, computed. Each function does nothing: its contract is the example.
 
-ghost use Rattle.audit_plan.specs.Examples.{PortsAreFound, HostsAreFound};
+ghost use Rattle.audit_plan.specs.Examples.{DiscoveriesAreTaken, HostsAreFound, PortsAreFound};
 
 /// The ports of GUIDs.
 pub fn ports_are_found()
@@ -10,4 +10,9 @@ pub fn ports_are_found()
 /// Which nodes are hosts.
 pub fn hosts_are_found()
     ensures { HostsAreFound }
+{}
+
+/// The nodes, end ports and unicast LIDs of a discovery.
+pub fn discoveries_are_taken()
+    ensures { DiscoveriesAreTaken }
 {}

@@ -4,3 +4,4 @@ pub mod OpenSm
 pub mod Gathered
 pub mod Names
 pub mod Strangers
+pub mod Examples

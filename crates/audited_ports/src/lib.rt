@@ -7,6 +7,7 @@
 #![tactic(auto)]
 
 mod ends;
+mod examples;
 mod gathering;
 mod held;
 mod names;

@@ -12,3 +12,4 @@ pub mod LevelLemmas
 pub mod TopLemmas
 pub mod WrongLemmas
 pub mod ExampleLemmas
+pub mod EachPairLemmas

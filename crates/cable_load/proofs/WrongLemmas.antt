@@ -1,5 +1,5 @@
 -- What is wrong with the wrong rules.
-use Rattle.std.proofs.Common.{ℕ, ◌≡◌, ap, false, refl, sym, ◌≤◌, List, [], ◌∷◌, length, lit<, nat_eq, None, arith}
+use Rattle.std.proofs.Common.{ℕ, ◌≡◌, ap, false, true, refl, sym, ◌≤◌, List, [], ◌∷◌, length, lit<, nat_eq, None, Some, arith}
 use Rattle.std.proofs.lemmas.Bool.{false≢true}
 use Rattle.step_results.proofs.DistinctLemmas.{distinct}
 use Rattle.fabric_parts.specs.Cable.{port}
@@ -12,7 +12,7 @@ use Rattle.cable_load.specs.Sources.{Pair}
 use Rattle.cable_load.specs.Talk.{may_talk}
 use Rattle.cable_load.specs.WrongRules.{FirstLinksCountToo, FirstPortsDoNotAddUp, LastLinksCountToo, LevelsBeginAt0, LostPairsLoad, NotAllAreLeaves}
 use Rattle.cable_load.specs.WrongRules.{AllTopsCount, LeavesAreNoTops, TopsAreNotOfLevel1, three_levels, two_tops}
-use Rattle.cable_load.specs.WrongRules.{PairsCountOnce, PortsCountFrom1, SilentPortsDoNotCount, UnusedChannelsHaveALine, WaysGoOn}
+use Rattle.cable_load.specs.WrongRules.{OtherLidsCountToo, OtherSwitchesCountToo, PairsCountOnce, PortsCountFrom1, SilentPortsDoNotCount, UnusedChannelsHaveALine, WaysGoOn}
 use Rattle.cable_load.specs.WrongRules.{four_switches, no_hosts, pairs_to_k, to_k, two_switches}
 use Rattle.cable_load.proofs.CableLemmas.{lead_back}
 use Rattle.cable_load.proofs.TopLemmas.{tops_are_farthest}
@@ -96,3 +96,19 @@ leaves_are_no_tops law = false≢true (sym (law.only (two_switches 1 1) 0 refl).
 -- A/2 and A/3 lead to B and C
 pub all_tops_count : AllTopsCount
 all_tops_count law = false≢true (law.all two_tops 3 (tops_are_farthest.only two_tops 3 refl))
+
+-- k/1 is attached to B, and sends to LID 1, which is h/1's
+pub other_switches_count_too : OtherSwitchesCountToo
+other_switches_count_too law =
+    let counted : false ≡ true =
+    law (two_switches 2 1) (may_talk None) (record { lid = 1; guid = Some 257; end = Some (port 2 1) } ∷ []) 1 1 (port 3 1) (port 2 1)
+    (record { index = 1; switch = refl; before = 0; within = lit< tt; cable = refl; host = refl }) (record { index = 0; guid = Some 257; aim = refl; host = refl }) refl refl in
+    false≢true counted
+
+-- h/1 sends to LID 2, which is k/1's and the second
+pub other_lids_count_too : OtherLidsCountToo
+other_lids_count_too law =
+    let counted : false ≡ true =
+    law (two_switches 2 1) (may_talk None) (record { lid = 1; guid = Some 257; end = Some (port 2 1) } ∷ to_k) 0 2 (port 2 1) (port 3 1)
+    (record { index = 0; switch = refl; before = 0; within = lit< tt; cable = refl; host = refl }) (record { index = 1; guid = Some 513; aim = refl; host = refl }) refl refl in
+    false≢true counted

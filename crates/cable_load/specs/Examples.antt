@@ -1,5 +1,5 @@
 -- What is printed, in examples: the two switches of `WrongRules.antt`, each with a host.
-use Rattle.std.specs.Prelude.{ℕ, ◌≡◌, Bool, List, [], ◌∷◌, ◌++◌, codes, Some, None}
+use Rattle.std.specs.Prelude.{ℕ, ◌≡◌, Bool, true, false, List, [], ◌∷◌, ◌++◌, codes, Some, None}
 use Rattle.dump_file.specs.declared.destination.Destination.TheVariants as destinations
 use Rattle.dump_file.specs.declared.row.Row.{Row}
 use Rattle.dump_file.specs.declared.table.Table.{Table}
@@ -8,7 +8,10 @@ use Rattle.fabric_parts.specs.declared.cable.PortRef.{PortRef}
 use Rattle.lid_owners.specs.declared.lids.Aim.{Aim}
 use Rattle.audit_net.specs.Net.{NetState}
 use Rattle.audit_plan.specs.Plan.{plan_of}
-use Rattle.cable_load.specs.Sources.{pairs_by}
+use Rattle.cable_load.specs.declared.loaded.Loaded.{Loaded}
+use Rattle.cable_load.specs.declared.talk.PortKeys.{PortKeys}
+use Rattle.cable_load.specs.Loads.{least_of, mean_of, ratio_of}
+use Rattle.cable_load.specs.Sources.{attached, pairs_by, sends}
 use Rattle.cable_load.specs.Talk.{may_talk}
 use Rattle.cable_load.specs.Text.{hundredths, text_by}
 use Rattle.cable_load.specs.WrongRules.{a_plan}
@@ -71,3 +74,31 @@ pub record TextsAreSo : Type 0 where
       ++ line (codes "level 0 most 0 mean 0.00 ratio 0.00") ++ line (codes "pairs 0, lost 0, unknown 0")
   pub small_mean : hundredths 7 ≡ codes "0.07"
   pub great_mean : hundredths 12345 ≡ codes "123.45"
+
+-- ---- means and ratios are rounded down
+abbrev pub with_load : ℕ → Loaded
+with_load load = record { load = load; at = port 0 1 }
+
+pub record FractionsAreRoundedDown : Type 0 where
+  pub mean : mean_of (with_load 2 ∷ with_load 0 ∷ with_load 0 ∷ []) ≡ 66
+  pub ratio : ratio_of (with_load 5 ∷ with_load 2 ∷ with_load 0 ∷ []) ≡ 214
+  pub none : ratio_of (with_load 0 ∷ []) ≡ 0
+  pub least : least_of (with_load 3 ∷ with_load 2 ∷ with_load 5 ∷ []) ≡ 2
+
+-- ---- who sends: each host's port, to each other one, also of its own host; an aggregation node sends nothing and is sent nothing
+abbrev pub with_aggregation : NetState
+with_aggregation =
+    record { plan = record (plan_of a_plan) { aggregation = false ∷ false ∷ true ∷ [] }; dump = record { tables = [] } }
+
+-- the keys of a port are those that stand first
+abbrev pub twice_listed : List PortKeys
+twice_listed = record { at = port 2 1; keys = 1 ∷ [] } ∷ record { at = port 2 1; keys = 0x8002 ∷ [] } ∷ record { at = port 3 1; keys = 2 ∷ [] } ∷ []
+
+pub record PortsSendToOthers : Type 0 where
+  pub of_one_host : sends (may_talk None) (port 2 1) (port 2 2) ≡ true
+  pub itself : sends (may_talk None) (port 2 1) (port 2 1) ≡ false
+  pub attached_hosts : attached (with_ports 1 2 2 1) 0 ≡ port 2 1 ∷ []
+  pub aggregation_node : attached with_aggregation 0 ≡ []
+  pub to_aggregation_node : pairs_by with_aggregation (may_talk None) both ≡ []
+  pub keys_that_stand_first : may_talk (Some twice_listed) (port 2 1) (port 3 1) ≡ false
+  pub of_no_key : may_talk (Some twice_listed) (port 2 1) (port 9 1) ≡ false

@@ -1,12 +1,13 @@
 -- What is so of all fabrics, dumps, LIDs and pairs: the statements of the laws of `src/laws.rt`.
-use Rattle.std.specs.Prelude.{ℕ, ◌+◌, ◌<◌, ◌≤◌, ◌≡◌, ◌==◌, ◌&&◌, Bool, true, false, not, List, [], ◌∷◌, count_by, filter, length, if◌then◌else◌, Some}
+use Rattle.std.specs.Prelude.{ℕ, ◌+◌, ◌<◌, ◌≤◌, ◌≡◌, ◌==◌, ◌&&◌, Bool, true, false, not, List, [], ◌∷◌, count_by, filter, length, slice_get, if◌then◌else◌, Option, Some}
 use Rattle.std.specs.List.{list_any, sum_by}
-use Rattle.fabric_parts.specs.Cable.{far_end, is_same_port}
+use Rattle.fabric_parts.specs.Cable.{far_end, is_same_port, port}
 use Rattle.fabric_parts.specs.declared.cable.Cable.{Cable}
 use Rattle.fabric_parts.specs.declared.cable.PortRef.{PortRef}
 use Rattle.fabric_parts.specs.declared.limits.Limits.{Limits}
 use Rattle.netdiscover_file.specs.Discovery.{DiscoveryState}
 use Rattle.netdiscover_file.specs.Sound.{IsSound}
+use Rattle.topo_file.specs.Connectivity.{switches}
 use Rattle.topo_file.specs.Node.{is_switch_at, ports_at}
 use Rattle.topo_file.specs.Sound.{IsSoundWithin, is_port}
 use Rattle.topo_file.specs.Topology.{TopologyState}
@@ -19,7 +20,7 @@ use Rattle.audit_net.specs.Following.{turn, turn_by}
 use Rattle.audit_net.specs.Laws.{ComesBy}
 use Rattle.audit_net.specs.Net.{NetState}
 use Rattle.route_audit.specs.Pairs.{is_fate}
-use Rattle.audit_plan.specs.Plan.{PlanState, plan_found, plan_of}
+use Rattle.audit_plan.specs.Plan.{PlanState, is_host, plan_found, plan_of}
 use Rattle.cable_load.specs.declared.levels.TheConstants.{LEVELS}
 use Rattle.cable_load.specs.declared.loaded.Loaded.{Loaded}
 use Rattle.cable_load.specs.Levels.{carries, level_of}
@@ -53,6 +54,34 @@ CountsTalkers pairs =
 
 abbrev pub TalkersCount : Type 0
 TalkersCount = CountsTalkers pairs_by
+
+-- a host's port is attached to a port of the switch there
+pub record IsAttached (net : NetState) (place : ℕ) (source : PortRef) : Type 0 where
+  pub index : ℕ
+  pub switch : slice_get (switches net.plan.nodes) index ≡ Some place
+  pub before : ℕ
+  pub within : before < ports_at net.plan.nodes place
+  pub cable : far_end net.plan.cables (port place (before + 1)) ≡ Some source
+  pub host : is_host net.plan source.node ≡ true
+
+-- the LID is one of these, and that of a host's port
+pub record IsAimedAt (net : NetState) (all : List Aim) (lid : ℕ) (end : PortRef) : Type 0 where
+  pub index : ℕ
+  pub guid : Option ℕ
+  pub aim : slice_get all index ≡ Some (record { lid = lid; guid = guid; end = Some end })
+  pub host : is_host net.plan end.node ≡ true
+
+abbrev pub is_of_two : (source : PortRef) → (lid : ℕ) → Pair → Bool
+is_of_two source lid pair = is_same_port pair.source source && (pair.lid == lid)
+
+-- each port of a host that is attached to a switch sends to each of these LIDs of another host's port to which it may talk
+abbrev pub CountsEachPair : (NetState → (talk : PortRef → PortRef → Bool) → List Aim → List Pair) → Type 0
+CountsEachPair pairs =
+    (net : NetState) (talk : PortRef → PortRef → Bool) (all : List Aim) (place lid : ℕ) (source end : PortRef) → IsAttached net place source
+    → IsAimedAt net all lid end → is_same_port source end ≡ false → talk source end ≡ true → list_any (is_of_two source lid) (pairs net talk all) ≡ true
+
+abbrev pub EachPairCounts : Type 0
+EachPairCounts = CountsEachPair pairs_by
 
 -- ---- loads, of whichever pairs
 -- a port has no load if and only if no pair goes over it

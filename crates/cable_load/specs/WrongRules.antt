@@ -16,7 +16,7 @@ use Rattle.credit_loops.specs.Channels.{leaves_by}
 use Rattle.audit_net.specs.Net.{NetState}
 use Rattle.audit_plan.specs.Plan.{PlanState, plan_found, plan_of}
 use Rattle.cable_load.specs.declared.loaded.Loaded.{Loaded}
-use Rattle.cable_load.specs.Laws.{AddsUp, CarriesWhatArrives, CountsTalkers, FindsFarthest, FollowsWays, MeasuresLevels, NamesEachOnce, ReportsUnused, StaysWithin}
+use Rattle.cable_load.specs.Laws.{AddsUp, CarriesWhatArrives, CountsEachPair, CountsTalkers, FindsFarthest, FollowsWays, MeasuresLevels, NamesEachOnce, ReportsUnused, StaysWithin}
 use Rattle.cable_load.specs.Laws.{TakesCables, all_talk, lines_of}
 use Rattle.cable_load.specs.Levels.{level_of}
 use Rattle.cable_load.specs.Loads.{load}
@@ -189,3 +189,17 @@ two_tops = record {
   });
   dump = record { tables = [] };
 }
+
+-- ---- ports that are attached to the first switch alone send
+abbrev pub from_first : NetState → (talk : PortRef → PortRef → Bool) → List Aim → List Pair
+from_first net talk all = filter (λ pair. pair.place == 0) (pairs_by net talk all)
+
+abbrev pub OtherSwitchesCountToo : Type 0
+OtherSwitchesCountToo = CountsEachPair from_first → ⊥
+
+-- ---- they send to the first LID alone
+abbrev pub to_first : NetState → (talk : PortRef → PortRef → Bool) → List Aim → List Pair
+to_first net talk all = pairs_by net talk (take 1 all)
+
+abbrev pub OtherLidsCountToo : Type 0
+OtherLidsCountToo = CountsEachPair to_first → ⊥

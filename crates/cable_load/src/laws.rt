@@ -2,7 +2,7 @@
 
 ghost use Rattle.std.specs.Prelude.{◌≡◌};
 ghost use Rattle.cable_load.specs.declared.levels.TheConstants.{LEVELS};
-ghost use Rattle.cable_load.specs.Laws.{CablesOfPlansLeadBack, EachChannelHasOneLine, LastLinksCarryWhatArrives, LevelsAreDistances};
+ghost use Rattle.cable_load.specs.Laws.{CablesOfPlansLeadBack, EachChannelHasOneLine, EachPairCounts, LastLinksCarryWhatArrives, LevelsAreDistances};
 ghost use Rattle.cable_load.specs.Laws.{LoadsAddUp, LoadsAreOfPairs, LoadsStayWithin, TalkersCount, TopsAreFarthest, WaysAreWhole};
 
 /// A switch is on the way of a LID if and only if packets come to it along the entries, over however many switches.
@@ -28,6 +28,11 @@ pub fn the_numbers()
 /// Of all pairs those count whose ports talk.
 pub fn talkers_count()
     ensures { TalkersCount }
+{}
+
+/// Each port of a host that is attached to a switch sends to each LID of another host's port to which it may talk.
+pub fn each_pair_counts()
+    ensures { EachPairCounts }
 {}
 
 /// A channel has the load 0 if and only if no pair goes over it.

@@ -2,7 +2,7 @@
 //! function does nothing: its contract says that with this rule the law is false.
 
 ghost use Rattle.cable_load.specs.WrongRules.{FirstLinksCountToo, FirstPortsDoNotAddUp, LastLinksCountToo, LevelsBeginAt0, LostPairsLoad, NotAllAreLeaves, PairsCountOnce, PortsCountFrom1, SilentPortsDoNotCount, UnusedChannelsHaveALine, WaysGoOn};
-ghost use Rattle.cable_load.specs.WrongRules.{AllTopsCount, LeavesAreNoTops, TopsAreNotOfLevel1};
+ghost use Rattle.cable_load.specs.WrongRules.{AllTopsCount, LeavesAreNoTops, OtherLidsCountToo, OtherSwitchesCountToo, TopsAreNotOfLevel1};
 
 /// If a way ended at its first switch, packets would come to a switch that is not on it.
 pub fn ways_go_on()
@@ -72,4 +72,14 @@ pub fn leaves_are_no_tops()
 /// If the first top switch counted alone, another that is as far from hosts would be missing.
 pub fn all_tops_count()
     ensures { AllTopsCount }
+{}
+
+/// If ports that are attached to the first switch sent alone, those of another would send nothing.
+pub fn other_switches_count_too()
+    ensures { OtherSwitchesCountToo }
+{}
+
+/// If ports sent to the first LID alone, nobody would send to another.
+pub fn other_lids_count_too()
+    ensures { OtherLidsCountToo }
 {}

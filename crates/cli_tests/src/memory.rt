@@ -18,6 +18,8 @@ pub enum Manner {
     Plain,
     /// The same, after one read that is interrupted.
     Interrupted,
+    /// As far as there is room, if there is room for 4,096 bytes; else the read fails.
+    Wide,
     /// One byte a read.
     Dripping,
     /// Never: every read fails.
@@ -42,6 +44,12 @@ impl Read for Source<'_> {
             Manner::Interrupted => {
                 self.manner = Manner::Plain;
                 Err(io::Error::from(ErrorKind::Interrupted))
+            }
+            Manner::Wide => {
+                if buf.len() < 4_096 {
+                    return Err(io::Error::from(ErrorKind::Other));
+                }
+                self.bytes.read(buf)
             }
             Manner::Dripping => self.drip(buf),
             Manner::Failing => Err(io::Error::from(ErrorKind::Other)),

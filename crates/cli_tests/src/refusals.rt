@@ -1,10 +1,10 @@
 //! Files and outputs that fail, and arguments that are refused.
 
-use crate::calls::{RUN, plain, read_so, reported, sink};
+use crate::calls::{Answer, RUN, plain, read_so, reported, sink};
 use crate::fixtures::{FAULTY, FIRST, REPORT, SENDS};
 use crate::memory::{Manner, Refusal, Source};
 use example_texts::TWO_SWITCHES;
-use std::alloc::Global;
+use std::alloc::{AllocError, Global};
 use std::process::Abort;
 use std::test::Fail;
 
@@ -137,6 +137,53 @@ fn a_script_that_fails_at_one_read(rt: HostRuntime) -> Result<(), Fail> {
         is_unread(&rt, rt.alloc(), &files, ("fault read sends\n", report, 3))?;
     }
     Ok(())
+}
+
+/// Files that are read to their end, and in which manner. Those of `load` may be big: they are read in pieces of 4,096 bytes, so that
+/// one of 4 GiB ends within the reads that a text is given.
+const ALIKE: [(&[&str], Manner); 5] = [
+    (
+        &["fabric", "run", "net", "parts", "sends"],
+        Manner::Interrupted,
+    ),
+    (
+        &["fabric", "run", "net", "parts", "sends"],
+        Manner::Dripping,
+    ),
+    (
+        &["fabric", "load", "net", "--dump", "dump"],
+        Manner::Interrupted,
+    ),
+    (
+        &["fabric", "load", "net", "--dump", "dump"],
+        Manner::Dripping,
+    ),
+    (&["fabric", "load", "net", "--dump", "dump"], Manner::Wide),
+];
+
+#[test]
+fn files_that_are_read_to_their_end(rt: HostRuntime) -> Result<(), Fail> {
+    for (words, manner) in ALIKE {
+        let wanted = answered_so(rt.alloc(), words, Manner::Plain)?;
+        let given = answered_so(rt.alloc(), words, manner)?;
+        assert!(rt; wanted.status != 3, "of {words:?}");
+        assert_eq!(rt; given.status, wanted.status, "of {words:?}");
+        assert_eq!(rt; given.out.as_slice(), wanted.out.as_slice(), "of {words:?}");
+        assert_eq!(rt; given.err.as_slice(), wanted.err.as_slice(), "of {words:?}");
+    }
+    Ok(())
+}
+
+/// What is returned and printed if all files are read so; the dump reports no switch.
+fn answered_so(alloc: Global, words: &[&str], manner: Manner) -> Result<Answer, AllocError> {
+    let files = [
+        ("net", read_so(manner, TWO_SWITCHES.as_bytes())),
+        ("parts", read_so(manner, PARTS)),
+        ("sends", read_so(manner, SENDS.as_bytes())),
+        ("dump", read_so(manner, b"")),
+    ];
+    let mut out = sink(alloc, 1000, Refusal::Broken, true);
+    reported(alloc, words, &files, &mut out)
 }
 
 /// All ports are full members of the default partition.

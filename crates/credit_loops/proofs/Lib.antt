@@ -5,3 +5,4 @@ pub mod CycleLawLemmas
 pub mod ChannelLawLemmas
 pub mod GoingLemmas
 pub mod WrongLemmas
+pub mod WaitExampleLemmas

@@ -4,3 +4,4 @@ pub mod Channels
 pub mod Waits
 pub mod Laws
 pub mod WrongRules
+pub mod Examples

@@ -7,6 +7,7 @@
 
 mod channels;
 pub mod cycle;
+mod examples;
 mod laws;
 mod wrong_rules;
 

@@ -31,6 +31,7 @@ rows_are_read = record {
   past_the_top_does_not = refl;
   two_ends = refl;
   further_of_one = refl;
+  further_of_another = refl;
   of_router = refl;
   of_nobody = refl;
   counted = refl;
@@ -41,7 +42,20 @@ rows_are_read = record {
 
 pub texts_are_read : TextsAreRead
 unfolding after_line after_lines count_reported dump_of further_in further_said guid_behind_way heading_in heading_reported named_in path_in row_in row_reported whole
-texts_are_read = record { whole = refl; by_lid_counts = refl; by_route_does_not = refl; of_two_ends = refl; before_a_comment = refl; unfinished = refl; of_one_switch = refl }
+texts_are_read = record {
+  whole = refl;
+  by_lid_counts = refl;
+  by_route_does_not = refl;
+  of_two_ends = refl;
+  before_a_comment = refl;
+  unfinished = refl;
+  of_one_switch = refl;
+  unfinished_behind_one = refl;
+  of_mfts = refl;
+  within_an_mft = refl;
+  without_titles = refl;
+  without_second_title = refl;
+}
 
 pub unsound_are_reported : UnsoundAreReported
 unfolding IsDistinct

@@ -52,6 +52,7 @@ pub record RowsAreRead : Type 0 where
   pub past_the_top_does_not : may_follow 4 (one_row ∷ []) 5 ≡ false
   pub two_ends : is_said_otherwise (one_row ∷ []) (record one_row { destination = Switch 0x20 }) ≡ true
   pub further_of_one : is_said_otherwise (one_row ∷ []) (record one_row { destination = FurtherLid 0x111 }) ≡ false
+  pub further_of_another : is_said_otherwise (one_row ∷ []) (record one_row { destination = FurtherLid 0x222 }) ≡ true
   pub of_router : is_said_otherwise (last_port_row ∷ []) (record last_port_row { destination = Switch 0x20 }) ≡ true
   pub of_nobody : is_said_otherwise (one_row ∷ []) (record one_row { destination = Nobody }) ≡ false
   pub counted : count_reported (one_row ∷ []) (trimmed (codes "1 valid lids dumped \r\n")) ≡ Ok 1
@@ -81,6 +82,9 @@ routed_text =
     codes "Unicast lids [0x0-0x5] of switch DR path slid 0; dlid 0; 0,1 guid 0x0000000000000010 (A):\n  Lid  Out   Destination\n       Port     Info \n"
     ++ codes "0 valid lids dumped\n"
 
+abbrev routed_title : List ℕ
+routed_title = codes "Unicast lids [0x0-0x5] of switch DR path slid 0; dlid 0; 0,1 guid 0x0000000000000010 (A):\n"
+
 abbrev other_text : List ℕ
 other_text = codes "Unicast lids [0x0-0x0] of switch DR path slid 0; dlid 0; 0,2 guid 0x0000000000000020 (B):\n  Lid  Out   Destination\n       Port     Info \n0 valid lids dumped\n"
 
@@ -88,6 +92,9 @@ abbrev denying_text : List ℕ
 denying_text =
     codes "Unicast lids [0x0-0x5] of switch DR path slid 0; dlid 0; 0,1 guid 0x0000000000000010 (A):\n  Lid  Out   Destination\n       Port     Info \n"
     ++ codes "0x0003 003 : (Channel Adapter portguid 0x0000000000000222: 'h2')\n1 valid lids dumped\n"
+
+abbrev mft_text : List ℕ
+mft_text = codes "Multicast mlids [0xc000-0xc3ff] of switch Lid 2 guid 0x0000000000000010 (A):\n     Ports: 0\n MLid\n"
 
 abbrev first_table : Table
 first_table = record { line = 3; guid = 0x10; top = 5; rows = one_row ∷ closed_row ∷ [] }
@@ -104,6 +111,13 @@ pub record TextsAreRead : Type 0 where
   pub before_a_comment : dump_of (codes "2 tables # of two switches\n") ≡ Err (record { line = 1; cause = Malformed })
   pub unfinished : dump_of (heading_text ++ rows_text) ≡ Err (record { line = 0; cause = Unfinished })
   pub of_one_switch : dump_of (heading_text ++ codes "0 lids dumped\n" ++ heading_text) ≡ Err (record { line = 5; cause = DuplicateTable })
+  -- a text that ends in a multicast table behind a whole one, and one of multicast tables alone
+  pub unfinished_behind_one : dump_of (heading_text ++ codes "0 lids dumped\n" ++ mft_text) ≡ Err (record { line = 0; cause = Unfinished })
+  pub of_mfts : dump_of (mft_text ++ codes "0 mlids dumped\n") ≡ Err (record { line = 0; cause = Unfinished })
+  -- a multicast table that has no end, and a table without its titles
+  pub within_an_mft : dump_of (mft_text ++ heading_text) ≡ Err (record { line = 4; cause = Malformed })
+  pub without_titles : dump_of (routed_title ++ rows_text) ≡ Err (record { line = 2; cause = Malformed })
+  pub without_second_title : dump_of (routed_title ++ codes "  Lid  Out   Destination\n" ++ rows_text) ≡ Err (record { line = 3; cause = Malformed })
 
 -- ---- dumps that are not sound
 pub record UnsoundAreReported : Type 0 where

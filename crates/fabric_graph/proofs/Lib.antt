@@ -5,3 +5,4 @@ pub mod AttachmentLemmas
 pub mod StepLemmas
 pub mod ThickLemmas
 pub mod WrongRowLemmas
+pub mod ExampleLemmas

@@ -4,7 +4,7 @@ use Rattle.std.proofs.Common.{Bool, true, false, List, [], ◌∷◌, count_by, 
 use Rattle.std.specs.Prelude.{filter}
 use Rattle.std.specs.List.{list_all, range_with_len}
 use Rattle.std.specs.Option.{option_map_or}
-use Rattle.std.proofs.lemmas.Bool.{cases_Bool, cases_lt, eq-eqb, eqb-true, leb-true, lt-ltb, or_cases}
+use Rattle.std.proofs.lemmas.Bool.{cases_Bool, cases_lt, eq-eqb, eqb-true, le-leb, leb-true, lt-ltb, or_cases}
 use Rattle.std.proofs.lemmas.List.FromFn.{get_or-map-range_with_len}
 use Rattle.std.proofs.lemmas.List.Sums.{length-filter}
 use Rattle.std.proofs.lemmas.Option.{same_Some, slice_get_within}
@@ -12,7 +12,7 @@ use Rattle.fabric_graph.proofs.CableLemmas.{lines_of_cable, listed_is_adapter, n
 use Rattle.fabric_graph.proofs.DrawnLemmas.{and_both, clashing, one_in_range, only, other_number}
 use Rattle.fabric_graph.specs.Cables.{is_cut}
 use Rattle.fabric_graph.specs.Graph.{is_edge, ranks_drawn}
-use Rattle.fabric_graph.specs.Laws.{EachCableIsDrawnOnce, ThickEdgesJoinAllToAll, ThickEdgesShowNumbers, shows_cable}
+use Rattle.fabric_graph.specs.Laws.{EachCableIsDrawnOnce, JoinedRowsHaveThickEdges, LeadsFrom, ThickEdgesJoinAllToAll, ThickEdgesShowNumbers, shows_cable}
 use Rattle.fabric_graph.specs.Lists.{AttachmentState, attachments_of, is_in_list, is_listed, places}
 use Rattle.fabric_graph.specs.Loads.{look_at}
 use Rattle.fabric_graph.specs.Ranks.{has_rank, rank_at, rank_count, ranks_of, row_of}
@@ -157,8 +157,45 @@ thick_edges_join_all_to_all = record {
   whole = λ picture rank k cable is there. whole picture rank k is cable there;
   plain = λ picture rank k is. plain picture rank k is;
   several = λ picture rank k is. several picture rank k is;
-  all_to_all = λ picture rank k upper lower is at_upper at_lower. all_to_all picture rank k is upper lower at_upper at_lower;
+  all_to_all = λ picture rank k is upper lower at_upper at_lower. all_to_all picture rank k is upper lower at_upper at_lower;
 }
+
+-- ---- what is counted
+all_of_kept : (kept p : ℕ → Bool) (xs : List ℕ) → ((x : ℕ) → kept x ≡ true → p x ≡ true) → list_all p (filter kept xs) ≡ true
+all_of_kept kept p [] each = refl
+all_of_kept kept p (x ∷ xs) each = elim (cases_Bool (kept x)) [
+  | inl e ↦ let here = each x e in rw (e, here) (all_of_kept kept p xs each)
+  | inr e ↦ rw e (all_of_kept kept p xs each)
+]
+
+all_in_row : (ranks : List (Option ℕ)) (rank : ℕ) (p : ℕ → Bool) → ((place : ℕ) → rank_at ranks place ≡ Some rank → p place ≡ true)
+    → list_all p (row_of ranks rank) ≡ true
+unfolding row_of
+all_in_row ranks rank p each =
+    all_of_kept (has_rank ranks rank) p (range_with_len 0 (length ranks)) (λ place is. each place (is_rank (rank_at ranks place) rank is))
+
+upper_is_first : (rank : ℕ) → upper_of (Some rank) (Some (rank + 1)) ≡ Some rank
+upper_is_first rank = rw (eq-eqb (rank + 1) (rank + 1) refl) refl
+
+upper_is_second : (rank : ℕ) → upper_of (Some (rank + 1)) (Some rank) ≡ Some rank
+upper_is_second rank =
+    let below = other_number rank (rank + 1 + 1) (λ e. omega (arith, e)) in
+    rw (below, eq-eqb (rank + 1) (rank + 1) refl) refl
+
+leads_from : (picture : Picture) (rank : ℕ) (cable : Cable) → LeadsFrom picture rank cable → upper_rank picture.ranks cable ≡ Some rank
+leads_from picture rank cable leads = elim leads [
+  | inl e ↦ rw (e.0, e.1) (upper_is_first rank)
+  | inr e ↦ rw (e.0, e.1) (upper_is_second rank)
+]
+
+pub joined_rows_have_thick_edges : JoinedRowsHaveThickEdges
+joined_rows_have_thick_edges picture rank k cable crowded there leads uncut plain uppers lowers all =
+    let to_all : list_all (is_cabled_to_all picture.cables (row_of picture.ranks (rank + 1))) (row_of picture.ranks rank) ≡ true =
+    all_in_row picture.ranks rank (is_cabled_to_all picture.cables (row_of picture.ranks (rank + 1)))
+    (λ upper at_upper. all_in_row picture.ranks (rank + 1) (are_cabled picture.cables upper) (λ lower at_lower. all upper lower at_upper at_lower)) in
+    let down : leads_down picture.ranks rank cable ≡ true = rw (leads_from picture rank cable leads) (eq-eqb rank rank refl) in
+    let ordinary : is_ordinary picture.fabric (look_at picture.looks k) cable ≡ true = rw (plain, uncut) refl in
+    rw (crowded, le-leb 2 (length (row_of picture.ranks rank)) uppers, le-leb 2 (length (row_of picture.ranks (rank + 1))) lowers, to_all, there, down, ordinary) refl
 
 -- ---- numbers
 thickness_is : (picture : Picture) (rank : ℕ) → thickness picture rank ≡ length (filter (is_counted picture rank) (range_with_len 0 (length picture.cables)))

@@ -1,10 +1,12 @@
 -- What wrong rules for thick edges let pass, in a picture of two switches over two.
-use Rattle.std.proofs.Common.{ℕ, ◌≡◌, refl, sym, arith, lit<, false, true, List, [], ◌∷◌, Some}
+use Rattle.std.proofs.Common.{ℕ, zero, suc, ◌+◌, ◌≡◌, refl, sym, arith, lit<, false, true, inl, List, [], ◌∷◌, Option, Some}
+use Rattle.std.specs.List.{list_any}
 use Rattle.std.proofs.lemmas.Bool.{false≢true}
 use Rattle.std.proofs.lemmas.List.Elements.{All-from_recursion}
-use Rattle.fabric_graph.specs.Ranks.{row_of}
+use Rattle.std.proofs.lemmas.Option.{same_Some}
+use Rattle.fabric_graph.specs.Ranks.{rank_at, row_of}
 use Rattle.fabric_graph.specs.Rows.{Picture}
-use Rattle.fabric_graph.specs.WrongRules.{CountedCablesAreNoEdges, CutCablesAreNotNumbered, CutCablesStayApart, SomeCablesAreNotAll}
+use Rattle.fabric_graph.specs.WrongRules.{CountedCablesAreNoEdges, CutCablesAreNotNumbered, CutCablesStayApart, LowerRowsAreJoinedToo, SomeCablesAreNotAll, TwoSwitchesAreARow}
 use Rattle.fabric_parts.specs.Cable.{port}
 use Rattle.fabric_parts.specs.declared.cable.Cable.{Cable}
 use Rattle.fabric_parts.specs.declared.node_type.NodeType.TheVariants.{Switch}
@@ -13,6 +15,7 @@ use Rattle.step_results.proofs.DistinctLemmas.{distinct}
 use Rattle.subnet_model.specs.Configuration.{ConfigurationState}
 use Rattle.sweep.specs.Graph.{graph_with}
 use Rattle.sweep.specs.declared.graph.GraphSwitch.{GraphSwitch}
+use Rattle.topo_file.specs.Connectivity.{joins as joins_nodes}
 use Rattle.topo_file.specs.Node.{HasGuids, shares_guid}
 use Rattle.topo_file.specs.Sound.{AreSound, shares_name, shares_port}
 use Rattle.topo_file.specs.Topology.{TopologyState}
@@ -48,8 +51,49 @@ cut_cables_are_not_numbered law =
 pub some_cables_are_not_all : SomeCablesAreNotAll
 unfolding row_of
 some_cables_are_not_all law =
-    let cabled : false ≡ true = law.all_to_all (picture (cable 0 1 2 1 ∷ []) (cable 0 1 2 1 ∷ [])) 0 0 1 3 refl refl refl in
+    let cabled : false ≡ true = law.all_to_all (picture (cable 0 1 2 1 ∷ []) (cable 0 1 2 1 ∷ [])) 0 0 refl 1 3 refl refl in
     false≢true cabled
+
+-- ---- none is cut: two of one rank over two of the next
+abbrev two_over_two : (rank : ℕ) → List (Option ℕ)
+two_over_two rank = Some rank ∷ Some rank ∷ Some (rank + 1) ∷ Some (rank + 1) ∷ []
+
+upper_only : (rank : ℕ) → ◌≡◌ {A = Option ℕ} (Some rank) (Some (rank + 1)) → ⊥
+upper_only rank e = let same = same_Some rank (rank + 1) e in omega (arith, same)
+
+lower_only : (rank : ℕ) → ◌≡◌ {A = Option ℕ} (Some (rank + 1)) (Some rank) → ⊥
+lower_only rank e = let same = same_Some (rank + 1) rank e in omega (arith, same)
+
+joined : (rank upper lower : ℕ) → rank_at (two_over_two rank) upper ≡ Some rank → rank_at (two_over_two rank) lower ≡ Some (rank + 1)
+    → list_any (joins_nodes upper lower) all_four ≡ true
+joined rank zero zero at_upper at_lower = absurd (upper_only rank at_lower)
+joined rank zero (suc zero) at_upper at_lower = absurd (upper_only rank at_lower)
+joined rank zero (suc (suc zero)) at_upper at_lower = refl
+joined rank zero (suc (suc (suc zero))) at_upper at_lower = refl
+joined rank zero (suc (suc (suc (suc n)))) at_upper at_lower = absurd (cc)
+joined rank (suc zero) zero at_upper at_lower = absurd (upper_only rank at_lower)
+joined rank (suc zero) (suc zero) at_upper at_lower = absurd (upper_only rank at_lower)
+joined rank (suc zero) (suc (suc zero)) at_upper at_lower = refl
+joined rank (suc zero) (suc (suc (suc zero))) at_upper at_lower = refl
+joined rank (suc zero) (suc (suc (suc (suc n)))) at_upper at_lower = absurd (cc)
+joined rank (suc (suc zero)) lower at_upper at_lower = absurd (lower_only rank at_upper)
+joined rank (suc (suc (suc zero))) lower at_upper at_lower = absurd (lower_only rank at_upper)
+joined rank (suc (suc (suc (suc n)))) lower at_upper at_lower = absurd (cc)
+
+pub two_switches_are_a_row : TwoSwitchesAreARow
+unfolding row_of
+two_switches_are_a_row law =
+    let counted : false ≡ true = law (picture all_four all_four) 0 0 (cable 0 1 2 1) refl refl (inl (refl, refl)) refl refl (omega arith) (omega arith) (joined 0) in
+    false≢true counted
+
+-- the same one rank further down
+pub lower_rows_are_joined_too : LowerRowsAreJoinedToo
+unfolding row_of
+lower_rows_are_joined_too law =
+    let counted : false ≡ true =
+    law (record (picture all_four all_four) { ranks = two_over_two 1 }) 1 0 (cable 0 1 2 1) refl refl (inl (refl, refl)) refl refl
+    (omega arith) (omega arith) (joined 1) in
+    false≢true counted
 
 -- ---- a topology of them
 abbrev switch : (letter guid : ℕ) → Node

@@ -73,14 +73,24 @@ abbrev pub EachCableIsDrawnOnce : Type 0
 EachCableIsDrawnOnce = DrawsCablesOnce is_edge is_counted
 
 -- ---- thick edges
+-- the cable joins a switch of that rank and one of the next
+abbrev pub LeadsFrom : Picture → (rank : ℕ) → Cable → Type 0
+LeadsFrom picture rank cable =
+    let one = rank_at picture.ranks cable.first.node in
+    let other = rank_at picture.ranks cable.second.node in
+    ((one ≡ Some rank) × (other ≡ Some (rank + 1))) ⊎ ((other ≡ Some rank) × (one ≡ Some (rank + 1)))
+
+-- each switch of that rank is cabled to each of the next
+abbrev pub AreJoined : Picture → (rank : ℕ) → Type 0
+AreJoined picture rank =
+    (upper lower : ℕ) → rank_at picture.ranks upper ≡ Some rank → rank_at picture.ranks lower ≡ Some (rank + 1)
+    → list_any (joins_nodes upper lower) picture.cables ≡ true
+
 -- if the thick edge of a rank counts a cable, this is so
 pub record CountsJoinedRows (counts : CountRule) : Type 0 where
   pub crowded : (picture : Picture) (rank k : ℕ) → counts picture rank k ≡ true → picture.crowded ≡ true
-  -- the cable joins a switch of that rank and one of the next
   pub ends : (picture : Picture) (rank k : ℕ) (cable : Cable) → counts picture rank k ≡ true → slice_get picture.cables k ≡ Some cable
-      → let one = rank_at picture.ranks cable.first.node in
-      let other = rank_at picture.ranks cable.second.node in
-      ((one ≡ Some rank) × (other ≡ Some (rank + 1))) ⊎ ((other ≡ Some rank) × (one ≡ Some (rank + 1)))
+      → LeadsFrom picture rank cable
   -- it is not cut, and nothing is shown of it
   pub whole : (picture : Picture) (rank k : ℕ) (cable : Cable) → counts picture rank k ≡ true → slice_get picture.cables k ≡ Some cable
       → is_cut picture.fabric cable ≡ false
@@ -88,11 +98,21 @@ pub record CountsJoinedRows (counts : CountRule) : Type 0 where
   -- each rank has two switches or more, and each of the upper ones is cabled to each of the lower
   pub several : (picture : Picture) (rank k : ℕ) → counts picture rank k ≡ true
       → (2 ≤ length (row_of picture.ranks rank)) × (2 ≤ length (row_of picture.ranks (rank + 1)))
-  pub all_to_all : (picture : Picture) (rank k upper lower : ℕ) → counts picture rank k ≡ true
-      → rank_at picture.ranks upper ≡ Some rank → rank_at picture.ranks lower ≡ Some (rank + 1) → list_any (joins_nodes upper lower) picture.cables ≡ true
+  pub all_to_all : (picture : Picture) (rank k : ℕ) → counts picture rank k ≡ true → AreJoined picture rank
 
 abbrev pub ThickEdgesJoinAllToAll : Type 0
 ThickEdgesJoinAllToAll = CountsJoinedRows is_counted
+
+-- and if all that is so, the thick edge of the rank counts the cable
+abbrev pub CountsAllJoined : CountRule → Type 0
+CountsAllJoined counts =
+    (picture : Picture) (rank k : ℕ) (cable : Cable) → picture.crowded ≡ true → slice_get picture.cables k ≡ Some cable
+    → LeadsFrom picture rank cable → is_cut picture.fabric cable ≡ false → look_at picture.looks k ≡ Plain
+    → 2 ≤ length (row_of picture.ranks rank) → 2 ≤ length (row_of picture.ranks (rank + 1)) → AreJoined picture rank
+    → counts picture rank k ≡ true
+
+abbrev pub JoinedRowsHaveThickEdges : Type 0
+JoinedRowsHaveThickEdges = CountsAllJoined is_counted
 
 -- the number that the thick edge of a rank shows, and by which it is drawn at all, is that of the cables of the topology that it counts
 abbrev pub NumbersCables : (thick : Picture → (ranks : ℕ) → List ℕ) → CountRule → Type 0

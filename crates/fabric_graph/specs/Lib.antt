@@ -9,3 +9,4 @@ pub mod ThickEdges
 pub mod Graph
 pub mod Laws
 pub mod WrongRules
+pub mod Examples

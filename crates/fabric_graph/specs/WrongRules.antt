@@ -1,8 +1,8 @@
 -- Wrong rules for what is drawn, and the law that each breaks.
-use Rattle.std.specs.Prelude.{ℕ, ◌+◌, ◌-◌, ◌*◌, ◌/◌, ◌&&◌, Bool, false, not, List, count_by, length, map, slice_get}
+use Rattle.std.specs.Prelude.{ℕ, ◌+◌, ◌-◌, ◌*◌, ◌/◌, ◌==◌, ◌&&◌, Bool, false, nat_le, not, List, count_by, length, map, slice_get}
 use Rattle.std.specs.List.{list_any, range_with_len}
 use Rattle.std.specs.Option.{option_map_or}
-use Rattle.fabric_graph.specs.Laws.{CountRule, CountsFifths, CountsJoinedRows, DrawsCablesOnce, EdgeRule, NamesLoads, NumbersCables}
+use Rattle.fabric_graph.specs.Laws.{CountRule, CountsAllJoined, CountsFifths, CountsJoinedRows, DrawsCablesOnce, EdgeRule, NamesLoads, NumbersCables}
 use Rattle.fabric_graph.specs.Lists.{is_in_list}
 use Rattle.fabric_graph.specs.Loads.{look_at, top_of}
 use Rattle.fabric_graph.specs.Ranks.{row_of}
@@ -65,3 +65,17 @@ of_rows_in_part picture rank place = joins_in_part picture rank && may_count_at 
 
 abbrev pub SomeCablesAreNotAll : Type 0
 SomeCablesAreNotAll = CountsJoinedRows of_rows_in_part → ⊥
+
+-- ---- there is none between rows of two switches
+abbrev pub of_three_switches : CountRule
+of_three_switches picture rank place = nat_le 3 (length (row_of picture.ranks rank)) && is_counted picture rank place
+
+abbrev pub TwoSwitchesAreARow : Type 0
+TwoSwitchesAreARow = CountsAllJoined of_three_switches → ⊥
+
+-- ---- there is one below the roots alone
+abbrev pub below_roots : CountRule
+below_roots picture rank place = (rank == 0) && is_counted picture rank place
+
+abbrev pub LowerRowsAreJoinedToo : Type 0
+LowerRowsAreJoinedToo = CountsAllJoined below_roots → ⊥

@@ -2,7 +2,7 @@
 
 ghost use Rattle.std.specs.Prelude.{◌≡◌};
 ghost use Rattle.fabric_graph.specs.declared.cables.TheConstants.{LABELLED};
-ghost use Rattle.fabric_graph.specs.Laws.{EachCableIsDrawnOnce, EachLoadHasOneRow, EachNodeIsDrawnOnce, EachRankHasARow, StepsAreFifths};
+ghost use Rattle.fabric_graph.specs.Laws.{EachCableIsDrawnOnce, EachLoadHasOneRow, EachNodeIsDrawnOnce, EachRankHasARow, JoinedRowsHaveThickEdges, StepsAreFifths};
 ghost use Rattle.fabric_graph.specs.Laws.{ThickEdgesJoinAllToAll, ThickEdgesShowNumbers};
 
 /// In a picture of how many cables at most the numbers of ports are at the ends of edges. The number is ours.
@@ -31,6 +31,11 @@ pub fn each_cable_is_drawn_once()
 /// none that is drawn in red or shows its load.
 pub fn thick_edges_join_all_to_all()
     ensures { ThickEdgesJoinAllToAll }
+{}
+
+/// There is one wherever they are, in a crowded picture, if each row has two switches or more; and it counts each such cable.
+pub fn joined_rows_have_thick_edges()
+    ensures { JoinedRowsHaveThickEdges }
 {}
 
 /// The number at a thick edge is that of the cables that it counts.

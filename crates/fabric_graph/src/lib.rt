@@ -7,6 +7,7 @@
 
 mod cables;
 mod drawing;
+mod examples;
 mod laws;
 mod list_lines;
 mod lists;
@@ -22,6 +23,7 @@ pub use crate::cables::LABELLED;
 pub use crate::drawing::graph_text;
 pub use crate::laws::{
     each_cable_is_drawn_once, each_load_has_one_row, each_node_is_drawn_once, each_rank_has_a_row,
-    steps_are_fifths, the_numbers, thick_edges_join_all_to_all, thick_edges_show_numbers,
+    joined_rows_have_thick_edges, steps_are_fifths, the_numbers, thick_edges_join_all_to_all,
+    thick_edges_show_numbers,
 };
 pub use crate::loads::{CableLoad, Look, needed_looks};

@@ -1,8 +1,8 @@
 //! Wrong rules for what is drawn, and the law that each breaks, so that a reader sees that the laws say something. Each function
 //! does nothing: its contract says that with this rule the law is false.
 
-ghost use Rattle.fabric_graph.specs.WrongRules.{CountedCablesAreNoEdges, CutCablesAreNotNumbered, CutCablesStayApart, NotAllAreHot};
-ghost use Rattle.fabric_graph.specs.WrongRules.{RowsDoNotOverlap, SomeCablesAreNotAll, StepsAreNotQuarters};
+ghost use Rattle.fabric_graph.specs.WrongRules.{CountedCablesAreNoEdges, CutCablesAreNotNumbered, CutCablesStayApart, LowerRowsAreJoinedToo, NotAllAreHot};
+ghost use Rattle.fabric_graph.specs.WrongRules.{RowsDoNotOverlap, SomeCablesAreNotAll, StepsAreNotQuarters, TwoSwitchesAreARow};
 
 /// If all cables were of the last step, one without load would be.
 pub fn not_all_are_hot()
@@ -37,4 +37,14 @@ pub fn counted_cables_are_no_edges()
 /// If there were a thick edge between rows of which some switches alone are cabled, it would say more than is so.
 pub fn some_cables_are_not_all()
     ensures { SomeCablesAreNotAll }
+{}
+
+/// If rows of two switches had no thick edge, their cables would be drawn one by one.
+pub fn two_switches_are_a_row()
+    ensures { TwoSwitchesAreARow }
+{}
+
+/// If thick edges were below the roots alone, the cables of lower rows would be drawn one by one.
+pub fn lower_rows_are_joined_too()
+    ensures { LowerRowsAreJoinedToo }
 {}

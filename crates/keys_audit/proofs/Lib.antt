@@ -3,3 +3,4 @@ mod VerdictLemmas
 mod BaseLemmas
 mod PairLemmas
 mod WrongLemmas
+mod ExampleLemmas

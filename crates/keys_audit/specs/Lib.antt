@@ -5,3 +5,4 @@ pub mod Diagnosis
 pub mod Text
 pub mod Laws
 pub mod WrongRules
+pub mod Examples

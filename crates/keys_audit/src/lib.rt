@@ -4,6 +4,7 @@
 mod cuts;
 mod diagnosis;
 mod differences;
+mod examples;
 mod laws;
 mod outcome;
 mod standing;

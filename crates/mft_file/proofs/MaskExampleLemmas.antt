@@ -13,11 +13,14 @@ unfolding columns_in guid_behind_way heading_in
 titles_are_read = record {
   by_path = refl;
   by_lid = refl;
+  of_last_guid = refl;
   by_no_way = refl;
   without_end = refl;
   of_a_part = refl;
   of_4_ports = refl;
   of_11_ports = refl;
+  of_255_ports = refl;
+  of_256_ports = refl;
   tens = refl;
   of_wrong_digits = refl;
 }
@@ -27,12 +30,16 @@ unfolding count_reported mlid_of row_in
 masks_are_read = record {
   of_three = refl;
   of_the_ends = refl;
+  of_the_last = refl;
   of_none = refl;
   past_the_last = refl;
+  before_the_first = refl;
   between = refl;
   no_cross = refl;
   of_five_digits = refl;
   next_follows = refl;
+  top_follows = refl;
+  last_follows = refl;
   same_does_not = refl;
   past_the_top_does_not = refl;
   a_lid_does_not = refl;
@@ -43,7 +50,17 @@ masks_are_read = record {
 
 pub mft_texts_are_read : MftTextsAreRead
 unfolding after_line after_lines columns_in count_reported guid_behind_way heading_in heading_reported mfts_of mlid_of row_in row_reported whole
-mft_texts_are_read = record { whole = refl; without_titles = refl; unfinished = refl; of_one_switch = refl; twice = refl }
+mft_texts_are_read = record {
+  whole = refl;
+  of_12_ports = refl;
+  within_an_lft = refl;
+  of_an_lft = refl;
+  unfinished_behind_one = refl;
+  without_titles = refl;
+  unfinished = refl;
+  of_one_switch = refl;
+  twice = refl;
+}
 
 pub unsound_masks_are_reported : UnsoundMasksAreReported
 unfolding IsDistinct

@@ -6,3 +6,4 @@ pub mod CopyLawLemmas
 pub mod CopyFoundLemmas
 pub mod AllReasonLemmas
 pub mod WrongMaskLemmas
+pub mod MulticastExampleLemmas

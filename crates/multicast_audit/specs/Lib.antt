@@ -8,5 +8,6 @@ pub mod Verdict
 pub mod Audit
 pub mod Laws
 pub mod WrongRules
+pub mod Examples
 pub use Rattle.audit_net.specs.Net
 pub use Rattle.audit_plan.specs.Plan

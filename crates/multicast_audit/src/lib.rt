@@ -8,6 +8,7 @@
 
 mod auditing;
 mod copies;
+mod examples;
 mod found;
 mod laws;
 mod lines;

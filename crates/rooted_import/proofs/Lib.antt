@@ -1,2 +1,3 @@
 pub mod LawLemmas
 pub mod WrongLemmas
+pub mod ExampleLemmas

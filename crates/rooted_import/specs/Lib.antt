@@ -3,3 +3,4 @@ pub mod Agreement
 pub mod Rooted
 pub mod Laws
 pub mod WrongRules
+pub mod Examples

@@ -6,6 +6,7 @@
 #![tactic(auto)]
 
 mod agreement;
+mod examples;
 mod laws;
 mod rooted;
 mod roots;

@@ -13,11 +13,16 @@ unfolding ports_in row_in table_by_lid
 lanes_are_read = record {
   of_8_lanes = refl;
   of_wide_ports = refl;
+  of_port_255 = refl;
   of_vl_16 = refl;
   of_15_vls = refl;
   of_port_256 = refl;
   of_hexadecimal_port = refl;
+  of_17_vls = refl;
+  of_no_digit = refl;
+  of_no_bar = refl;
   by_lid = refl;
+  by_last_lid = refl;
   by_directed_route = refl;
   by_no_lid = refl;
 }
@@ -34,8 +39,11 @@ fields_are_read = record {
   of_decimal_sl = refl;
   of_lid_65536 = refl;
   twice = refl;
+  dlid_twice = refl;
   whole = refl;
   without_sl = refl;
+  without_slid = refl;
+  without_dlid = refl;
 }
 
 pub lane_texts_are_read : LaneTextsAreRead
@@ -43,6 +51,9 @@ unfolding after_judged after_line after_lines field_in fields_reported lanes_of 
 lane_texts_are_read = record {
   whole = refl;
   records_first = refl;
+  rows_alone = refl;
+  of_other_ports = refl;
+  of_a_wrong_heading = refl;
   without_a_table = refl;
   behind_a_record = refl;
   twice = refl;

@@ -29,13 +29,21 @@ pub record LanesAreRead : Type 0 where
         output = 129;
         lanes = 0 ∷ 1 ∷ 2 ∷ 3 ∷ 4 ∷ 5 ∷ 6 ∷ 7 ∷ 8 ∷ 9 ∷ 10 ∷ 11 ∷ 12 ∷ 13 ∷ 14 ∷ 15 ∷ [];
       })
+  -- the last ports
+  pub of_port_255 : row_in 3 18 (codes "ports: in 255, out 254: | 0| 1| 2| 3| 4| 5| 6| 7| 0| 1| 2| 3| 4| 5| 6| 7|")
+      ≡ Ok (record one_row { input = 255; output = 254 })
   -- no VL, 15 VLs, a port above 255, and a port in hexadecimal digits
   pub of_vl_16 : row_in 3 18 (codes "ports: in  0, out  1: | 0| 1| 2| 3| 4| 5| 6| 7| 0| 1| 2| 3| 4| 5| 6|16|") ≡ Err Malformed
   pub of_15_vls : row_in 3 18 (codes "ports: in  0, out  1: | 0| 1| 2| 3| 4| 5| 6| 7| 0| 1| 2| 3| 4| 5| 6|") ≡ Err Malformed
   pub of_port_256 : row_in 3 18 (codes "ports: in  0, out 256: | 0| 1| 2| 3| 4| 5| 6| 7| 0| 1| 2| 3| 4| 5| 6| 7|") ≡ Err Malformed
   pub of_hexadecimal_port : row_in 3 18 (codes "ports: in 0x1, out  1: | 0| 1| 2| 3| 4| 5| 6| 7| 0| 1| 2| 3| 4| 5| 6| 7|") ≡ Err Malformed
+  -- 17 VLs, a byte that is no digit, and one that is no bar
+  pub of_17_vls : row_in 3 18 (codes "ports: in  0, out  1: | 0| 1| 2| 3| 4| 5| 6| 7| 0| 1| 2| 3| 4| 5| 6| 7| 0|") ≡ Err Malformed
+  pub of_no_digit : row_in 3 18 (codes "ports: in  0, out  1: | 0| 1| 2| 3| 4| 5| 6| 7| 0| 1| 2| 3| 4| 5| 6| :|") ≡ Err Malformed
+  pub of_no_bar : row_in 3 18 (codes "ports: in  0, out  1: | 0| 1| 2| 3| 4| 5| 6| 7| 0| 1| 2| 3| 4| 5| 6: 7|") ≡ Err Malformed
   -- the headings of tables
   pub by_lid : table_in (codes "# SL2VL table: Lid 18") ≡ Ok (Table 18)
+  pub by_last_lid : table_in (codes "# SL2VL table: Lid 65535") ≡ Ok (Table 65535)
   pub by_directed_route : table_in (codes "# SL2VL table: DR path slid 65535; dlid 65535; 0,1") ≡ Err DirectedRoute
   pub by_no_lid : table_in (codes "# SL2VL table: Lid 65536") ≡ Err Malformed
 
@@ -54,8 +62,11 @@ pub record FieldsAreRead : Type 0 where
   pub of_decimal_sl : field_in (codes "\t\tsl......................2") ≡ Err Malformed
   pub of_lid_65536 : field_in (codes "\t\tdlid....................65536") ≡ Err Malformed
   pub twice : with_field (record (no_fields 7) { sl = Some 2 }) (Sl 2) ≡ Err DuplicateField
+  pub dlid_twice : with_field (record (no_fields 7) { destination = Some 2 }) (Destination 2) ≡ Err DuplicateField
   pub whole : path_of (record { line = 7; source = Some 12; destination = Some 11; sl = Some 2 }) ≡ Some one_path
   pub without_sl : path_of (record { line = 7; source = Some 12; destination = Some 11; sl = None }) ≡ None
+  pub without_slid : path_of (record { line = 7; source = None; destination = Some 11; sl = Some 2 }) ≡ None
+  pub without_dlid : path_of (record { line = 7; source = Some 12; destination = None; sl = Some 2 }) ≡ None
 
 -- ---- a whole text
 abbrev row_text : List ℕ
@@ -73,10 +84,24 @@ record_text =
 abbrev record_without_sl : List ℕ
 record_without_sl = codes "PathRecord dump:\n\t\tslid....................12\n\t\tdlid....................11\n"
 
+-- rows that differ from one another in the LID or in one port
+abbrev other_rows_text : List ℕ
+other_rows_text =
+    codes "ports: in  1, out  1: | 0| 1| 2| 3| 4| 5| 6| 7| 0| 1| 2| 3| 4| 5| 6| 7|\n"
+    ++ codes "ports: in  0, out  2: | 0| 1| 2| 3| 4| 5| 6| 7| 0| 1| 2| 3| 4| 5| 6| 7|\n# SL2VL table: Lid 19\n"
+
 pub record LaneTextsAreRead : Type 0 where
   pub whole : lanes_of (table_text ++ codes "# saquery PR\n" ++ record_text) ≡ Ok (record { rows = one_row ∷ []; paths = one_path ∷ [] })
   pub records_first : lanes_of (record_text ++ record_text ++ codes "# SL2VL table: Lid 18\n")
       ≡ Ok (record { rows = []; paths = one_path ∷ one_path ∷ [] })
+  pub rows_alone : lanes_of table_text ≡ Ok (record { rows = one_row ∷ []; paths = [] })
+  pub of_other_ports : lanes_of (table_text ++ other_rows_text ++ row_text)
+      ≡ Ok (record {
+        rows = one_row ∷ record one_row { line = 4; input = 1 } ∷ record one_row { line = 5; output = 2 } ∷ record one_row { line = 7; lid = 19 } ∷ [];
+        paths = [];
+      })
+  -- a heading that is none is no comment: the rows behind it are of another switch
+  pub of_a_wrong_heading : lanes_of (table_text ++ codes "# SL2VL table:Lid 19\n") ≡ Err (record { line = 4; cause = Malformed })
   -- a row outside a table, and one twice
   pub without_a_table : lanes_of row_text ≡ Err (record { line = 1; cause = Malformed })
   pub behind_a_record : lanes_of (table_text ++ record_text ++ row_text) ≡ Err (record { line = 10; cause = Malformed })

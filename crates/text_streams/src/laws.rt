@@ -2,7 +2,7 @@
 
 ghost use Rattle.std.specs.Prelude.{◌≡◌};
 ghost use Rattle.text_streams.specs.declared.reading.TheConstants.{BIG_PIECE, PIECE, READS};
-ghost use Rattle.text_streams.specs.Laws.{LateReportsAreNotInTime, OthersAreNoPart, ShortTextsEnd};
+ghost use Rattle.text_streams.specs.Laws.{LateReportsAreNotInTime, OthersAreNoPart, OthersAreNotMade, ShortTextsEnd};
 
 /// How often a text is read, and how many bytes a read takes at most, so that a text is read up to 256 MiB, and a big one up
 /// to 4 GiB. The numbers are ours. Like every law the function does nothing: its contract is the law.
@@ -25,4 +25,9 @@ pub fn others_are_no_part()
 /// A read before which less than the report of what was read is written, or more, is not in time.
 pub fn late_reports_are_not_in_time()
     ensures { LateReportsAreNotInTime }
+{}
+
+/// What is made of a text is what its definition gives for it, and a fault is that which it gives, with its line.
+pub fn others_are_not_made()
+    ensures { OthersAreNotMade }
 {}

@@ -12,7 +12,8 @@ mod reading_lines;
 mod writing;
 
 pub use crate::laws::{
-    late_reports_are_not_in_time, others_are_no_part, short_texts_end, the_numbers,
+    late_reports_are_not_in_time, others_are_no_part, others_are_not_made, short_texts_end,
+    the_numbers,
 };
 pub use crate::reading::{BIG_PIECE, PIECE, READS, Reader, TextSize, read_to_end};
 pub use crate::reading_by_lines::read_lines_of;

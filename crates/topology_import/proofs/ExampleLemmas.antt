@@ -11,9 +11,11 @@ use Rattle.topo_file.specs.declared.node.Node.{Node}
 use Rattle.topo_file.specs.Topology.{TopologyState, after_line, after_words, cable_of, cable_encoded, manager_of, manager_encoded, node_of, node_encoded, topology_within, whole}
 use Rattle.topology_import.specs.Agreement.{agrees}
 use Rattle.topology_import.specs.Ends.{ends}
-use Rattle.topology_import.specs.Examples.{EndsAreCounted, OthersAreRefused, PortsAreImported, two_hosts, two_hosts_text, TwoHostsAreImported, two_ports, two_ports_text}
+use Rattle.topology_import.specs.Examples.{EndsAreCounted, LongNamesAreNumbered, LoopsAreCables, OthersAreRefused, PortsAreImported, SizesAreCompared}
+use Rattle.topology_import.specs.Examples.{two_hosts, two_hosts_text, TwoHostsAreImported, two_ports, two_ports_text}
 use Rattle.topology_import.specs.Import.{import_of, text_read}
 use Rattle.topology_import.specs.Names.{named}
+use Rattle.topology_import.specs.Sizes.{lines_of, port_words, switch_words, title, wide_words}
 use Rattle.topology_import.specs.Text.{planned_nodes, text_of, text_with}
 
 adapter : List ℕ → ℕ → Node
@@ -80,7 +82,18 @@ ports_are_imported = record { asked = other_given; of_a_router = refl; of_none =
 
 pub others_are_refused : OthersAreRefused
 unfolding after_line after_lines after_words cable_of cable_encoded digits encode_with import_of manager_of manager_encoded named node_of node_encoded text_with topology_within whole
-others_are_refused = record { of_a_node = refl; of_port_0 = refl; too_large = refl; past_its_ports = refl }
+others_are_refused = record { of_a_node = refl; of_port_0 = refl; of_none = refl; manager_first = refl; too_large = refl; past_its_ports = refl }
 
 pub ends_are_counted : EndsAreCounted
 ends_are_counted = record { one = refl; eight = refl; nine = refl; the_eighth = refl; the_ninth = refl; apart = refl; last = refl }
+
+pub long_names_are_numbered : LongNamesAreNumbered
+unfolding digits
+long_names_are_numbered = record { second = refl; third = refl; tenth = refl }
+
+pub loops_are_cables : LoopsAreCables
+loops_are_cables = refl
+
+pub sizes_are_compared : SizesAreCompared
+unfolding digits lines_of port_words switch_words title wide_words
+sizes_are_compared = record { full = refl; switches = refl; wide = refl; adapter_ports = refl }

@@ -1,15 +1,21 @@
 -- Fabrics, and their topologies: a switch and two adapters of one name, and one adapter of two ports beside a router.
-use Rattle.std.specs.Prelude.{ℕ, ◌≡◌, ◌+◌, List, [], ◌∷◌, codes, map, Some, None, Ok, Err}
+use Rattle.std.specs.Prelude.{ℕ, ◌≡◌, ◌+◌, List, [], ◌∷◌, codes, map, replicate, Some, None, Ok, Err}
 use Rattle.std.specs.List.{range_with_len}
 use Rattle.fabric_parts.specs.Cable.{port}
+use Rattle.fabric_parts.specs.declared.node_type.NodeType.{NodeType}
+use Rattle.fabric_parts.specs.declared.node_type.NodeType.TheVariants as node_type
 use Rattle.netdiscover_file.specs.declared.kind.NodeKind.TheVariants.{ChannelAdapter, Router, Switch}
 use Rattle.netdiscover_file.specs.declared.node.Node.{Node}
 use Rattle.netdiscover_file.specs.declared.port.PortLine.{PortLine}
 use Rattle.netdiscover_file.specs.Discovery.{DiscoveryState}
 use Rattle.topo_file.specs.declared.fault.TopologyCause.TheVariants as topology
 use Rattle.topology_import.specs.declared.fault.ImportCause.TheVariants.{GuidTaken, Refused, UnknownManager}
+use Rattle.topology_import.specs.declared.planned.Planned.{Planned}
+use Rattle.topology_import.specs.Cables.{cables_meant}
 use Rattle.topology_import.specs.Ends.{number_of, ports_from}
 use Rattle.topology_import.specs.Import.{import_of}
+use Rattle.topology_import.specs.Names.{numbered, own_name}
+use Rattle.topology_import.specs.Sizes.{size_lines}
 
 abbrev pub leaf : Node
 leaf = record { id = record { kind = Switch; guid = 16 }; ports = 4; name = codes "leaf; 1"; lid = Some 3; port_guid = Some 17; line = 3 }
@@ -93,6 +99,9 @@ one_host guid = record { nodes = leaf ∷ host guid 6 ∷ []; ports = down 1 gui
 pub record OthersAreRefused : Type 0 where
   pub of_a_node : import_of (one_host 16) None ≡ Err (record { line = 7; cause = GuidTaken 17 16 })
   pub of_port_0 : import_of (one_host 17) None ≡ Err (record { line = 7; cause = GuidTaken 18 17 })
+  pub of_none : import_of (one_host 0) None ≡ Err (record { line = 7; cause = GuidTaken 1 0 })
+  -- no port for the subnet manager is reported first
+  pub manager_first : import_of (record (one_host 16) { initiator = None }) None ≡ Err (record { line = 0; cause = UnknownManager })
   pub too_large : import_of (record (one_host 32) { nodes = record leaf { ports = 255 } ∷ host 32 6 ∷ [] }) None
       ≡ Err (record { line = 3; cause = Refused topology.Malformed })
   pub past_its_ports : import_of (record (one_host 32) { ports = down 5 32 4 ∷ up 1 32 5 7 ∷ [] }) None
@@ -110,3 +119,41 @@ pub record EndsAreCounted : Type 0 where
   pub the_ninth : number_of (some_ends 9) 265 ≡ 9
   pub apart : number_of (up 1 256 1 7 ∷ up 1 258 1 7 ∷ []) 259 ≡ 1
   pub last : ports_from (up 1 0xfffffffffffffffe 1 7 ∷ []) 0xffffffffffffffff ≡ 1
+
+-- ---- names of 32 bytes, of which the number takes the last
+abbrev pub long_name : List ℕ
+long_name = codes "a_switch_of_thirty-three_letters"
+
+abbrev pub a_node : List ℕ → NodeType → ℕ → Planned
+a_node name node_type ports = record { name = name; node_type = node_type; guid = 1; ports = ports; node = 0; line = 1 }
+
+abbrev pub named_so : List ℕ → Planned
+named_so name = a_node name node_type.Switch 4
+
+pub record LongNamesAreNumbered : Type 0 where
+  pub second : own_name (named_so long_name ∷ []) long_name ≡ codes "a_switch_of_thirty-three_lette-2"
+  pub third : own_name (named_so long_name ∷ named_so (codes "a_switch_of_thirty-three_lette-2") ∷ []) long_name
+      ≡ codes "a_switch_of_thirty-three_lette-3"
+  pub tenth : numbered long_name 10 ≡ codes "a_switch_of_thirty-three_lett-10"
+
+-- ---- a cable between two ports of one switch is one cable, from the line of the first
+abbrev pub looped : ℕ → ℕ → ℕ → PortLine
+looped number other line = record (down number 16 line) { far = record { node = record { kind = Switch; guid = 16 }; port = other; guid = None } }
+
+abbrev pub LoopsAreCables : Type 0
+LoopsAreCables =
+    cables_meant (record { nodes = leaf ∷ []; ports = looped 3 4 5 ∷ looped 4 3 6 ∷ []; initiator = None })
+    ≡ (record { first = record { guid = 17; port = 3 }; second = record { guid = 17; port = 4 }; line = 5 }) ∷ []
+
+-- ---- fabrics that are as large as one that is simulated, or just larger
+abbrev pub a_switch : ℕ → Planned
+a_switch ports = a_node [] node_type.Switch ports
+
+pub record SizesAreCompared : Type 0 where
+  pub full : size_lines (replicate 64 (a_switch 36)) 256 ≡ []
+  pub switches : size_lines (replicate 65 (a_switch 36)) 1
+      ≡ codes "# too large to be simulated: 65 switches (at most 64), 0 of them of more than 36 ports, 1 CA ports (at most 256)\n# audit, audit-keys, shares and diff take it\n"
+  pub wide : size_lines (a_node [] node_type.ChannelAdapter 37 ∷ a_switch 37 ∷ a_switch 36 ∷ []) 9
+      ≡ codes "# too large to be simulated: 2 switches (at most 64), 1 of them of more than 36 ports, 9 CA ports (at most 256)\n# audit, audit-keys, shares and diff take it\n"
+  pub adapter_ports : size_lines [] 257
+      ≡ codes "# too large to be simulated: 0 switches (at most 64), 0 of them of more than 36 ports, 257 CA ports (at most 256)\n# audit, audit-keys, shares and diff take it\n"

@@ -1,0 +1,24 @@
+-- What the files say of the ports of a small fabric, computed.
+use Rattle.std.proofs.Common.{refl}
+use Rattle.std.specs.Fmt.{digits}
+use Rattle.audited_ports.specs.Ends.{with_port}
+use Rattle.audited_ports.specs.Examples.{DefaultsAreTakenInTurn, PortsAreGathered, StrangersAreReported}
+use Rattle.audited_ports.specs.Gathered.{gathered, gathered_end}
+use Rattle.audited_ports.specs.Strangers.{lone_lines, port_word_on, stranger_line, stranger_lines}
+
+pub ports_are_gathered : PortsAreGathered
+unfolding gathered gathered_end with_port
+ports_are_gathered = record {
+  in_place = refl;
+  unasked = refl;
+  switch_moved = refl;
+  adapter_moved = refl;
+  by_number = refl;
+}
+
+pub strangers_are_reported : StrangersAreReported
+unfolding digits lone_lines port_word_on stranger_line stranger_lines with_port
+strangers_are_reported = record { listed = refl; of_port = refl; of_node = refl; of_nobody = refl; alone = refl }
+
+pub defaults_are_taken_in_turn : DefaultsAreTakenInTurn
+defaults_are_taken_in_turn = record { none = refl; listed = refl; two = refl; another = refl }

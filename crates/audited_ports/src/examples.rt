@@ -1,0 +1,18 @@
+//! What the files say of the ports of a small fabric, computed. Each function does nothing: its contract is the example.
+
+ghost use Rattle.audited_ports.specs.Examples.{DefaultsAreTakenInTurn, PortsAreGathered, StrangersAreReported};
+
+/// The ports of a switch and of an adapter, also if LIDs moved or a query named no port; a router is left out.
+pub fn ports_are_gathered()
+    ensures { PortsAreGathered }
+{}
+
+/// The GUID of a node, one of nobody, and a port in no partition.
+pub fn strangers_are_reported()
+    ensures { StrangersAreReported }
+{}
+
+/// The words of the default partition, as OpenSM takes them.
+pub fn defaults_are_taken_in_turn()
+    ensures { DefaultsAreTakenInTurn }
+{}
