@@ -54,9 +54,9 @@ def end_hint(tried):
     return False
 
 
-def start_try(crate, words, output):
+def start_try(crate, words, output, top=TOP):
     """Starts `rt try` with these words in the folder of the crate; what it prints goes to the file."""
-    tried = subprocess.Popen(["rt", "try", *words], cwd=TOP / "crates" / crate, stdin=subprocess.DEVNULL, stdout=output, stderr=output)
+    tried = subprocess.Popen(["rt", "try", *words], cwd=top / "crates" / crate, stdin=subprocess.DEVNULL, stdout=output, stderr=output)
     end = time.monotonic() + 10
     while tried.poll() is None and time.monotonic() < end and not end_hint(tried):
         time.sleep(0.1)
