@@ -6,3 +6,4 @@ pub mod TopologyEndLemmas
 pub mod RangeLemmas
 pub mod LidLawLemmas
 pub mod ExampleLemmas
+pub mod SubsliceLemmas

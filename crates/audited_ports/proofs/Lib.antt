@@ -1,1 +1,3 @@
 pub mod ExampleLemmas
+pub mod AuditedLemmas
+pub mod WrongLemmas

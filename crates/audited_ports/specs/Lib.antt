@@ -5,3 +5,5 @@ pub mod Gathered
 pub mod Names
 pub mod Strangers
 pub mod Examples
+pub mod Laws
+pub mod WrongRules

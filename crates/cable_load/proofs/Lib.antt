@@ -13,3 +13,5 @@ pub mod TopLemmas
 pub mod WrongLemmas
 pub mod ExampleLemmas
 pub mod EachPairLemmas
+mod TextLemmas
+mod WrongTextLemmas

@@ -31,7 +31,7 @@ count_not p x xs off =
     let none : 0 + count_by p xs ≡ count_by p xs = omega arith in
     count_first p x xs ∙ ap (λ (b : Bool). cond b 1 0 + count_by p xs) off ∙ none
 
-none_counted : {X : Type 0} (p : X → Bool) (xs : List X) → (count_by p xs == 0) ≡ not (list_any p xs)
+pub none_counted : {X : Type 0} (p : X → Bool) (xs : List X) → (count_by p xs == 0) ≡ not (list_any p xs)
 none_counted p [] = refl
 none_counted p (x ∷ xs) = elim (cases_Bool (p x)) [
   | inl is ↦ let many = count_yes p x xs is in let some : (count_by p (x ∷ xs) == 0) ≡ false = grind (arith, nat_tests, many) in
@@ -218,7 +218,7 @@ all_up_to p (one ∷ all) most up =
     count_first (λ x. nat_le x.load most && p x) one all ∙ ap (λ (b : Bool). cond (b && p one) 1 0 + count_by (λ x. nat_le x.load most && p x) all) here
     ∙ ap (λ (n : ℕ). cond (p one) 1 0 + n) (all_up_to p all most up.1) ∙ sym (count_first p one all)
 
-count_ordered : (p : Loaded → Bool) (all : List Loaded) → count_by p (ordered all) ≡ count_by p all
+pub count_ordered : (p : Loaded → Bool) (all : List Loaded) → count_by p (ordered all) ≡ count_by p all
 count_ordered p all = count_from p all (most_of all) ∙ all_up_to p all (most_of all) (up_to_most all)
 
 -- ---- sums of counts, the other way round

@@ -1,6 +1,7 @@
 -- What is so of all fabrics, dumps, LIDs and pairs: the statements of the laws of `src/laws.rt`.
-use Rattle.std.specs.Prelude.{ℕ, ◌+◌, ◌<◌, ◌≤◌, ◌≡◌, ◌==◌, ◌&&◌, Bool, true, false, not, List, [], ◌∷◌, count_by, filter, length, slice_get, if◌then◌else◌, Option, Some}
+use Rattle.std.specs.Prelude.{ℕ, ◌+◌, ◌<◌, ◌≤◌, ◌≡◌, ◌==◌, ◌&&◌, Bool, true, false, not, List, [], ◌∷◌, ◌++◌, count_by, filter, length, slice_get, if◌then◌else◌, Option, Some, option_map}
 use Rattle.std.specs.List.{list_any, sum_by}
+use Rattle.std.specs.Str.Iter.{HasSubslice}
 use Rattle.fabric_parts.specs.Cable.{far_end, is_same_port, port}
 use Rattle.fabric_parts.specs.declared.cable.Cable.{Cable}
 use Rattle.fabric_parts.specs.declared.cable.PortRef.{PortRef}
@@ -15,6 +16,7 @@ use Rattle.audit_net.specs.declared.entry.Entry.TheVariants.{Out}
 use Rattle.audit_net.specs.declared.following.Fate.TheVariants as fates
 use Rattle.audit_net.specs.declared.following.Turn.TheVariants as turns
 use Rattle.lid_owners.specs.declared.lids.Aim.{Aim}
+use Rattle.lid_owners.specs.Lids.{aims}
 use Rattle.credit_loops.specs.Channels.{channels, leads_to}
 use Rattle.audit_net.specs.Following.{turn, turn_by}
 use Rattle.audit_net.specs.Laws.{ComesBy}
@@ -24,9 +26,11 @@ use Rattle.audit_plan.specs.Plan.{PlanState, is_host, plan_found, plan_of}
 use Rattle.cable_load.specs.declared.levels.TheConstants.{LEVELS}
 use Rattle.cable_load.specs.declared.loaded.Loaded.{Loaded}
 use Rattle.cable_load.specs.Levels.{carries, level_of}
-use Rattle.cable_load.specs.Loads.{load, loads}
+use Rattle.cable_load.specs.Counts.{counts_of}
+use Rattle.cable_load.specs.Loads.{load, loaded, loads}
 use Rattle.cable_load.specs.Order.{ordered}
 use Rattle.cable_load.specs.Sources.{Pair, pairs_by, pairs_to_end}
+use Rattle.cable_load.specs.Text.{load_line, load_text_of, loads_of, pairs_line}
 use Rattle.cable_load.specs.Tops.{tops_of}
 use Rattle.cable_load.specs.Ways.{fate_of, goes_over, is_on, way}
 
@@ -163,6 +167,29 @@ lines_of net pairs = ordered (loads net pairs)
 
 abbrev pub EachChannelHasOneLine : Type 0
 EachChannelHasOneLine = NamesEachOnce lines_of
+
+-- ---- what is counted and printed of a fabric: all its LIDs
+-- how many pairs go over this port, of all that may talk
+abbrev pub loaded_by_all : NetState → (talk : PortRef → PortRef → Bool) → PortRef → Loaded
+loaded_by_all net talk at = loaded net (pairs_by net talk (aims net)) at
+
+-- the loads are those of the channels, each in its place
+abbrev pub CountsAllPairs : (NetState → (talk : PortRef → PortRef → Bool) → List Loaded) → Type 0
+CountsAllPairs loads =
+    (net : NetState) (talk : PortRef → PortRef → Bool) (index : ℕ) → slice_get (loads net talk) index ≡ option_map (loaded_by_all net talk) (slice_get (channels net) index)
+
+abbrev pub AllPairsAreCounted : Type 0
+AllPairsAreCounted = CountsAllPairs loads_of
+
+-- the text has the line of each channel, and ends with the counts of all pairs
+pub record PrintsAllPairs (text : NetState → (talk : PortRef → PortRef → Bool) → List ℕ) : Type 0 where
+  pub loads : (net : NetState) (talk : PortRef → PortRef → Bool) (index : ℕ) (at : PortRef) → slice_get (channels net) index ≡ Some at
+      → HasSubslice (text net talk) (load_line net (loaded_by_all net talk at))
+  pub counts : (net : NetState) (talk : PortRef → PortRef → Bool)
+      → (before : List ℕ) × (text net talk ≡ before ++ pairs_line (counts_of net (pairs_by net talk (aims net))))
+
+abbrev pub AllPairsArePrinted : Type 0
+AllPairsArePrinted = PrintsAllPairs load_text_of
 
 -- ---- levels
 -- out of the ports behind these numbers, one after the other, links lead to a switch that carries a host

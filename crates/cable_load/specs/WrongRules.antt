@@ -1,5 +1,5 @@
 -- Wrong rules for what is reported, and the law that each breaks.
-use Rattle.std.specs.Prelude.{ℕ, ◌+◌, ◌-◌, ◌*◌, ◌==◌, ◌&&◌, Bool, not, List, [], ◌∷◌, ◌++◌, codes, count_by, filter, map, take, None, Some}
+use Rattle.std.specs.Prelude.{ℕ, ◌+◌, ◌-◌, ◌*◌, ◌==◌, ◌&&◌, Bool, not, List, [], ◌∷◌, ◌++◌, codes, count_by, filter, flat_map, map, take, None, Some}
 use Rattle.dump_file.specs.declared.destination.Destination.TheVariants as destinations
 use Rattle.dump_file.specs.declared.table.Table.{Table}
 use Rattle.fabric_parts.specs.Cable.{port}
@@ -12,16 +12,20 @@ use Rattle.topo_file.specs.declared.node.Node.{Node}
 use Rattle.topo_file.specs.Connectivity.{switches}
 use Rattle.topo_file.specs.Topology.{TopologyState}
 use Rattle.lid_owners.specs.declared.lids.Aim.{Aim}
+use Rattle.lid_owners.specs.Lids.{aims}
 use Rattle.credit_loops.specs.Channels.{leaves_by}
 use Rattle.audit_net.specs.Net.{NetState}
 use Rattle.audit_plan.specs.Plan.{PlanState, plan_found, plan_of}
 use Rattle.cable_load.specs.declared.loaded.Loaded.{Loaded}
 use Rattle.cable_load.specs.Laws.{AddsUp, CarriesWhatArrives, CountsEachPair, CountsTalkers, FindsFarthest, FollowsWays, MeasuresLevels, NamesEachOnce, ReportsUnused, StaysWithin}
-use Rattle.cable_load.specs.Laws.{TakesCables, all_talk, lines_of}
+use Rattle.cable_load.specs.Laws.{CountsAllPairs, PrintsAllPairs, TakesCables, all_talk, lines_of}
+use Rattle.cable_load.specs.Counts.{counts_of}
 use Rattle.cable_load.specs.Levels.{level_of}
-use Rattle.cable_load.specs.Loads.{load}
+use Rattle.cable_load.specs.Loads.{load, loads}
+use Rattle.cable_load.specs.Order.{ordered}
 use Rattle.cable_load.specs.Sources.{Pair, pairs_by}
 use Rattle.cable_load.specs.Talk.{may_talk}
+use Rattle.cable_load.specs.Text.{load_line, loads_of, pairs_line, text_by}
 use Rattle.cable_load.specs.Tops.{top_of, tops_of}
 use Rattle.cable_load.specs.Ways.{goes_over, is_lost, is_on, way_within}
 
@@ -203,3 +207,28 @@ to_first net talk all = pairs_by net talk (take 1 all)
 
 abbrev pub OtherLidsCountToo : Type 0
 OtherLidsCountToo = CountsEachPair to_first → ⊥
+
+-- ---- pairs to the first LID alone are counted
+abbrev pub pairs_to_first : NetState → (talk : PortRef → PortRef → Bool) → List Pair
+pairs_to_first net talk = pairs_by net talk (take 1 (aims net))
+
+abbrev pub loads_to_first : NetState → (talk : PortRef → PortRef → Bool) → List Loaded
+loads_to_first net talk = loads net (pairs_to_first net talk)
+
+abbrev pub AllLidsAreCounted : Type 0
+AllLidsAreCounted = CountsAllPairs loads_to_first → ⊥
+
+-- ---- or printed
+abbrev pub text_to_first : NetState → (talk : PortRef → PortRef → Bool) → List ℕ
+text_to_first net talk = text_by net (pairs_to_first net talk)
+
+abbrev pub AllLidsArePrinted : Type 0
+AllLidsArePrinted = PrintsAllPairs text_to_first → ⊥
+
+-- ---- the line of the channel with the greatest load is printed alone
+abbrev pub text_of_first : NetState → (talk : PortRef → PortRef → Bool) → List ℕ
+text_of_first net talk =
+    flat_map (load_line net) (take 1 (ordered (loads_of net talk))) ++ pairs_line (counts_of net (pairs_by net talk (aims net)))
+
+abbrev pub AllChannelsArePrinted : Type 0
+AllChannelsArePrinted = PrintsAllPairs text_of_first → ⊥

@@ -4,6 +4,7 @@ ghost use Rattle.std.specs.Prelude.{◌≡◌};
 ghost use Rattle.cable_load.specs.declared.levels.TheConstants.{LEVELS};
 ghost use Rattle.cable_load.specs.Laws.{CablesOfPlansLeadBack, EachChannelHasOneLine, EachPairCounts, LastLinksCarryWhatArrives, LevelsAreDistances};
 ghost use Rattle.cable_load.specs.Laws.{LoadsAddUp, LoadsAreOfPairs, LoadsStayWithin, TalkersCount, TopsAreFarthest, WaysAreWhole};
+ghost use Rattle.cable_load.specs.Laws.{AllPairsAreCounted, AllPairsArePrinted};
 
 /// A switch is on the way of a LID if and only if packets come to it along the entries, over however many switches.
 pub fn ways_are_whole()
@@ -64,4 +65,14 @@ pub fn loads_stay_within()
 /// Each direction of a cable between two switches has one line, and nothing else has one.
 pub fn each_channel_has_one_line()
     ensures { EachChannelHasOneLine }
+{}
+
+/// The loads of a fabric are those of its channels, each with the number of all pairs that go over it, to all LIDs.
+pub fn all_pairs_are_counted()
+    ensures { AllPairsAreCounted }
+{}
+
+/// The text has the line of each channel, with this number, and the counts of all pairs at its end.
+pub fn all_pairs_are_printed()
+    ensures { AllPairsArePrinted }
 {}

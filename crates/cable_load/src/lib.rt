@@ -28,9 +28,10 @@ mod wrong_rules;
 
 pub use crate::examples::{fractions_are_rounded_down, ports_send_to_others, texts_are_so};
 pub use crate::laws::{
-    cables_of_plans_lead_back, each_channel_has_one_line, each_pair_counts,
-    last_links_carry_what_arrives, levels_are_distances, loads_add_up, loads_are_of_pairs,
-    loads_stay_within, talkers_count, the_numbers, tops_are_farthest, ways_are_whole,
+    all_pairs_are_counted, all_pairs_are_printed, cables_of_plans_lead_back,
+    each_channel_has_one_line, each_pair_counts, last_links_carry_what_arrives,
+    levels_are_distances, loads_add_up, loads_are_of_pairs, loads_stay_within, talkers_count,
+    the_numbers, tops_are_farthest, ways_are_whole,
 };
 pub use crate::levels::LEVELS;
 pub use crate::loaded::Loaded;

@@ -2,6 +2,7 @@
 //! function does nothing: its contract says that with this rule the law is false.
 
 ghost use Rattle.cable_load.specs.WrongRules.{FirstLinksCountToo, FirstPortsDoNotAddUp, LastLinksCountToo, LevelsBeginAt0, LostPairsLoad, NotAllAreLeaves, PairsCountOnce, PortsCountFrom1, SilentPortsDoNotCount, UnusedChannelsHaveALine, WaysGoOn};
+ghost use Rattle.cable_load.specs.WrongRules.{AllChannelsArePrinted, AllLidsAreCounted, AllLidsArePrinted};
 ghost use Rattle.cable_load.specs.WrongRules.{AllTopsCount, LeavesAreNoTops, OtherLidsCountToo, OtherSwitchesCountToo, TopsAreNotOfLevel1};
 
 /// If a way ended at its first switch, packets would come to a switch that is not on it.
@@ -82,4 +83,19 @@ pub fn other_switches_count_too()
 /// If ports sent to the first LID alone, nobody would send to another.
 pub fn other_lids_count_too()
     ensures { OtherLidsCountToo }
+{}
+
+/// If pairs to the first LID alone were counted, a channel would lack those to another.
+pub fn all_lids_are_counted()
+    ensures { AllLidsAreCounted }
+{}
+
+/// If pairs to the first LID alone were printed, the line of a channel would lack those to another.
+pub fn all_lids_are_printed()
+    ensures { AllLidsArePrinted }
+{}
+
+/// If the first line were printed alone, another channel would have none.
+pub fn all_channels_are_printed()
+    ensures { AllChannelsArePrinted }
 {}

@@ -4,3 +4,5 @@ mod BaseLemmas
 mod PairLemmas
 mod WrongLemmas
 mod ExampleLemmas
+mod PrintLemmas
+mod WrongPrintLemmas

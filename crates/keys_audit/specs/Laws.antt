@@ -1,6 +1,7 @@
 -- What the status of an audit means, its pairs and its last line.
-use Rattle.std.specs.Prelude.{ℕ, ◌≡◌, ◌↔◌, Bool, true, false, not, ◌&&◌, List, ◌++◌, codes, replicate, slice_get, is_some, Some, IfSome, Option}
+use Rattle.std.specs.Prelude.{ℕ, ◌≡◌, ◌↔◌, Bool, true, false, not, ◌&&◌, List, ◌++◌, codes, flat_map, replicate, slice_get, is_some, Some, IfSome, Option}
 use Rattle.std.specs.List.{count_by, list_all}
+use Rattle.std.specs.Str.Iter.{HasSubslice}
 use Rattle.pair_changes.specs.declared.pairs.Pair.{Pair}
 use Rattle.pair_changes.specs.Laws.{count_of_two}
 use Rattle.partition_file.specs.declared.partition.Partition.{Partition}
@@ -11,10 +12,12 @@ use Rattle.audited_ports.specs.declared.port.AuditedPort.{AuditedPort}
 use Rattle.audited_ports.specs.declared.port.Enforcement.{Enforcement}
 use Rattle.audited_ports.specs.declared.port.FacingPort.{FacingPort}
 use Rattle.audited_ports.specs.declared.port.HeldKeys.{HeldKeys}
-use Rattle.keys_audit.specs.Differences.{are_clean, enforces}
+use Rattle.keys_audit.specs.declared.differences.Difference.{Difference}
+use Rattle.keys_audit.specs.declared.differences.DifferenceKind.TheVariants.{Off}
+use Rattle.keys_audit.specs.Differences.{are_clean, enforces, facing_differences, port_differences}
 use Rattle.audited_ports.specs.Held.{have_same_keys, held, is_key}
 use Rattle.keys_audit.specs.Standing.{only_by_file, only_by_tables}
-use Rattle.keys_audit.specs.Text.{audit_of, verdict}
+use Rattle.keys_audit.specs.Text.{are_off, audit_of, count_of, difference_line, is_faced, is_unread, moved_line, unread_line, verdict}
 
 -- every key is in both lists or in none
 abbrev pub HaveSameKeys : List ℕ → List ℕ → Type 0
@@ -132,6 +135,24 @@ pub record TheVerdictIsTrue : Type 0 where
   pub is : IsTrueVerdict verdict
   pub last : (nodes : List Node) (all : Bool) (ports : List AuditedPort) (partitions : List Partition)
       → TheTextEndsWith verdict (audit_of nodes all ports partitions).text ports
+
+-- ---- the lines
+-- the text says all that is wrong of a port: by which keys it differs, how the switch port that faces it does, if any of these drops
+-- packets, that it was not read, or that its LID moved
+pub record SaysAllOf (text : List ℕ) (nodes : List Node) (ports : List AuditedPort) (port : AuditedPort) : Type 0 where
+  pub keys : (number : ℕ) (difference : Difference) → slice_get (port_differences port) number ≡ Some difference
+      → HasSubslice text (difference_line nodes difference)
+  pub switch_port : (number : ℕ) (difference : Difference) → slice_get (facing_differences port) number ≡ Some difference
+      → are_off (count_by is_faced ports) (count_of Off (flat_map facing_differences ports)) ≡ false → HasSubslice text (difference_line nodes difference)
+  pub unread : is_unread port ≡ true → HasSubslice text (unread_line nodes port.port)
+  pub moved : (guid : ℕ) → port.moved ≡ Some guid → HasSubslice text (moved_line nodes port guid)
+
+abbrev pub PrintsAll : (List Node → (all : Bool) → List AuditedPort → List Partition → List ℕ) → Type 0
+PrintsAll text =
+    (nodes : List Node) (all : Bool) (ports : List AuditedPort) (partitions : List Partition) → OfEach (SaysAllOf (text nodes all ports partitions) nodes ports) ports
+
+abbrev pub AllDifferencesArePrinted : Type 0
+AllDifferencesArePrinted = PrintsAll (λ nodes all ports partitions. (audit_of nodes all ports partitions).text)
 
 -- ---- a table that has the keys of the file, with empty places before and behind them, follows it, if its keys are taken so
 abbrev pub FindsTheKeys : (List ℕ → List ℕ) → Type 0

@@ -1,5 +1,5 @@
 -- Wrong rules for the status, the pairs and the last line, and the law that each breaks.
-use Rattle.std.specs.Prelude.{ℕ, Bool, true, false, not, ◌&&◌, ◌||◌, List, [], ◌∷◌, map, if◌then◌else◌, Option, Some, None, is_none}
+use Rattle.std.specs.Prelude.{ℕ, Bool, true, false, not, ◌&&◌, ◌||◌, List, [], ◌∷◌, ◌++◌, flat_map, map, if◌then◌else◌, Option, Some, None, is_none}
 use Rattle.std.specs.List.{list_all}
 use Rattle.pair_changes.specs.declared.membership.Membership.{Membership}
 use Rattle.pair_changes.specs.declared.membership.Membership.TheVariants.{Outside, Limited, Full}
@@ -11,11 +11,13 @@ use Rattle.audited_ports.specs.declared.port.AuditedPort.{AuditedPort}
 use Rattle.audited_ports.specs.declared.port.Enforcement.{Enforcement}
 use Rattle.audited_ports.specs.declared.port.FacingPort.{FacingPort}
 use Rattle.audited_ports.specs.declared.port.HeldKeys.{HeldKeys}
-use Rattle.keys_audit.specs.Differences.{all_agree, enforces_both, facing_fits, fits_if_enforced, follows_file, is_clean, keys_follow_if_read, tables_fit}
+use Rattle.keys_audit.specs.Differences.{all_agree, enforces_both, facing_differences, facing_fits, fits_if_enforced, follows_file, is_clean, keys_follow_if_read, port_differences, tables_fit}
 use Rattle.audited_ports.specs.Held.{all_held, have_same_bases, is_key}
-use Rattle.keys_audit.specs.Laws.{FindsTheKeys, HasThoseAlone, IsTrueVerdict, PassesTheRight, talk_by_file, talk_by_tables}
+use Rattle.keys_audit.specs.Laws.{FindsTheKeys, HasThoseAlone, IsTrueVerdict, PassesTheRight, PrintsAll, talk_by_file, talk_by_tables}
 use Rattle.keys_audit.specs.Standing.{standing, turned}
-use Rattle.keys_audit.specs.Text.{verdict_line}
+use Rattle.keys_audit.specs.Text.{counts_of, difference_line, verdict, verdict_line}
+use Rattle.partition_file.specs.declared.partition.Partition.{Partition}
+use Rattle.topo_file.specs.declared.node.Node.{Node}
 
 -- ---- membership is ignored: bases are compared
 abbrev pub same_bases_stand : Option HeldKeys → List ℕ → Bool
@@ -134,3 +136,17 @@ GapsDoNotEndTheTable = FindsTheKeys up_to_a_gap → ⊥
 -- ---- empty places are keys too
 abbrev pub EmptyPlacesAreNoKeys : Type 0
 EmptyPlacesAreNoKeys = FindsTheKeys (λ words. words) → ⊥
+
+-- ---- counts and the last line are printed alone
+abbrev pub counts_alone : List Node → (all : Bool) → List AuditedPort → List Partition → List ℕ
+counts_alone nodes all ports partitions = counts_of ports (flat_map port_differences ports) (flat_map facing_differences ports) ++ verdict ports
+
+abbrev pub DifferencesArePrinted : Type 0
+DifferencesArePrinted = PrintsAll counts_alone → ⊥
+
+-- ---- differences are printed alone, and no port that was not read
+abbrev pub only_differences : List Node → (all : Bool) → List AuditedPort → List Partition → List ℕ
+only_differences nodes all ports partitions = flat_map (difference_line nodes) (flat_map port_differences ports) ++ counts_alone nodes all ports partitions
+
+abbrev pub UnreadPortsArePrinted : Type 0
+UnreadPortsArePrinted = PrintsAll only_differences → ⊥

@@ -1,7 +1,7 @@
 //! What the status means. The functions do nothing: their contracts are the laws.
 
 ghost use Rattle.keys_audit.specs.Differences.{is_clean};
-ghost use Rattle.keys_audit.specs.Laws.{PairsOfTablesAreTheirs, PairsOfTheFileAreIts, PassesTheRight, TablesThatFollowAreClean, TheStatusIsThatOfEachPort, TheVerdictIsTrue};
+ghost use Rattle.keys_audit.specs.Laws.{AllDifferencesArePrinted, PairsOfTablesAreTheirs, PairsOfTheFileAreIts, PassesTheRight, TablesThatFollowAreClean, TheStatusIsThatOfEachPort, TheVerdictIsTrue};
 
 /// A port passes if and only if it was read and has exactly the keys of the file, and the switch port that faces it was read and,
 /// if it enforces, has exactly its bases.
@@ -35,4 +35,10 @@ pub fn the_verdict_is_true()
 /// Tables that hold the keys of the file follow it, wherever empty places stand before or behind them.
 pub fn tables_that_follow_are_clean()
     ensures { TablesThatFollowAreClean }
+{}
+
+/// The text has a line for each key by which a port differs from the file; for each difference of a switch port, unless none of these
+/// drops packets; for each port that was not read; and for each whose LID moved.
+pub fn all_differences_are_printed()
+    ensures { AllDifferencesArePrinted }
 {}

@@ -13,8 +13,9 @@ mod wrong_rules;
 
 pub use crate::differences::{Difference, DifferenceKind};
 pub use crate::laws::{
-    pairs_of_tables_are_theirs, pairs_of_the_file_are_its, tables_that_follow_are_clean,
-    the_right_ports_pass, the_status_is_that_of_each_port, the_verdict_is_true,
+    all_differences_are_printed, pairs_of_tables_are_theirs, pairs_of_the_file_are_its,
+    tables_that_follow_are_clean, the_right_ports_pass, the_status_is_that_of_each_port,
+    the_verdict_is_true,
 };
 pub use crate::outcome::KeysAudit;
 pub use crate::text::{audit_keys, audit_without_partitions};

@@ -1,8 +1,8 @@
-//! Wrong rules for the status, the pairs and the last line, each refused by a law. The functions do nothing: each contract says that
+//! Wrong rules for the status, the pairs, the lines and the last of them, each refused by a law. The functions do nothing: each contract says that
 //! with this rule the law is false.
 
 ghost use Rattle.keys_audit.specs.WrongRules.{BasesAreNotEnough, MissingKeysCount, OneDirectionCounts, OwnTablesAreNotEnough, UnreadPortsDoNotPass, UnreadSwitchPortsDoNotPass};
-ghost use Rattle.keys_audit.specs.WrongRules.{BothMayTalk, EmptyPlacesAreNoKeys, GapsDoNotEndTheTable, LimitedMembersDoNotTalk, SwitchPortsCount, UnreadTablesDoNotFollow};
+ghost use Rattle.keys_audit.specs.WrongRules.{BothMayTalk, EmptyPlacesAreNoKeys, GapsDoNotEndTheTable, DifferencesArePrinted, LimitedMembersDoNotTalk, SwitchPortsCount, UnreadPortsArePrinted, UnreadTablesDoNotFollow};
 
 /// Membership is ignored.
 pub fn bases_are_not_enough()
@@ -62,4 +62,14 @@ pub fn gaps_do_not_end_the_table()
 /// Empty places are taken for keys.
 pub fn empty_places_are_no_keys()
     ensures { EmptyPlacesAreNoKeys }
+{}
+
+/// Counts and the last line are printed alone.
+pub fn differences_are_printed()
+    ensures { DifferencesArePrinted }
+{}
+
+/// No line says that a port was not read.
+pub fn unread_ports_are_printed()
+    ensures { UnreadPortsArePrinted }
 {}

@@ -9,3 +9,4 @@ pub mod SafeLaneLemmas
 pub mod LaneReasonLemmas
 pub mod WrongLemmas
 pub mod ExampleLemmas
+pub mod PrintedLemmas

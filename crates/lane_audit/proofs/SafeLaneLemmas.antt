@@ -1,8 +1,7 @@
 -- What is reported to be safe by virtual lanes is, and what is safe is reported to be.
-use Rattle.std.proofs.Common.{◌≡◌, ◌∙◌, inl, inr, ap, refl, subst, sym, ℕ, zero, suc, ◌==◌, ◌&&◌, ◌||◌, Bool, true, false, not, List, [], ◌∷◌, ◌++◌, filter, flat_map, if◌then◌else◌, map, slice_get, arith, Option, Some, None, is_none, is_some}
+use Rattle.std.proofs.Common.{◌≡◌, ◌∙◌, inl, inr, ap, refl, subst, sym, ℕ, zero, suc, ◌==◌, ◌&&◌, ◌||◌, Bool, true, false, not, List, [], ◌∷◌, filter, flat_map, map, slice_get, arith, Option, Some, None, is_none}
 use Rattle.std.specs.List.{list_all, list_any}
-use Rattle.std.specs.Option.{option_and_then}
-use Rattle.std.proofs.lemmas.Bool.{and_from, and_parts, cases_Bool, false≢true, not-true, or_cases, or_left, or_right}
+use Rattle.std.proofs.lemmas.Bool.{and_from, and_parts, cases_Bool, false≢true, not-true, or_cases}
 use Rattle.std.proofs.lemmas.Bool.Decides.{nat_tests}
 use Rattle.std.proofs.lemmas.List.Folds.{list_all-append}
 use Rattle.std.proofs.lemmas.Map.Keys.{any_passes_from_place}
@@ -18,9 +17,8 @@ use Rattle.route_audit.specs.declared.verdict.Verdict.{Verdict}
 use Rattle.lane_audit.specs.declared.hop.Hop.{Hop}
 use Rattle.lane_audit.specs.declared.lane.Lane.{Lane}
 use Rattle.lane_audit.specs.declared.owned.OwnedLid.{OwnedLid}
-use Rattle.lane_audit.specs.declared.verdict.LaneVerdict.{LaneVerdict}
 use Rattle.lane_audit.specs.Deadlock.{lane_deadlock}
-use Rattle.lane_audit.specs.Hops.{counts, enough_hops, hops_from, hops_of, hops_within, is_dropped, lacks_row, some_hop, traces}
+use Rattle.lane_audit.specs.Hops.{enough_hops, hops_from, hops_of, hops_within, is_dropped, lacks_row, some_hop, traces}
 use Rattle.lane_audit.specs.Laws.{AreSafeLanes, HasRecord, IsOwned, SafeLanesAreReported, TakeNoHop, are_lanes, is_cycle, says_of_lanes, waits_by_records}
 use Rattle.lane_audit.specs.Records.{has_record, is_pair, is_record_of, lids, owned, owned_by, owned_of, records, records_from}
 use Rattle.lane_audit.specs.Tables.{TablesState, others_end}

@@ -1,24 +1,31 @@
 -- What is so of all fabrics, dumps and records: the statements of the laws of `src/laws.rt`.
-use Rattle.std.specs.Prelude.{ℕ, ◌≡◌, ◌&&◌, Bool, true, false, not, List, [], ◌∷◌, codes, filter, slice_get, Option, Some, None}
+use Rattle.std.specs.Prelude.{ℕ, ◌≡◌, ◌&&◌, Bool, true, false, not, List, [], ◌∷◌, ◌++◌, codes, filter, slice_get, Option, Some, None}
 use Rattle.std.specs.List.{list_all, list_any}
+use Rattle.std.specs.Str.Iter.{HasSubslice}
 use Rattle.fabric_parts.specs.Cable.{far_end, is_same_port}
 use Rattle.fabric_parts.specs.declared.cable.PortRef.{PortRef}
 use Rattle.sl2vl_file.specs.declared.path.PathSl.{PathSl}
+use Rattle.sl2vl_file.specs.Lanes.{LanesState}
 use Rattle.topo_file.specs.Node.{is_switch_at}
 use Rattle.credit_loops.specs.Channels.{depends}
 use Rattle.audit_net.specs.Net.{NetState}
 use Rattle.lid_owners.specs.declared.lids.Aim.{Aim}
-use Rattle.route_audit.specs.Audit.{credit_loop, lids_of}
+use Rattle.lid_owners.specs.Lids.{aims}
+use Rattle.route_audit.specs.Audit.{credit_loop, findings_of, lids_of}
 use Rattle.route_audit.specs.Laws.{has_word}
 use Rattle.route_audit.specs.Verdict.{is_others, leads, verdict_by}
 use Rattle.route_audit.specs.declared.verdict.Verdict.{Verdict}
+use Rattle.lane_audit.specs.declared.hop.Crossing.{Crossing}
 use Rattle.lane_audit.specs.declared.hop.Hop.{Hop}
 use Rattle.lane_audit.specs.declared.lane.Lane.{Lane}
 use Rattle.lane_audit.specs.declared.owned.OwnedLid.{OwnedLid}
 use Rattle.lane_audit.specs.declared.verdict.LaneVerdict.{LaneVerdict}
+use Rattle.lane_audit.specs.Audit.{audit_with}
 use Rattle.lane_audit.specs.Deadlock.{lane_deadlock}
 use Rattle.lane_audit.specs.Hops.{enough_hops, hops_within, is_dropped, lacks_row, traces}
 use Rattle.lane_audit.specs.Lanes.{is_same_lane, lanes, takes_both, waits}
+use Rattle.lane_audit.specs.Lines.{crossings, dropped_lines, no_path_line, no_row_line}
+use Rattle.lane_audit.specs.Records.{owned}
 use Rattle.lane_audit.specs.Tables.{TablesState, others_end}
 use Rattle.lane_audit.specs.Verdict.{all_are_safe, all_reasons, lane_verdict}
 
@@ -153,3 +160,23 @@ says_of_lanes net tables paths =
 
 abbrev pub SafeLanesAreReported : Type 0
 SafeLanesAreReported = ReportsSafeLanes says_of_lanes
+
+-- ---- the text
+-- the hops of the packets of each path record
+abbrev pub all_traces : NetState → LanesState → List (List Hop)
+all_traces net lanes = traces net (record { aims = aims net; rows = lanes.rows }) lanes.paths
+
+-- the text has each line: of each LID to which paths lack a record, and of each two ports of a switch for which a row is lacking, or
+-- between which packets are dropped
+pub record PrintsLanes (text : NetState → LanesState → List ℕ) : Type 0 where
+  pub paths : (net : NetState) (lanes : LanesState) (index : ℕ) (source : OwnedLid) → slice_get (owned net (aims net)) index ≡ Some source
+      → HasSubslice (text net lanes) (no_path_line net lanes.paths (owned net (aims net)) source)
+  pub rows : (net : NetState) (lanes : LanesState) (index : ℕ) (here : Crossing) → slice_get (crossings net) index ≡ Some here
+      → HasSubslice (text net lanes) (no_row_line net (all_traces net lanes) here)
+  pub drops : (net : NetState) (lanes : LanesState) (index : ℕ) (here : Crossing) → slice_get (crossings net) index ≡ Some here
+      → HasSubslice (text net lanes) (dropped_lines net (all_traces net lanes) here)
+  -- it begins with what an audit without lanes prints before its verdict
+  pub routes : (net : NetState) (lanes : LanesState) → (rest : List ℕ) × (text net lanes ≡ (findings_of net).text ++ rest)
+
+abbrev pub LanesArePrinted : Type 0
+LanesArePrinted = PrintsLanes (λ net lanes. (audit_with net lanes).text)

@@ -7,6 +7,7 @@ use Rattle.fabric_parts.specs.declared.cable.PortRef.{PortRef}
 use Rattle.fabric_parts.specs.declared.node_type.NodeType.TheVariants.{ChannelAdapter, Switch}
 use Rattle.sl2vl_file.specs.declared.path.PathSl.{PathSl}
 use Rattle.sl2vl_file.specs.declared.row.LaneRow.{LaneRow}
+use Rattle.sl2vl_file.specs.Lanes.{LanesState}
 use Rattle.topo_file.specs.Topology.{TopologyState}
 use Rattle.audit_net.specs.Following.{switch_total}
 use Rattle.credit_loops.specs.Channels.{deadlock, leads_to}
@@ -21,9 +22,10 @@ use Rattle.lane_audit.specs.declared.hop.Hop.{Hop}
 use Rattle.lane_audit.specs.declared.lane.Lane.{Lane}
 use Rattle.lane_audit.specs.declared.owned.OwnedLid.{OwnedLid}
 use Rattle.lane_audit.specs.declared.verdict.LaneVerdict.{LaneVerdict}
+use Rattle.lane_audit.specs.Audit.{lane_findings}
 use Rattle.lane_audit.specs.Deadlock.{deadlock_among, lane_deadlock}
 use Rattle.lane_audit.specs.Lanes.{lane, lanes, some_take, waits}
-use Rattle.lane_audit.specs.Laws.{AreEnoughHops, LanesFollowChannels, MissesNone, NamesAllReasons, Reports, ReportsCycles, ReportsSafeLanes, Waiting, says_of_lanes, waits_by_records}
+use Rattle.lane_audit.specs.Laws.{AreEnoughHops, LanesFollowChannels, MissesNone, NamesAllReasons, PrintsLanes, Reports, ReportsCycles, ReportsSafeLanes, Waiting, says_of_lanes, waits_by_records}
 use Rattle.lane_audit.specs.Records.{has_record, is_pair, owned}
 use Rattle.lane_audit.specs.Tables.{TablesState}
 use Rattle.lane_audit.specs.Verdict.{joined}
@@ -214,3 +216,10 @@ dropping_tables = record {
   aims = record { lid = 1; guid = None; end = Some (port 1 1) } ∷ record { lid = 2; guid = None; end = Some (port 0 0) } ∷ record { lid = 3; guid = None; end = Some (port 1 1) } ∷ [];
   rows = round_row 3 15 ∷ [];
 }
+
+-- ---- what is found of lanes is printed alone
+abbrev pub lanes_alone : NetState → LanesState → List ℕ
+lanes_alone net lanes = (lane_findings net lanes).text
+
+abbrev pub RoutesArePrintedToo : Type 0
+RoutesArePrintedToo = PrintsLanes lanes_alone → ⊥

@@ -1,7 +1,7 @@
 //! Laws of hops, of cycles of lanes, and of verdicts. The functions do nothing; their clauses are the theorems.
 
 ghost use Rattle.lane_audit.specs.Laws.{AllReasonsAreNamed, LaneCyclesWait, LanesMakeNoLoop, NoHopIsMissed, NoLaneCycleIsMissed};
-ghost use Rattle.lane_audit.specs.Laws.{SafeLanesAreReported};
+ghost use Rattle.lane_audit.specs.Laws.{LanesArePrinted, SafeLanesAreReported};
 
 /// Packets that loop are followed far enough: farther on they take no other hop, and no other two lanes one behind the other.
 pub fn no_hop_is_missed()
@@ -33,4 +33,10 @@ pub fn all_reasons_are_named()
 /// there is a row for each hop of the packets of these records, however far they go; and none of them is dropped.
 pub fn safe_lanes_are_reported()
     ensures { SafeLanesAreReported }
+{}
+
+/// The text has each of its lines: LIDs without a path record, ports of a switch for which a row is lacking, and packets that are
+/// dropped. It begins with what an audit without lanes prints before its verdict.
+pub fn lanes_are_printed()
+    ensures { LanesArePrinted }
 {}

@@ -25,6 +25,6 @@ mod wrong_rules;
 pub use crate::auditing::{audit_lanes, audit_lanes_found};
 pub use crate::lane::Lane;
 pub use crate::laws::{
-    all_reasons_are_named, lane_cycles_wait, lanes_make_no_loop, no_hop_is_missed,
-    no_lane_cycle_is_missed, safe_lanes_are_reported,
+    all_reasons_are_named, lane_cycles_wait, lanes_are_printed, lanes_make_no_loop,
+    no_hop_is_missed, no_lane_cycle_is_missed, safe_lanes_are_reported,
 };

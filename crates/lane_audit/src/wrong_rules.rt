@@ -3,7 +3,7 @@
 
 ghost use Rattle.lane_audit.specs.WrongRules.{DropsAreAReason, EachVlCounts, LanesAreApart, LanesDecideOnDeadlocks, OneMoreIsNotEnough};
 ghost use Rattle.lane_audit.specs.WrongRules.{DroppedPacketsAreLost, EachWayHasItsRecord, MissingRowsAreUnknown};
-ghost use Rattle.lane_audit.specs.WrongRules.{OneRoundIsNotEnough, PacketsFollowEntries, SwitchLidsDoNotCount, UnplacedLidsCount};
+ghost use Rattle.lane_audit.specs.WrongRules.{OneRoundIsNotEnough, PacketsFollowEntries, RoutesArePrintedToo, SwitchLidsDoNotCount, UnplacedLidsCount};
 
 /// If packets are followed through as many switches as there are, a hop is missed that they take when they come to one again.
 pub fn one_round_is_not_enough()
@@ -63,4 +63,9 @@ pub fn missing_rows_are_unknown()
 /// If dropped packets are no matter, it is safe though a switch drops some.
 pub fn dropped_packets_are_lost()
     ensures { DroppedPacketsAreLost }
+{}
+
+/// If what is found of lanes is printed alone, what is found of routes is left out.
+pub fn routes_are_printed_too()
+    ensures { RoutesArePrintedToo }
 {}

@@ -1,6 +1,6 @@
 -- Each reason is named if and only if it holds, and a verdict that is not safe has one.
-use Rattle.std.proofs.Common.{◌≡◌, ◌∙◌, ap, ap₂, append_assoc, arith, refl, subst, sym, ℕ, zero, suc, ◌+◌, nat_eq, Bool, true, false, ◌==◌, ◌&&◌, ◌||◌, not, List, [], ◌∷◌, ◌++◌, codes, drop, length, add-one, Option}
-use Rattle.std.specs.List.{list_all, list_any, range_with_len, starts_with}
+use Rattle.std.proofs.Common.{◌≡◌, ◌∙◌, ap, ap₂, append_assoc, arith, refl, subst, sym, ℕ, zero, suc, ◌+◌, nat_eq, Bool, true, false, ◌==◌, ◌&&◌, ◌||◌, not, List, [], ◌∷◌, ◌++◌, codes, drop, length, Option}
+use Rattle.std.specs.List.{list_any, range_with_len, starts_with}
 use Rattle.std.proofs.lemmas.Bool.{and_parts, false≢true}
 use Rattle.fabric_parts.specs.declared.cable.PortRef.{PortRef}
 use Rattle.route_audit.specs.Laws.{has_word}
@@ -8,7 +8,7 @@ use Rattle.audit_net.specs.Net.{NetState}
 use Rattle.route_audit.specs.Verdict.{reasons, verdict_by, verdict_is_safe, with_reason}
 use Rattle.lid_owners.specs.declared.lids.Aim.{Aim}
 use Rattle.route_audit.specs.declared.verdict.Verdict.{Verdict}
-use Rattle.route_audit.proofs.ReasonLemmas.{none_by, not_empty, not_false, reaches_or_loses, some_reason, unsafe_routes_have_a_reason}
+use Rattle.route_audit.proofs.ReasonLemmas.{none_by, not_empty, reaches_or_loses, some_reason, unsafe_routes_have_a_reason}
 use Rattle.multicast_audit.specs.Laws.{AllReasonsAreNamed}
 use Rattle.multicast_audit.specs.Verdict.{all_are_safe, all_reasons, joined}
 use Rattle.multicast_audit.specs.declared.verdict.MulticastVerdict.{MulticastVerdict}

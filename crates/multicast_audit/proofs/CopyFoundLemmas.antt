@@ -1,5 +1,5 @@
 -- A copy that is reported comes by two different paths.
-use Rattle.std.proofs.Common.{◌≡◌, ◌∙◌, inl, inr, ap, refl, subst, sym, ℕ, zero, suc, ◌+◌, ◌<◌, ◌≤◌, nat_eq, Bool, true, false, ◌==◌, ◌&&◌, ◌||◌, not, List, [], ◌∷◌, ◌++◌, length, map, filter, flat_map, arith}
+use Rattle.std.proofs.Common.{◌≡◌, ◌∙◌, inl, inr, ap, refl, subst, sym, ℕ, zero, suc, ◌+◌, ◌<◌, ◌≤◌, Bool, true, false, ◌==◌, ◌&&◌, ◌||◌, not, List, [], ◌∷◌, ◌++◌, length, map, filter, arith}
 use Rattle.std.proofs.Common.{Option, Some, None, option_map}
 use Rattle.std.specs.List.{list_any, range_with_len}
 use Rattle.std.specs.Option.{option_map_or, option_or}
@@ -13,7 +13,7 @@ use Rattle.step_results.proofs.DistinctLemmas.{all_differ}
 use Rattle.topo_file.specs.Connectivity.{switches}
 use Rattle.topo_file.specs.Node.{is_switch_at, ports_at}
 use Rattle.audit_net.specs.Attached.{ports_of}
-use Rattle.credit_loops.specs.Channels.{is_channel, leads_to}
+use Rattle.credit_loops.specs.Channels.{leads_to}
 use Rattle.audit_net.specs.Net.{NetState}
 use Rattle.route_audit.proofs.SafeLemmas.{same_port}
 use Rattle.multicast_audit.specs.declared.copies.SecondCopy.{SecondCopy}

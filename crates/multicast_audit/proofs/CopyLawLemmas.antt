@@ -1,5 +1,5 @@
 -- No second copy is missed: where no switch is met again, each is reached by one path at most.
-use Rattle.std.proofs.Common.{◌≡◌, ◌∙◌, ◌⊎◌, inl, inr, ap, ap₂, refl, subst, sym, ℕ, zero, suc, ◌+◌, ◌<◌, ◌≤◌, nat_eq, nat_le, nat_lt, Bool, true, false, ◌==◌, ◌&&◌, ◌||◌, not, List, [], ◌∷◌, ◌++◌, length, map, filter, flat_map, arith}
+use Rattle.std.proofs.Common.{◌≡◌, ◌∙◌, inl, inr, ap, ap₂, refl, subst, sym, ℕ, zero, suc, ◌<◌, ◌≤◌, nat_eq, nat_le, nat_lt, Bool, true, false, ◌==◌, ◌&&◌, ◌||◌, not, List, [], ◌∷◌, ◌++◌, length, map, filter, arith}
 use Rattle.std.proofs.Common.{Option, Some, None, option_map}
 use Rattle.std.specs.List.{list_all, list_any, range_with_len}
 use Rattle.std.specs.Option.{option_map_or, option_or}
@@ -13,7 +13,7 @@ use Rattle.std.proofs.lemmas.Map.Made.{length-le_from_is_member}
 use Rattle.fabric_parts.specs.Cable.{far_end, is_same_port, port}
 use Rattle.fabric_parts.specs.declared.cable.PortRef.{PortRef}
 use Rattle.step_results.proofs.DistinctLemmas.{all_differ, distinct}
-use Rattle.step_results.proofs.ListLemmas.{any_flat, any_map, list_any_weaker}
+use Rattle.step_results.proofs.ListLemmas.{any_map, list_any_weaker}
 use Rattle.topo_file.specs.Connectivity.{switches}
 use Rattle.topo_file.specs.Node.{is_switch_at}
 use Rattle.audit_net.specs.Attached.{ports_of}
@@ -22,9 +22,9 @@ use Rattle.audit_net.specs.Net.{NetState}
 use Rattle.audit_net.proofs.EndlessLemmas.{in_kept, in_range, is_listed, within_nodes}
 use Rattle.route_audit.proofs.SafeLemmas.{same_port}
 use Rattle.multicast_audit.specs.Copies.{again, arrivals, copy_from, copy_of, entrances, first_copy, hop, next_outs, node_behind, second_copy, takes_packets}
-use Rattle.multicast_audit.specs.Laws.{ComesTwice, NoCopyIsMissed, came_by, is_own_port}
+use Rattle.multicast_audit.specs.Laws.{NoCopyIsMissed, came_by, is_own_port}
 use Rattle.multicast_audit.specs.Ways.{comes_to, goes_on, leaves, outs, turns}
-use Rattle.multicast_audit.proofs.LoopLawLemmas.{out_listed, same_itself}
+use Rattle.multicast_audit.proofs.LoopLawLemmas.{out_listed}
 use Rattle.multicast_audit.proofs.MeetLemmas.{again_found, again_on, all_joined, hop_inside, outs_inside}
 
 -- ---- the copies after so many hops

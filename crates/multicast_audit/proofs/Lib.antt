@@ -7,3 +7,4 @@ pub mod CopyFoundLemmas
 pub mod AllReasonLemmas
 pub mod WrongMaskLemmas
 pub mod MulticastExampleLemmas
+pub mod PrintedLemmas

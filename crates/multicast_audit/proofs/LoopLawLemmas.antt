@@ -1,5 +1,5 @@
 -- Loops that are reported go round, and none is missed.
-use Rattle.std.proofs.Common.{◌≡◌, ◌∙◌, inl, inr, ap, ap₂, refl, subst, sym, ℕ, zero, suc, ◌+◌, ◌<◌, ◌≤◌, nat_le, Bool, true, false, ◌==◌, ◌&&◌, ◌||◌, not, List, [], ◌∷◌, map, filter, flat_map, arith}
+use Rattle.std.proofs.Common.{◌≡◌, ◌∙◌, inl, inr, ap, refl, subst, sym, ℕ, zero, suc, ◌+◌, ◌<◌, ◌≤◌, nat_le, Bool, true, false, ◌==◌, ◌&&◌, not, List, [], ◌∷◌, map, filter, flat_map, arith}
 use Rattle.std.proofs.Common.{Option, Some, None}
 use Rattle.std.specs.List.{list_all, list_any, range_with_len}
 use Rattle.std.specs.Option.{option_map_or}
@@ -11,7 +11,6 @@ use Rattle.step_results.proofs.ListLemmas.{any_flat}
 use Rattle.topo_file.specs.Connectivity.{switches}
 use Rattle.topo_file.specs.Node.{is_switch_at, ports_at}
 use Rattle.audit_net.specs.Attached.{ports_of}
-use Rattle.credit_loops.specs.Channels.{is_channel}
 use Rattle.credit_loops.specs.Laws.{is_cycle, wait_round}
 use Rattle.audit_net.specs.Net.{NetState}
 use Rattle.credit_loops.proofs.CycleLawLemmas.{are_among, no_ring_missed, rings_wait}

@@ -1,9 +1,13 @@
 -- What is so of all fabrics and masks: the statements of the laws of `src/laws.rt`.
-use Rattle.std.specs.Prelude.{ℕ, ◌≡◌, ◌==◌, ◌&&◌, nat_le, Bool, true, false, not, List, [], ◌∷◌, codes, Option, Some, None}
+use Rattle.std.specs.Prelude.{ℕ, ◌≡◌, ◌==◌, ◌&&◌, nat_le, Bool, true, false, not, List, [], ◌∷◌, ◌++◌, codes, slice_get, Option, Some, None}
 use Rattle.std.specs.List.{list_all}
+use Rattle.std.specs.Str.Iter.{HasSubslice}
 use Rattle.fabric_parts.specs.declared.cable.PortRef.{PortRef}
+use Rattle.mft_file.specs.declared.table.MaskTable.{MaskTable}
+use Rattle.topo_file.specs.Connectivity.{switches}
 use Rattle.topo_file.specs.Node.{is_switch_at, ports_at}
 use Rattle.credit_loops.specs.Channels.{leads_to}
+use Rattle.route_audit.specs.Audit.{findings_of}
 use Rattle.route_audit.specs.Laws.{has_word}
 use Rattle.credit_loops.specs.Laws.{is_cycle}
 use Rattle.audit_net.specs.Net.{NetState}
@@ -12,7 +16,10 @@ use Rattle.lid_owners.specs.declared.lids.Aim.{Aim}
 use Rattle.route_audit.specs.declared.verdict.Verdict.{Verdict}
 use Rattle.multicast_audit.specs.declared.copies.SecondCopy.{SecondCopy}
 use Rattle.multicast_audit.specs.declared.verdict.MulticastVerdict.{MulticastVerdict}
+use Rattle.multicast_audit.specs.Audit.{audit_with, found_of}
 use Rattle.multicast_audit.specs.Copies.{copy_of, takes_packets}
+use Rattle.multicast_audit.specs.Lines.{found_lines, mask_port_line, mft_at, no_mft_line, strange_mft_line}
+use Rattle.multicast_audit.specs.Masks.{mlids_of}
 use Rattle.multicast_audit.specs.Loops.{loop_of}
 use Rattle.multicast_audit.specs.Verdict.{all_are_safe, all_reasons}
 use Rattle.multicast_audit.specs.Ways.{goes_on, leaves}
@@ -72,6 +79,35 @@ MissesNoCopy reports =
 
 abbrev pub NoCopyIsMissed : Type 0
 NoCopyIsMissed = MissesNoCopy copy_of
+
+-- ---- the text
+-- a switch has this MFT, and a row of it this port
+pub record HasMaskPort (net : NetState) (tables : List MaskTable) (place mlid number : ℕ) : Type 0 where
+  pub index : ℕ
+  pub switch : slice_get (switches net.plan.nodes) index ≡ Some place
+  pub table : MaskTable
+  pub own : mft_at net tables place ≡ Some table
+  pub row : ℕ
+  pub ports : List ℕ
+  pub there : slice_get table.rows row ≡ Some (record { mlid = mlid; ports = ports })
+  pub within : ℕ
+  pub port : slice_get ports within ≡ Some number
+
+-- the text has each line: what the files lack, each port of a mask by which packets go nowhere, and what is found of each MLID
+pub record PrintsMulticast (text : NetState → List MaskTable → List ℕ) : Type 0 where
+  pub no_tables : (net : NetState) (tables : List MaskTable) (index place : ℕ) → slice_get (switches net.plan.nodes) index ≡ Some place
+      → HasSubslice (text net tables) (no_mft_line net tables place)
+  pub no_switches : (net : NetState) (tables : List MaskTable) (index : ℕ) (table : MaskTable) → slice_get tables index ≡ Some table
+      → HasSubslice (text net tables) (strange_mft_line net table)
+  pub ports : (net : NetState) (tables : List MaskTable) (place mlid number : ℕ) → HasMaskPort net tables place mlid number
+      → HasSubslice (text net tables) (mask_port_line net place mlid number)
+  pub mlids : (net : NetState) (tables : List MaskTable) (index mlid : ℕ) → slice_get (mlids_of tables) index ≡ Some mlid
+      → HasSubslice (text net tables) (found_lines net (found_of net tables mlid))
+  -- it begins with what an audit without MFTs prints before its verdict
+  pub routes : (net : NetState) (tables : List MaskTable) → (rest : List ℕ) × (text net tables ≡ (findings_of net).text ++ rest)
+
+abbrev pub MulticastIsPrinted : Type 0
+MulticastIsPrinted = PrintsMulticast (λ net tables. (audit_with net tables).text)
 
 -- ---- a verdict that is not safe has a reason, and each reason is named if and only if it holds
 pub record NamesAllReasons (words : Verdict → MulticastVerdict → List ℕ) : Type 0 where

@@ -1,5 +1,5 @@
 -- Loops: packets leave by a port, and come round to leave by it again. They never end.
-use Rattle.std.specs.Prelude.{ℕ, Bool, List, map, filter, flat_map, get_or, Option, option_map}
+use Rattle.std.specs.Prelude.{ℕ, List, map, filter, flat_map, get_or, Option, option_map}
 use Rattle.std.specs.List.{enumerate_from}
 use Rattle.fabric_parts.specs.Cable.{port}
 use Rattle.fabric_parts.specs.declared.cable.PortRef.{PortRef}

@@ -1,8 +1,7 @@
 -- The port masks of an MLID (multicast LID), by the MFTs (multicast forwarding tables) of switches.
-use Rattle.std.specs.Prelude.{ℕ, ◌==◌, Bool, List, [], filter, find, flat_map, map, slice_get, if◌then◌else◌, Option}
+use Rattle.std.specs.Prelude.{ℕ, ◌==◌, Bool, List, [], filter, find, map, slice_get, if◌then◌else◌, Option}
 use Rattle.std.specs.List.{list_any, range_with_len}
 use Rattle.std.specs.Option.{option_and_then, option_map_or}
-use Rattle.mft_file.specs.declared.row.MaskRow.{MaskRow}
 use Rattle.mft_file.specs.declared.table.MaskTable.{MaskTable}
 use Rattle.mft_file.specs.Table.{place_of}
 use Rattle.topo_file.specs.Node.{is_switch}

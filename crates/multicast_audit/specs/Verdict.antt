@@ -1,5 +1,5 @@
 -- The verdict of an audit that judges multicast too.
-use Rattle.std.specs.Prelude.{◌==◌, ◌&&◌, Bool, not, List, ◌++◌, codes, if◌then◌else◌, is_some, ℕ}
+use Rattle.std.specs.Prelude.{◌&&◌, Bool, not, List, ◌++◌, codes, if◌then◌else◌, is_some, ℕ}
 use Rattle.std.specs.List.{list_all, list_any}
 use Rattle.mft_file.specs.declared.table.MaskTable.{MaskTable}
 use Rattle.topo_file.specs.Connectivity.{switches}

@@ -1,5 +1,5 @@
 -- Wrong rules for what is reported of multicast, and the law that each breaks.
-use Rattle.std.specs.Prelude.{ℕ, ◌==◌, nat_lt, Bool, true, false, List, [], ◌∷◌, codes, filter, get_or, length, map, if◌then◌else◌, Option, Some, None, option_map}
+use Rattle.std.specs.Prelude.{ℕ, ◌==◌, nat_lt, Bool, true, false, List, [], ◌∷◌, ◌++◌, codes, filter, flat_map, get_or, length, map, if◌then◌else◌, Option, Some, None, option_map}
 use Rattle.std.specs.List.{enumerate_from}
 use Rattle.std.specs.Option.{option_map_or}
 use Rattle.fabric_parts.specs.Cable.{far_end, port}
@@ -16,7 +16,10 @@ use Rattle.route_audit.specs.declared.verdict.Verdict.{Verdict}
 use Rattle.multicast_audit.specs.declared.copies.SecondCopy.{SecondCopy}
 use Rattle.multicast_audit.specs.declared.verdict.MulticastVerdict.{MulticastVerdict}
 use Rattle.multicast_audit.specs.Copies.{again, arrivals, copy_from, entrances, first_copy}
-use Rattle.multicast_audit.specs.Laws.{MissesNoCopy, MissesNoMaskLoop, NamesAllReasons, ReportsCopies, ReportsMaskLoops}
+use Rattle.multicast_audit.specs.Laws.{MissesNoCopy, MissesNoMaskLoop, NamesAllReasons, PrintsMulticast, ReportsCopies, ReportsMaskLoops}
+use Rattle.mft_file.specs.declared.table.MaskTable.{MaskTable}
+use Rattle.multicast_audit.specs.Audit.{all_found}
+use Rattle.multicast_audit.specs.Lines.{found_lines, no_mft_line, strange_mft_line}
 use Rattle.multicast_audit.specs.Loops.{all_outs, loop_of}
 use Rattle.multicast_audit.specs.Verdict.{joined}
 use Rattle.multicast_audit.specs.Ways.{outs}
@@ -111,3 +114,17 @@ safe_routes = record { has_lids = true; is_reached = true; is_free = true; is_sa
 
 abbrev pub looping : MulticastVerdict
 looping = record { is_same = true; is_known = true; has_loops = true; has_copies = false }
+
+-- ---- what is found of MLIDs is printed alone, and not what the files lack
+abbrev pub mlids_alone : NetState → List MaskTable → List ℕ
+mlids_alone net tables = flat_map (found_lines net) (all_found net tables)
+
+abbrev pub OtherMftsHaveALine : Type 0
+OtherMftsHaveALine = PrintsMulticast mlids_alone → ⊥
+
+-- ---- what the files lack is printed alone, and no port of a mask
+abbrev pub files_alone : NetState → List MaskTable → List ℕ
+files_alone net tables = flat_map (no_mft_line net tables) (switches net.plan.nodes) ++ flat_map (strange_mft_line net) tables
+
+abbrev pub PortsOfMasksHaveALine : Type 0
+PortsOfMasksHaveALine = PrintsMulticast files_alone → ⊥

@@ -1,6 +1,6 @@
 //! Laws of all fabrics and masks. The functions do nothing; their clauses are the theorems.
 
-ghost use Rattle.multicast_audit.specs.Laws.{AllReasonsAreNamed, CopiesComeTwice, MaskLoopsGoRound, NoCopyIsMissed, NoMaskLoopIsMissed};
+ghost use Rattle.multicast_audit.specs.Laws.{AllReasonsAreNamed, CopiesComeTwice, MaskLoopsGoRound, MulticastIsPrinted, NoCopyIsMissed, NoMaskLoopIsMissed};
 
 /// A loop that is printed is one: packets to the MLID leave by each of its ports and then by the next, and after the last one by
 /// the first.
@@ -26,4 +26,10 @@ pub fn no_copy_is_missed()
 /// A verdict that is not safe names a reason, and it names each reason if and only if that holds.
 pub fn all_reasons_are_named()
     ensures { AllReasonsAreNamed }
+{}
+
+/// The text has each of its lines: what the files lack, each port of a mask that has no cable or that the switch does not have, and
+/// what is found of each MLID. It begins with what an audit without MFTs prints before its verdict.
+pub fn multicast_is_printed()
+    ensures { MulticastIsPrinted }
 {}

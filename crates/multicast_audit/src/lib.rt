@@ -22,6 +22,6 @@ pub use crate::auditing::{audit_multicast, audit_multicast_found};
 pub use crate::copies::SecondCopy;
 pub use crate::found::{Found, Ring};
 pub use crate::laws::{
-    all_reasons_are_named, copies_come_twice, mask_loops_go_round, no_copy_is_missed,
-    no_mask_loop_is_missed,
+    all_reasons_are_named, copies_come_twice, mask_loops_go_round, multicast_is_printed,
+    no_copy_is_missed, no_mask_loop_is_missed,
 };

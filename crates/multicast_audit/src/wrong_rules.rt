@@ -1,6 +1,7 @@
 //! Wrong rules for what is reported of multicast, and the law that each breaks, so that a reader sees that the laws say something.
 //! Each function does nothing: its contract says that with this rule the law is false.
 
+ghost use Rattle.multicast_audit.specs.WrongRules.{OtherMftsHaveALine, PortsOfMasksHaveALine};
 ghost use Rattle.multicast_audit.specs.WrongRules.{CopiesAreFollowed, MulticastIsAReason, PacketsDoNotGoBack, PacketsEnterAtEndPorts, TwoPortsLoop};
 
 /// If a packet may go back by the port by which it came in, a cable between two switches is reported as a loop, and is none.
@@ -26,4 +27,14 @@ pub fn copies_are_followed()
 /// If the reasons are those of the routes alone, a loop of multicast has none.
 pub fn multicast_is_a_reason()
     ensures { MulticastIsAReason }
+{}
+
+/// If what is found of MLIDs is printed alone, the MFT of a switch that the fabric lacks has no line.
+pub fn other_mfts_have_a_line()
+    ensures { OtherMftsHaveALine }
+{}
+
+/// If what the files lack is printed alone, a port of a mask that has no cable has no line.
+pub fn ports_of_masks_have_a_line()
+    ensures { PortsOfMasksHaveALine }
 {}

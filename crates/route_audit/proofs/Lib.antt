@@ -7,3 +7,4 @@ pub mod ReportedLemmas
 pub mod ExampleLemmas
 pub mod CountLemmas
 pub mod ReasonLemmas
+pub mod PrintedLemmas

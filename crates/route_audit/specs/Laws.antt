@@ -1,12 +1,15 @@
 -- What is so of all fabrics and dumps: the statements of the laws of `src/laws.rt`.
-use Rattle.std.specs.Prelude.{ℕ, ◌≡◌, ◌<◌, ◌≤◌, ◌+◌, ◌==◌, Bool, true, false, not, ◌&&◌, nat_eq, List, [], ◌∷◌, codes, drop, filter, get_or, length, slice_get, Option, Some, None, is_some}
+use Rattle.std.specs.Prelude.{ℕ, ◌≡◌, ◌<◌, ◌≤◌, ◌+◌, ◌==◌, Bool, true, false, not, ◌&&◌, nat_eq, List, [], ◌∷◌, ◌++◌, codes, drop, filter, get_or, length, slice_get, Option, Some, None, is_some}
 use Rattle.std.specs.List.{list_any, range_with_len, starts_with}
+use Rattle.std.specs.Str.Iter.{HasSubslice}
 use Rattle.dump_file.specs.declared.destination.Destination.{Destination}
 use Rattle.dump_file.specs.declared.destination.Destination.TheVariants.{ChannelAdapter, Switch, Router, FurtherLid, Nobody, NotReported}
 use Rattle.dump_file.specs.declared.row.Row.{Row}
 use Rattle.dump_file.specs.declared.table.Table.{Table}
 use Rattle.fabric_parts.specs.Cable.{far_end, is_cabled, port}
+use Rattle.fabric_parts.specs.declared.cable.Cable.{Cable}
 use Rattle.fabric_parts.specs.declared.cable.PortRef.{PortRef}
+use Rattle.topo_file.specs.Connectivity.{switches}
 use Rattle.topo_file.specs.Node.{is_switch_at, ports_at}
 use Rattle.audit_net.specs.declared.following.Fate.{Fate}
 use Rattle.audit_net.specs.declared.following.Fate.TheVariants as fates
@@ -14,12 +17,12 @@ use Rattle.audit_net.specs.declared.following.Turn.TheVariants as turns
 use Rattle.lid_owners.specs.declared.lids.Aim.{Aim}
 use Rattle.route_audit.specs.declared.pairs.Pair.{Pair}
 use Rattle.route_audit.specs.declared.verdict.Verdict.{Verdict}
-use Rattle.route_audit.specs.Audit.{audit_of, behind, closing, lids_of}
+use Rattle.route_audit.specs.Audit.{audit_of, behind, closing, credit_loop, findings_of, lids_of}
 use Rattle.credit_loops.specs.Channels.{channels, deadlock, depends}
 use Rattle.audit_net.specs.Following.{fate}
 use Rattle.lid_owners.specs.Lids.{aim_of, aims}
-use Rattle.route_audit.specs.Verdict.{is_others, leads, reasons, verdict_by, verdict_is_safe}
-use Rattle.route_audit.specs.Lines.{has_switch, trouble_line}
+use Rattle.route_audit.specs.Verdict.{is_others, leads, reasons, verdict_by, verdict_is_safe, verdict_line}
+use Rattle.route_audit.specs.Lines.{apart_line, has_switch, no_lid_lines, no_port_line, no_switch_line, no_table_line, trouble_line}
 use Rattle.audit_net.specs.Net.{NetState, row_at, table_at}
 use Rattle.route_audit.specs.Pairs.{count_of}
 use Rattle.audit_plan.specs.Plan.{is_host}
@@ -156,6 +159,24 @@ says_lead net = leads (verdict_by net (aims net) None)
 
 abbrev pub LeadingRoutesAreReported : Type 0
 LeadingRoutesAreReported = ReportsLeading says_lead
+
+-- ---- the text: each line stands in it
+pub record PrintsLines (text : NetState → List ℕ) : Type 0 where
+  -- what the files lack
+  pub passed_over : (net : NetState) (index : ℕ) (cable : Cable) → slice_get net.plan.apart index ≡ Some cable → HasSubslice (text net) (apart_line net cable)
+  pub no_tables : (net : NetState) (index place : ℕ) → slice_get (switches net.plan.nodes) index ≡ Some place → HasSubslice (text net) (no_table_line net place)
+  pub no_switches : (net : NetState) (index : ℕ) (table : Table) → slice_get net.dump.tables index ≡ Some table → HasSubslice (text net) (no_switch_line net table)
+  pub no_ports : (net : NetState) (index : ℕ) (aim : Aim) → slice_get (aims net) index ≡ Some aim → HasSubslice (text net) (no_port_line aim)
+  pub no_lids : (net : NetState) (index : ℕ) (cable : Cable) → slice_get net.plan.cables index ≡ Some cable
+      → HasSubslice (text net) (no_lid_lines net (aims net) cable)
+  -- what a switch does with a LID of which something is known
+  pub troubles : (net : NetState) (index other place : ℕ) (aim : Aim) → slice_get (switches net.plan.nodes) index ≡ Some place
+      → slice_get (aims net) other ≡ Some aim → HasSubslice (text net) (trouble_line net place aim)
+
+-- so it is with what stands before the verdict, which ends the text
+pub record AllLinesArePrinted : Type 0 where
+  pub lines : PrintsLines (λ net. (findings_of net).text)
+  pub verdict : (net : NetState) → (audit_of net).text ≡ (findings_of net).text ++ verdict_line (verdict_by net (aims net) (credit_loop net (aims net)))
 
 -- ---- a verdict that is not safe has a reason, and each reason is named if and only if it holds
 -- the word stands somewhere in the text

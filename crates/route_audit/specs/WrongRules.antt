@@ -1,5 +1,5 @@
 -- Wrong rules for what is reported, and the law that each breaks.
-use Rattle.std.specs.Prelude.{ℕ, ◌&&◌, Bool, true, false, not, List, [], ◌∷◌, ◌++◌, codes, count_by, filter, is_some, find, get_or, if◌then◌else◌, Option, None}
+use Rattle.std.specs.Prelude.{ℕ, ◌&&◌, Bool, true, false, not, List, [], ◌∷◌, ◌++◌, codes, count_by, filter, flat_map, is_some, find, get_or, take, if◌then◌else◌, Option, None}
 use Rattle.std.specs.List.{list_all, list_any}
 use Rattle.std.specs.Option.{option_map_or}
 use Rattle.dump_file.specs.declared.destination.Destination.TheVariants as destinations
@@ -21,9 +21,9 @@ use Rattle.route_audit.specs.declared.verdict.Verdict.{Verdict}
 use Rattle.route_audit.specs.Audit.{closing, credit_loop, lids_of}
 use Rattle.credit_loops.specs.Channels.{deadlock, leaves_by}
 use Rattle.audit_net.specs.Following.{turn}
-use Rattle.route_audit.specs.Laws.{AddUp, NamesReasons, ReportsClosing, ReportsLeading, ReportsSafe, ReportsTroubles, says_safe}
+use Rattle.route_audit.specs.Laws.{AddUp, NamesReasons, PrintsLines, ReportsClosing, ReportsLeading, ReportsSafe, ReportsTroubles, says_safe}
 use Rattle.lid_owners.specs.Lids.{aims, is_lacking}
-use Rattle.route_audit.specs.Lines.{stray_line, trouble_line}
+use Rattle.route_audit.specs.Lines.{apart_line, stray_line, trouble_line, troubles_by}
 use Rattle.audit_net.specs.Net.{NetState}
 use Rattle.route_audit.specs.Pairs.{all_reached, is_fate, pairs_by}
 use Rattle.audit_plan.specs.Plan.{plan_of}
@@ -275,3 +275,17 @@ one_reason verdict = codes "deadlock"
 
 abbrev pub ReasonsHold : Type 0
 ReasonsHold = NamesReasons one_reason → ⊥
+
+-- ---- of the cables that join no switch the first has a line alone
+abbrev pub first_passed_over : NetState → List ℕ
+first_passed_over net = flat_map (apart_line net) (take 1 net.plan.apart)
+
+abbrev pub OtherCablesHaveALine : Type 0
+OtherCablesHaveALine = PrintsLines first_passed_over → ⊥
+
+-- ---- what switches do is printed alone, and not what the files lack
+abbrev pub troubles_alone : NetState → List ℕ
+troubles_alone net = troubles_by net (aims net)
+
+abbrev pub OtherTablesHaveALine : Type 0
+OtherTablesHaveALine = PrintsLines troubles_alone → ⊥

@@ -1,6 +1,6 @@
 //! Laws of all audits. The functions do nothing; their clauses are the theorems.
 
-ghost use Rattle.route_audit.specs.Laws.{CountsAddUp, EachTroubleHasALine, LoopsAreClosedByTheirLids};
+ghost use Rattle.route_audit.specs.Laws.{AllLinesArePrinted, CountsAddUp, EachTroubleHasALine, LoopsAreClosedByTheirLids};
 ghost use Rattle.route_audit.specs.Laws.{LeadingRoutesAreReported, SafeRoutesAreReported, UnsafeRoutesHaveAReason};
 
 /// Each pair of a switch and a LID is counted in one part of a line.
@@ -37,4 +37,10 @@ pub fn leading_routes_are_reported()
 /// A verdict that is not safe names a reason, and it names each reason if and only if that holds.
 pub fn unsafe_routes_have_a_reason()
     ensures { UnsafeRoutesHaveAReason }
+{}
+
+/// The text has each of its lines: what the files lack, and what each switch does with each LID of which something is known. The
+/// verdict ends it.
+pub fn all_lines_are_printed()
+    ensures { AllLinesArePrinted }
 {}

@@ -18,7 +18,7 @@ mod wrong_rules;
 
 pub use crate::auditing::{audit, audit_discovery, findings, is_others, lids_of, push_port_words};
 pub use crate::laws::{
-    counts_add_up, each_trouble_has_a_line, leading_routes_are_reported,
+    all_lines_are_printed, counts_add_up, each_trouble_has_a_line, leading_routes_are_reported,
     loops_are_closed_by_their_lids, safe_routes_are_reported, unsafe_routes_have_a_reason,
 };
 pub use crate::lines::{has_switch, push_lid, push_name, push_port};

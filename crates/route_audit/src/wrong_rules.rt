@@ -4,7 +4,7 @@
 ghost use Rattle.route_audit.specs.WrongRules.{AggregationDecidesNothing, CreditLoopsAreApart, EachStepHasItsLid, LidsGoOnRound};
 ghost use Rattle.route_audit.specs.WrongRules.{HolesAreCounted, HolesHaveALine, LidsAreAsked, LoopsHaveALine, LostPairsAreAReason, ReasonsHold};
 ghost use Rattle.route_audit.specs.WrongRules.{NobodysLoopsHaveALine, OtherLidsDecide, OtherPortsDecide, OtherTablesDecide, OthersHolesHaveALine};
-ghost use Rattle.route_audit.specs.WrongRules.{RowsLeftOutHaveALine};
+ghost use Rattle.route_audit.specs.WrongRules.{OtherCablesHaveALine, OtherTablesHaveALine, RowsLeftOutHaveALine};
 ghost use Rattle.route_audit.specs.WrongRules.{TransitDecidesNothing, UnknownEntriesDecide, WaysAreAsked};
 
 /// If pairs that come to a hole are not counted, the parts of a line are not all.
@@ -100,4 +100,14 @@ pub fn lost_pairs_are_a_reason()
 /// If one reason stands for all, routes without a credit loop have one.
 pub fn reasons_hold()
     ensures { ReasonsHold }
+{}
+
+/// If the first cable that joins no switch has a line alone, another has none.
+pub fn other_cables_have_a_line()
+    ensures { OtherCablesHaveALine }
+{}
+
+/// If what switches do is printed alone, the table of a switch that the fabric lacks has no line.
+pub fn other_tables_have_a_line()
+    ensures { OtherTablesHaveALine }
 {}

@@ -82,7 +82,6 @@ impl Draft {
         ensures ok { OnOk result (self.new ≡ record self.old { paths = self.old.paths ++ path ∷ []; stage = Stage.Outside }) }
         ensures err { OnErr result (self.new ≡ self.old) }
     {
-        self.paths.reserve(1)?;
         self.paths.push(path)?;
         self.stage = Stage::Outside;
         Ok(())

@@ -1,0 +1,24 @@
+-- What is wrong with the wrong rules, by the ports of `Examples.antt`: two are audited.
+use Rattle.std.proofs.Common.{ℕ, ◌≡◌, true, [], arith}
+use Rattle.audited_ports.specs.Ends.{with_port}
+use Rattle.audited_ports.specs.Examples.{discovery, plan, tables}
+use Rattle.audited_ports.specs.Gathered.{gathered, gathered_end}
+use Rattle.audited_ports.specs.WrongRules.{LaterPortsAreAudited, OtherPortsAreAudited, PortsAreAuditedOnce, UnreadPortsAreAudited}
+
+pub later_ports_are_audited : LaterPortsAreAudited
+unfolding gathered gathered_end with_port
+later_ports_are_audited law = let none : 1 ≡ 2 = law plan discovery tables [] (λ guid lid port. true) in absurd (omega (arith, none))
+
+-- no table was read
+pub unread_ports_are_audited : UnreadPortsAreAudited
+unfolding gathered gathered_end with_port
+unread_ports_are_audited law = let none : 0 ≡ 2 = law plan discovery [] [] (λ guid lid port. true) in absurd (omega (arith, none))
+
+-- the file has no partition
+pub other_ports_are_audited : OtherPortsAreAudited
+unfolding gathered gathered_end with_port
+other_ports_are_audited law = let none : 0 ≡ 2 = law plan discovery tables [] (λ guid lid port. true) in absurd (omega (arith, none))
+
+pub ports_are_audited_once : PortsAreAuditedOnce
+unfolding gathered gathered_end with_port
+ports_are_audited_once law = let none : 4 ≡ 2 = law plan discovery tables [] (λ guid lid port. true) in absurd (omega (arith, none))
