@@ -30,8 +30,8 @@ def opening_of(lines, first, margin):
 
 
 def functions_of(text):
-    """Of each function of a file that has a body: its name, and the numbers of its first line, of the line that opens its body, and
-    of its last."""
+    """Of each function of a file that has a body: its name, and the numbers of its first line, which may be an attribute, of the line
+    that opens its body, and of its last."""
     lines = text.split("\n")
     found = []
     for first, line in enumerate(lines):
@@ -39,6 +39,9 @@ def functions_of(text):
         opening = opening_of(lines, first, head[1]) if head else None
         if opening is not None:
             last = next((at for at in range(opening, len(lines)) if lines[at] == head[1] + "}"), opening)
+            # What is not proved is reported at the first attribute.
+            while first and lines[first - 1].startswith(head[1] + "#["):
+                first -= 1
             found.append((head[2], first, opening, last))
     return found
 
@@ -155,9 +158,9 @@ class Bench:
 
 
 def checked(folder, crate):
-    """The status and the output of tools/check-one there."""
+    """The status and the output of tools/check-one there. A check that takes long begins what it prints on the way with `so far: `."""
     ran = subprocess.run([f"{folder}/tools/check-one", crate], stdout=subprocess.PIPE, stderr=subprocess.STDOUT, text=True)
-    return ran.returncode, ran.stdout
+    return ran.returncode, re.sub(r"^so far: ", "", ran.stdout, flags=re.M)
 
 
 def checked_as_it_is(crate):
