@@ -8,7 +8,7 @@ TOP = os.path.dirname(os.path.dirname(os.path.dirname(os.path.realpath(__file__)
 FUNCTION = re.compile(r"(\s*)(?:pub(?:\([a-z ]+\))? )?(?:const )?fn (\w+)")
 # What a check says of a function's own proof, and of a proof file. A proof that names what the mutant took away says less.
 AT_FUNCTION = r"^(?:note: )?(?:\./)?{file}:(\d+):\d+: (?:error|it is not proved)"
-AT_PROOF = r"^(?:\./)?proofs/{file}/(?:\w+/)?{function}/\w+\.antt:\d+:\d+: error.*$"
+AT_PROOF = r"^(?:\./)?proofs/{folder}{function}/\w+\.antt:\d+:\d+: error.*$"
 NAMES_ALONE = re.compile(r"has no field|is not in scope|has no `|was not admitted")
 
 
@@ -144,6 +144,11 @@ class Bench:
         places = re.findall(r"^(?:\./)?(src/\S+\.rt):(\d+):\d+: error", output, re.M)
         return {(file, function_at(read(f"{self.sources}/{file}"), int(line) - 1, False)) for file, line in places}
 
+    def is_alone(self, function):
+        """Whether no other function of the crate has this name."""
+        files = [f"{folder}/{name}" for folder, _, names in os.walk(f"{self.sources}/src") for name in names if name.endswith(".rt")]
+        return sum(name == function for file in files for name, *_ in functions_of(read(file))) == 1
+
     def refusal(self, mutant, output):
         """Whether the output refuses the mutant of bodies at each function that it changes; and whether by names alone."""
         refused, by_names = True, False
@@ -151,7 +156,9 @@ class Bench:
             text = read(f"{self.sources}/{file}")
             lines = re.findall(AT_FUNCTION.format(file=re.escape(file)), output, re.M)
             own = any(function_at(text, int(line) - 1, False) == function for line in lines)
-            proofs = re.findall(AT_PROOF.format(file=re.escape(file[4:-3]), function=function), output, re.M)
+            # A method's proof may be in the module of its type, which is another file's. Then only its name tells whose it is.
+            folder = r"(?:\w+/)*" if self.is_alone(function) else re.escape(file[4:-3]) + r"/(?:\w+/)?"
+            proofs = re.findall(AT_PROOF.format(folder=folder, function=function), output, re.M)
             by_names = by_names or (not own and bool(proofs) and all(NAMES_ALONE.search(line) for line in proofs))
             refused = refused and (own or bool(proofs))
         return refused, by_names
