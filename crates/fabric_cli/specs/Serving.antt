@@ -17,7 +17,7 @@ use Rattle.subnet_model.specs.Configuration.{ConfigurationState}
 use Rattle.script_lines.specs.declared.script_cause.ScriptCause.{ScriptCause}
 use Rattle.script_lines.specs.ScriptCause.{code_of as script_code}
 use Rattle.fabric_graph.specs.Graph.{graph_text}
-use Rattle.fabric_graph.specs.Loads.{needed_look}
+use Rattle.cable_looks.specs.Looks.{needed_look}
 use Rattle.own_loads.specs.OwnLoads.{own_load_text, own_looks}
 use Rattle.fabric_tables.specs.Keys.{keys_text}
 use Rattle.fabric_parts.specs.declared.cable.PortRef.{PortRef}
@@ -101,10 +101,10 @@ use Rattle.fabric_cli.specs.Faults.{unread_line, unwritten_line}
 use Rattle.fabric_cli.specs.Files.{Contents, Opened, StopsAt}
 use Rattle.cli_args.specs.Words.{Asking, Names, named_inspection, named_view, opened_for}
 
--- how an invocation ends: the arguments are refused, with this text if it is known; or an error's status and line; or a
--- whole output; or the whole audit of routes that are not safe, or of P_Key tables that do not follow the file; or the result of bring-up by SMPs, with its error's line if there is one: of what is printed then nothing is
--- said; or the line of a script's error, after the report of the
--- lines before it, or of a partition file's error, after what is said of P_Key tables without it
+-- how an invocation ends: the arguments are refused, with this text if it is known; or an error's status and line; or a whole
+-- output; or the whole audit of routes that are not safe, or of P_Key tables that do not follow the file; or the result of bring-up
+-- by SMPs, with its error's line if there is one: of what is printed then nothing is said; or the line of a script's error, after
+-- the report of the lines before it, or of a partition file's error, after what is said of P_Key tables without it
 pub data Ending : Type 0 where
   refused : Option (List ℕ) → Ending
   faulted : ℕ → List ℕ → Ending

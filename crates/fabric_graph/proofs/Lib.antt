@@ -2,7 +2,6 @@ pub mod RankLemmas
 pub mod DrawnLemmas
 pub mod CableLemmas
 pub mod AttachmentLemmas
-pub mod StepLemmas
 pub mod ThickLemmas
 pub mod WrongRowLemmas
 pub mod ExampleLemmas

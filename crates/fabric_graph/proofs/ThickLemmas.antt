@@ -14,12 +14,12 @@ use Rattle.fabric_graph.specs.Cables.{is_cut}
 use Rattle.fabric_graph.specs.Graph.{is_edge, ranks_drawn}
 use Rattle.fabric_graph.specs.Laws.{EachCableIsDrawnOnce, JoinedRowsHaveThickEdges, LeadsFrom, ThickEdgesJoinAllToAll, ThickEdgesShowNumbers, shows_cable}
 use Rattle.fabric_graph.specs.Lists.{AttachmentState, attachments_of, is_in_list, is_listed, places}
-use Rattle.fabric_graph.specs.Loads.{look_at}
+use Rattle.cable_looks.specs.Looks.{look_at}
 use Rattle.fabric_graph.specs.Ranks.{has_rank, rank_at, rank_count, ranks_of, row_of}
 use Rattle.fabric_graph.specs.Rows.{Picture, are_cabled, are_joined, is_cabled_to_all, is_counted, is_merged, is_next, is_ordinary, is_plain, is_thick, joins_rows, leads_down}
 use Rattle.fabric_graph.specs.Rows.{may_count, may_count_at, picture_with, thick_edges, thickness, upper_of, upper_rank}
-use Rattle.fabric_graph.specs.declared.loads.Look.{Look}
-use Rattle.fabric_graph.specs.declared.loads.Look.TheVariants.{Loaded, Needed, Plain}
+use Rattle.cable_looks.specs.declared.looks.Look.{Look}
+use Rattle.cable_looks.specs.declared.looks.Look.TheVariants.{Loaded, Needed, Plain}
 use Rattle.fabric_parts.specs.declared.cable.Cable.{Cable}
 use Rattle.smp_wire.specs.FabricState.{FabricState}
 use Rattle.step_results.proofs.ListLemmas.{range_at}

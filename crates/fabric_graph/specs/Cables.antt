@@ -4,10 +4,9 @@
 use Rattle.std.specs.Prelude.{ℕ, Bool, true, false, nat_lt, if◌then◌else◌, List, [], ◌++◌, codes, decimal, Option}
 use Rattle.std.specs.Prelude.{Some, None, is_none}
 use Rattle.text_parts.specs.Parts.{quoted}
-use Rattle.fabric_graph.specs.declared.loads.Look.{Look}
-use Rattle.fabric_graph.specs.declared.loads.Look.TheVariants.{Loaded, Needed, Plain}
+use Rattle.cable_looks.specs.declared.looks.Look.{Look}
 use Rattle.fabric_graph.specs.declared.cables.TheConstants.{LABELLED}
-use Rattle.fabric_graph.specs.Loads.{end_name, loaded_look}
+use Rattle.cable_looks.specs.Edges.{end_name, shade}
 use Rattle.fabric_graph.specs.Ranks.{rank_at}
 use Rattle.fabric_parts.specs.Cable.{far_end}
 use Rattle.fabric_parts.specs.declared.cable.Cable.{Cable}
@@ -48,12 +47,6 @@ end_labels cable =
 -- a cable that is cut is drawn as a dashed line
 unfoldable pub stroke : (cut : Bool) → List ℕ
 stroke cut = if cut then codes ", style=dashed" else []
-
--- one that is needed in red, and one that shows its load in the width and colour of that
-unfoldable pub shade : List Node → (most : ℕ) → Cable → Look → List ℕ
-shade nodes most cable Plain = []
-shade nodes most cable Needed = codes ", color=red, penwidth=2"
-shade nodes most cable (Loaded load) = loaded_look nodes most cable load
 
 -- in a picture of more cables than these the numbers of ports are not at the ends, since they cover one another there, but are shown
 -- where one points at the edge, as `tooltip="A/3 to B/3"`

@@ -21,7 +21,9 @@ abbrev pub on_port : ℕ → Option AttachmentState
 on_port number = Some (record { switch = 0; port = number; partitions = 1 ∷ [] })
 
 abbrev pub three : List (Option AttachmentState)
-three = None ∷ on_port 1 ∷ on_port 2 ∷ on_port 3 ∷ Some (record { switch = 0; port = 4; partitions = [] }) ∷ Some (record { switch = 9; port = 5; partitions = 1 ∷ [] }) ∷ []
+three =
+    None ∷ on_port 1 ∷ on_port 2 ∷ on_port 3 ∷ Some (record { switch = 0; port = 4; partitions = [] })
+    ∷ Some (record { switch = 9; port = 5; partitions = 1 ∷ [] }) ∷ []
 
 abbrev pub four : List (Option AttachmentState)
 four = None ∷ on_port 1 ∷ on_port 2 ∷ None ∷ on_port 3 ∷ on_port 4 ∷ []

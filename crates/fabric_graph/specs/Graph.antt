@@ -3,8 +3,9 @@ use Rattle.std.specs.Prelude.{ℕ, ◌&&◌, Bool, not, if◌then◌else◌, Lis
 use Rattle.std.specs.Option.{option_map_or}
 use Rattle.std.specs.List.{range_with_len}
 use Rattle.fabric_graph.specs.Cables.{cable_line}
-use Rattle.fabric_graph.specs.declared.loads.Look.{Look}
-use Rattle.fabric_graph.specs.Loads.{legend_of, look_at, most_of}
+use Rattle.cable_looks.specs.declared.looks.Look.{Look}
+use Rattle.cable_looks.specs.Legend.{legend_of}
+use Rattle.cable_looks.specs.Looks.{look_at, most_of}
 use Rattle.fabric_graph.specs.Lists.{AttachmentState, is_in_list, place_text, places, attachments_of, spacing}
 use Rattle.fabric_graph.specs.Ranks.{rank_count, rank_line, ranks_of}
 use Rattle.fabric_graph.specs.Rows.{Picture, is_merged, picture_of, thick_edges}

@@ -1,16 +1,16 @@
 -- What holds of every drawing: the statements of the laws of `src/laws.rt`.
-use Rattle.std.specs.Prelude.{ℕ, ◌≡◌, ◌⊎◌, ◌==◌, ◌<◌, ◌≤◌, ◌+◌, ◌*◌, ◌&&◌, ◌||◌, Bool, true, false, nat_le, if◌then◌else◌, List, []}
+use Rattle.std.specs.Prelude.{ℕ, ◌≡◌, ◌⊎◌, ◌==◌, ◌<◌, ◌≤◌, ◌+◌, ◌&&◌, ◌||◌, Bool, true, false, if◌then◌else◌, List, []}
 use Rattle.std.specs.Prelude.{◌∷◌, filter, flat_map, get_or, length, slice_get, Option, Some}
 use Rattle.std.specs.List.{Contains, list_any, range_with_len}
 use Rattle.std.specs.Option.{option_map_or}
 use Rattle.fabric_graph.specs.Cables.{is_cut}
 use Rattle.fabric_graph.specs.Graph.{is_edge, ranks_drawn}
 use Rattle.fabric_graph.specs.Lists.{AttachmentState, drawn_at, listed_attachment, places, attachments_of}
-use Rattle.fabric_graph.specs.Loads.{least_of, look_at, step_of, top_of}
+use Rattle.cable_looks.specs.Looks.{look_at}
 use Rattle.fabric_graph.specs.Ranks.{rank_at, rank_count, rank_of, ranks_of, row_of}
 use Rattle.fabric_graph.specs.Rows.{Picture, is_counted, picture_with, thick_edges}
-use Rattle.fabric_graph.specs.declared.loads.Look.{Look}
-use Rattle.fabric_graph.specs.declared.loads.Look.TheVariants.{Plain}
+use Rattle.cable_looks.specs.declared.looks.Look.{Look}
+use Rattle.cable_looks.specs.declared.looks.Look.TheVariants.{Plain}
 use Rattle.fabric_parts.specs.Cable.{is_same_port, port}
 use Rattle.fabric_parts.specs.declared.cable.Cable.{Cable}
 use Rattle.fabric_parts.specs.declared.cable.PortRef.{PortRef}
@@ -64,8 +64,8 @@ times_drawn is_edge counts attachments thick picture ranks place cable =
 -- each cable is drawn once, whatever number of cables makes a picture crowded
 abbrev pub DrawsCablesOnce : EdgeRule → CountRule → Type 0
 DrawsCablesOnce is_edge counts =
-    (plan : TopologyState) (subnet : ConfigurationState) (routes : RoutesState) (fabric : FabricState) (looks : List Look) (crowded : Bool) (k : ℕ) (cable : Cable)
-    → AreSound plan.nodes plan.cables → slice_get plan.cables k ≡ Some cable
+    (plan : TopologyState) (subnet : ConfigurationState) (routes : RoutesState) (fabric : FabricState) (looks : List Look) (crowded : Bool)
+    (k : ℕ) (cable : Cable) → AreSound plan.nodes plan.cables → slice_get plan.cables k ≡ Some cable
     → let picture = picture_with crowded plan (ranks_of routes plan.nodes) fabric looks in
     times_drawn is_edge counts (attachments_of plan subnet) (thick_edges picture (rank_count routes)) picture (ranks_drawn routes) k cable ≡ 1
 
@@ -122,25 +122,3 @@ NumbersCables thick counts =
 
 abbrev pub ThickEdgesShowNumbers : Type 0
 ThickEdgesShowNumbers = NumbersCables thick_edges is_counted
-
--- ---- loads
--- the step of a load is the least number of fifths of the greatest load, from 1 on, that the load does not exceed
-pub record CountsFifths (step : (most load : ℕ) → ℕ) : Type 0 where
-  pub first : (most load : ℕ) → 1 ≤ step most load
-  pub holds : (most load : ℕ) → load ≤ most → load * 5 ≤ most * step most load
-  pub least : (most load fifths : ℕ) → 1 ≤ fifths → load * 5 ≤ most * fifths → step most load ≤ fifths
-
-abbrev pub StepsAreFifths : Type 0
-StepsAreFifths = CountsFifths step_of
-
--- a row of the legend says that loads from the least to the top are of its step
-abbrev pub has_load : (least top : (most step : ℕ) → ℕ) → (most load step : ℕ) → Bool
-has_load least top most load step = nat_le (least most step) load && nat_le load (top most step)
-
--- each load, up to the greatest, is in one row, which is that of its step
-abbrev pub NamesLoads : (least top : (most step : ℕ) → ℕ) → Type 0
-NamesLoads least top =
-    (most load : ℕ) → load ≤ most → filter (has_load least top most load) (range_with_len 1 5) ≡ step_of most load ∷ []
-
-abbrev pub EachLoadHasOneRow : Type 0
-EachLoadHasOneRow = NamesLoads least_of top_of

@@ -2,7 +2,6 @@ pub mod Partitions
 pub mod Nodes
 pub mod Lists
 pub mod Ranks
-pub mod Loads
 pub mod Cables
 pub mod Rows
 pub mod ThickEdges

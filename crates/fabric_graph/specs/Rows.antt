@@ -4,9 +4,9 @@ use Rattle.std.specs.Prelude.{Option, Some, None}
 use Rattle.std.specs.List.{list_all, list_any, range_with_len}
 use Rattle.std.specs.Option.{option_map_or}
 use Rattle.fabric_graph.specs.Cables.{is_crowded, is_cut}
-use Rattle.fabric_graph.specs.declared.loads.Look.{Look}
-use Rattle.fabric_graph.specs.declared.loads.Look.TheVariants.{Plain}
-use Rattle.fabric_graph.specs.Loads.{look_at}
+use Rattle.cable_looks.specs.declared.looks.Look.{Look}
+use Rattle.cable_looks.specs.declared.looks.Look.TheVariants.{Plain}
+use Rattle.cable_looks.specs.Looks.{look_at}
 use Rattle.fabric_graph.specs.Ranks.{rank_at, row_of}
 use Rattle.fabric_parts.specs.declared.cable.Cable.{Cable}
 use Rattle.smp_wire.specs.FabricState.{FabricState}

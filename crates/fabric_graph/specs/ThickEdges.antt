@@ -40,7 +40,8 @@ thick_foot = codes " cables, all to all\"];\n"
 -- as `"S1" -- "L1" [ltail=cluster_rank0, lhead=cluster_rank1, penwidth=10, color=gray60, label="240 cables, all to all"];`
 abbrev pub thick_line : List Node → List (Option ℕ) → (rank count : ℕ) → List ℕ
 thick_line nodes ranks rank count =
-    thick_ends (middle_of nodes ranks rank) (middle_of nodes ranks (rank + 1)) ++ at_box (codes " [ltail") rank ++ at_box (codes ", lhead") (rank + 1) ++ thick_look ++ decimal count ++ thick_foot
+    thick_ends (middle_of nodes ranks rank) (middle_of nodes ranks (rank + 1))
+    ++ at_box (codes " [ltail") rank ++ at_box (codes ", lhead") (rank + 1) ++ thick_look ++ decimal count ++ thick_foot
 
 -- that between the row of this rank and the next, if there is one
 abbrev pub thick_edge : List Node → List (Option ℕ) → (thick : List ℕ) → (rank : ℕ) → List ℕ

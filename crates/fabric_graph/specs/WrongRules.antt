@@ -1,33 +1,12 @@
 -- Wrong rules for what is drawn, and the law that each breaks.
-use Rattle.std.specs.Prelude.{ℕ, ◌+◌, ◌-◌, ◌*◌, ◌/◌, ◌==◌, ◌&&◌, Bool, false, nat_le, not, List, count_by, length, map, slice_get}
+use Rattle.std.specs.Prelude.{ℕ, ◌+◌, ◌==◌, ◌&&◌, Bool, false, nat_le, not, List, count_by, length, map, slice_get}
 use Rattle.std.specs.List.{list_any, range_with_len}
 use Rattle.std.specs.Option.{option_map_or}
-use Rattle.fabric_graph.specs.Laws.{CountRule, CountsAllJoined, CountsFifths, CountsJoinedRows, DrawsCablesOnce, EdgeRule, NamesLoads, NumbersCables}
+use Rattle.fabric_graph.specs.Laws.{CountRule, CountsAllJoined, CountsJoinedRows, DrawsCablesOnce, EdgeRule, NumbersCables}
 use Rattle.fabric_graph.specs.Lists.{is_in_list}
-use Rattle.fabric_graph.specs.Loads.{look_at, top_of}
+use Rattle.cable_looks.specs.Looks.{look_at}
 use Rattle.fabric_graph.specs.Ranks.{row_of}
 use Rattle.fabric_graph.specs.Rows.{Picture, are_cabled, is_counted, is_plain, joins_rows, leads_down, may_count_at}
-
--- ---- all cables are in red
-abbrev pub all_hot : (most load : ℕ) → ℕ
-all_hot most load = 5
-
-abbrev pub NotAllAreHot : Type 0
-NotAllAreHot = CountsFifths all_hot → ⊥
-
--- ---- five steps of which the last has the greatest load alone
-abbrev pub by_quarters : (most load : ℕ) → ℕ
-by_quarters most load = load * 4 / most + 1
-
-abbrev pub StepsAreNotQuarters : Type 0
-StepsAreNotQuarters = CountsFifths by_quarters → ⊥
-
--- ---- each row begins with the last load of the row before
-abbrev pub from_top : (most step : ℕ) → ℕ
-from_top most step = top_of most (step - 1)
-
-abbrev pub RowsDoNotOverlap : Type 0
-RowsDoNotOverlap = NamesLoads from_top top_of → ⊥
 
 -- ---- thick edges count cables that are cut too
 abbrev pub leads_down_at : Picture → (rank place : ℕ) → Bool

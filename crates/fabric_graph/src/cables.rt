@@ -2,11 +2,11 @@
 
 ghost use Rattle.std.specs.Prelude.{◌≡◌, ◌++◌, length, OnOk};
 ghost use Rattle.fabric_graph.specs.Cables.{cable_line, downward, edge_head, end_label, end_labels, ends, is_above, is_cut};
-ghost use Rattle.fabric_graph.specs.Cables.{ends_tooltip, is_crowded, ports_shown, shade, stroke};
+ghost use Rattle.fabric_graph.specs.Cables.{ends_tooltip, is_crowded, ports_shown, stroke};
 
 use crate::lists::Attachment;
-use crate::loads::{Look, push_end_name, push_loaded_look};
 use crate::ranks::rank_at;
+use cable_looks::{Look, push_end_name, push_shade};
 use fabric_parts::Cable;
 use fabric_wire::Fabric;
 use std::alloc::AllocError;
@@ -140,23 +140,6 @@ fn stroke(cut: bool) -> &'static [u8]
     ensures { result.now ≡ stroke cut }
 {
     if cut { b", style=dashed" } else { b"" }
-}
-
-#[tactic(auto, unfolding(crate::specs::Cables::shade))]
-fn push_shade(
-    text: &mut Vec<u8>,
-    nodes: &[Node],
-    most: usize,
-    cable: Cable,
-    look: Look,
-) -> Result<(), AllocError>
-    ensures { OnOk result (text.new.items ≡ text.old.items ++ shade nodes.now most cable look) }
-{
-    match look {
-        Look::Plain => Ok(()),
-        Look::Needed => text.extend_from_slice(b", color=red, penwidth=2"),
-        Look::Loaded(load) => push_loaded_look(text, nodes, most, cable, load),
-    }
 }
 
 fn push_ends(text: &mut Vec<u8>, nodes: &[Node], cable: Cable) -> Result<(), AllocError>

@@ -2,19 +2,19 @@
 
 ghost use Rattle.std.specs.Prelude.{◌≡◌, ◌++◌, OnOk, IfOk, flat_map, length};
 ghost use Rattle.std.specs.List.{range_with_len};
+ghost use Rattle.cable_looks.specs.Looks.{most_of};
 ghost use Rattle.fabric_graph.specs.Graph.{edge_at, edge_of, graph_text, head, is_edge, rank_text, ranks_drawn};
 ghost use Rattle.fabric_graph.specs.Lists.{place_text, places, spacing};
-ghost use Rattle.fabric_graph.specs.Loads.{most_of};
 ghost use Rattle.fabric_graph.specs.Rows.{picture_of};
 ghost use Rattle.fabric_graph.specs.ThickEdges.{thick_edge};
 
 use crate::cables::{Edges, push_cable_line};
 use crate::list_lines::push_place_text;
 use crate::lists::{Attachment, attachments_of, has_lists, is_in_list};
-use crate::loads::{Look, look_at, most_of, push_legend_of};
 use crate::ranks::{push_rank_line, rank_count, ranks_of};
 use crate::rows::{is_merged, thick_edges};
 use crate::thick_edges::{compound, is_boxed, push_thick_edge};
+use cable_looks::{Look, look_at, most_of, push_legend_of};
 use fabric_parts::Cable;
 use fabric_wire::Fabric;
 use std::alloc::{AllocError, Global};

@@ -2,7 +2,7 @@
 
 ghost use Rattle.std.specs.Prelude.{◌≡◌};
 ghost use Rattle.fabric_graph.specs.declared.cables.TheConstants.{LABELLED};
-ghost use Rattle.fabric_graph.specs.Laws.{EachCableIsDrawnOnce, EachLoadHasOneRow, EachNodeIsDrawnOnce, EachRankHasARow, JoinedRowsHaveThickEdges, StepsAreFifths};
+ghost use Rattle.fabric_graph.specs.Laws.{EachCableIsDrawnOnce, EachNodeIsDrawnOnce, EachRankHasARow, JoinedRowsHaveThickEdges};
 ghost use Rattle.fabric_graph.specs.Laws.{ThickEdgesJoinAllToAll, ThickEdgesShowNumbers};
 
 /// In a picture of how many cables at most the numbers of ports are at the ends of edges. The number is ours.
@@ -41,14 +41,4 @@ pub fn joined_rows_have_thick_edges()
 /// The number at a thick edge is that of the cables that it counts.
 pub fn thick_edges_show_numbers()
     ensures { ThickEdgesShowNumbers }
-{}
-
-/// The step of a load is the least number of fifths of the greatest load, from 1 on, that the load does not exceed.
-pub fn steps_are_fifths()
-    ensures { StepsAreFifths }
-{}
-
-/// Each load is in one row of the legend, which is that of its step.
-pub fn each_load_has_one_row()
-    ensures { EachLoadHasOneRow }
 {}

@@ -7,8 +7,8 @@ ghost use Rattle.fabric_graph.specs.Rows.{joins_rows, leads_down, may_count, may
 ghost use Rattle.topo_file.specs.Connectivity.{joins};
 
 use crate::cables::{Edges, is_crowded, is_cut};
-use crate::loads::{Look, look_at};
 use crate::ranks::{rank_at, row_of};
+use cable_looks::{Look, look_at};
 use fabric_parts::Cable;
 use fabric_wire::Fabric;
 use std::alloc::{AllocError, Global};

@@ -6,8 +6,8 @@ use Rattle.cable_load.specs.declared.talk.PortKeys.{PortKeys}
 use Rattle.cable_load.specs.Talk.{may_talk}
 use Rattle.cable_load.specs.Text.{load_of_plan, loads_of_plan}
 use Rattle.cable_load.specs.declared.loaded.Loaded.{Loaded}
-use Rattle.fabric_graph.specs.declared.loads.Look.{Look}
-use Rattle.fabric_graph.specs.declared.loads.Look.TheVariants.{Loaded as LoadedLook, Plain}
+use Rattle.cable_looks.specs.declared.looks.Look.{Look}
+use Rattle.cable_looks.specs.declared.looks.Look.TheVariants.{Loaded as LoadedLook, Plain}
 use Rattle.fabric_parts.specs.Cable.{far_end, is_same_port, port}
 use Rattle.fabric_parts.specs.declared.cable.Cable.{Cable}
 use Rattle.fabric_parts.specs.declared.cable.PortRef.{PortRef}

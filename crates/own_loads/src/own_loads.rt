@@ -7,7 +7,7 @@ use crate::own_dump::own_dump;
 use crate::talking::talk_of;
 use audit_plan::Plan;
 use cable_load::{Loaded, load_of_plan, loads_of_plan};
-use fabric_graph::{CableLoad, Look};
+use cable_looks::{CableLoad, Look};
 use fabric_parts::{Cable, PortRef};
 use fabric_wire::Fabric;
 use lid_assign::Lids;

@@ -1,5 +1,0 @@
-use Rattle.fabric_graph.proofs.StepLemmas.{each_load_has_one_row}
-use Rattle.fabric_graph.proofs.laws.each_load_has_one_row.Goals as goal
-
-pub returns : goal.returns
-returns c = each_load_has_one_row

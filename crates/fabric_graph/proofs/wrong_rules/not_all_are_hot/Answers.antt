@@ -1,5 +1,0 @@
-use Rattle.fabric_graph.proofs.StepLemmas.{not_all_are_hot}
-use Rattle.fabric_graph.proofs.wrong_rules.not_all_are_hot.Goals as goal
-
-pub returns : goal.returns
-returns c = not_all_are_hot

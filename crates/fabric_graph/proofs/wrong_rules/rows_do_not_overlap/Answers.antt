@@ -1,5 +1,0 @@
-use Rattle.fabric_graph.proofs.StepLemmas.{rows_do_not_overlap}
-use Rattle.fabric_graph.proofs.wrong_rules.rows_do_not_overlap.Goals as goal
-
-pub returns : goal.returns
-returns c = rows_do_not_overlap

@@ -1,5 +1,0 @@
-use Rattle.fabric_graph.proofs.StepLemmas.{steps_are_not_quarters}
-use Rattle.fabric_graph.proofs.wrong_rules.steps_are_not_quarters.Goals as goal
-
-pub returns : goal.returns
-returns c = steps_are_not_quarters
