@@ -36,7 +36,8 @@ EndsBy net lid place turned = (way : List ℕ) × IsWay net lid place way turned
 
 -- an end is reported if and only if a way along the entries comes to it
 pub record WaysAreFollowed : Type 0 where
-  pub reported : (net : NetState) (lid place : ℕ) (turned : Turn) → is_switch_at net.plan.nodes place ≡ true → EndsBy net lid place turned → end_from net lid place ≡ Some turned
+  pub reported : (net : NetState) (lid place : ℕ) (turned : Turn) → is_switch_at net.plan.nodes place ≡ true → EndsBy net lid place turned
+      → end_from net lid place ≡ Some turned
   pub there : (net : NetState) (lid place : ℕ) (turned : Turn) → end_from net lid place ≡ Some turned → EndsBy net lid place turned
 
 -- each of these switches sends the LID on to the next, and the last to the first

@@ -28,7 +28,8 @@ are_joined found a b = list_any (λ line. is_same_port line.port a && has_far_li
 
 -- two ports have a cable if and only if lines say so, and the list of cables between end ports has those that join no switch
 pub record TakesTheCables (plan : DiscoveryState → PlanState) : Type 0 where
-  pub joined : (found : DiscoveryState) (a b : PortRef) → IsSound found → list_any (joins a b) ((plan found).cables ++ (plan found).apart) ≡ are_joined found a b
+  pub joined : (found : DiscoveryState) (a b : PortRef) → IsSound found
+      → list_any (joins a b) ((plan found).cables ++ (plan found).apart) ≡ are_joined found a b
   pub at_switches : (found : DiscoveryState) → list_all (joins_switch found.nodes) (plan found).cables ≡ true
   pub apart : (found : DiscoveryState) → list_any (joins_switch found.nodes) (plan found).apart ≡ false
 

@@ -1,4 +1,5 @@
-//! Which ports have which GUIDs, which nodes are hosts, and what a discovery gives, computed. Each function does nothing: its contract is the example.
+//! Which ports have which GUIDs, which nodes are hosts, and what a discovery gives, computed. Each function does nothing: its
+//! contract is the example.
 
 ghost use Rattle.audit_plan.specs.Examples.{DiscoveriesAreTaken, HostsAreFound, PortsAreFound};
 

@@ -62,7 +62,14 @@ impl Model for Plan {
 
     ghost Value = { PlanState };
 
-    ghost view = { λ plan. record { nodes = plan.nodes.items; cables = plan.cables.items; apart = plan.apart.items; ends = plan.ends; aggregation = plan.aggregation.items; lids = plan.lids.items } };
+    ghost view = { λ plan. record {
+      nodes = plan.nodes.items;
+      cables = plan.cables.items;
+      apart = plan.apart.items;
+      ends = plan.ends;
+      aggregation = plan.aggregation.items;
+      lids = plan.lids.items;
+    } };
 }
 
 /// Whether the node there is a switch.

@@ -176,7 +176,8 @@ loaded_by_all net talk at = loaded net (pairs_by net talk (aims net)) at
 -- the loads are those of the channels, each in its place
 abbrev pub CountsAllPairs : (NetState → (talk : PortRef → PortRef → Bool) → List Loaded) → Type 0
 CountsAllPairs loads =
-    (net : NetState) (talk : PortRef → PortRef → Bool) (index : ℕ) → slice_get (loads net talk) index ≡ option_map (loaded_by_all net talk) (slice_get (channels net) index)
+    (net : NetState) (talk : PortRef → PortRef → Bool) (index : ℕ) → slice_get (loads net talk) index
+    ≡ option_map (loaded_by_all net talk) (slice_get (channels net) index)
 
 abbrev pub AllPairsAreCounted : Type 0
 AllPairsAreCounted = CountsAllPairs loads_of

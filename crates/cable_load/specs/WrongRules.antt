@@ -36,7 +36,8 @@ node name of guid = record { name = name; node_type = of; guid = guid; ports = 2
 abbrev pub a_plan : TopologyState
 a_plan = record {
   nodes = node (codes "A") Switch 16 ∷ node (codes "B") Switch 32 ∷ node (codes "h") ChannelAdapter 256 ∷ node (codes "k") ChannelAdapter 512 ∷ [];
-  cables = record { first = port 0 1; second = port 2 1 } ∷ record { first = port 1 1; second = port 3 1 } ∷ record { first = port 0 2; second = port 1 2 } ∷ [];
+  cables = record { first = port 0 1; second = port 2 1 } ∷ record { first = port 1 1; second = port 3 1 }
+      ∷ record { first = port 0 2; second = port 1 2 } ∷ [];
   roots = [];
   sm = port 2 1;
 }

@@ -1,10 +1,10 @@
 //! How the traffic of a fabric is spread over its cables, by the tables that stand in its switches.
 //!
 //! [`load_text`] takes a topology and the LFTs that `dump_file` read, [`load_text_found`] what `netdiscover_file` read in place of
-//! the topology, and [`load_of_plan`] either, and the P_Keys by which ports may talk. [`loads_of_plan`] returns the numbers. For each direction of a cable between two switches
-//! they say how many pairs go over it: a host's port that sends, and a LID of another host's port. `specs/Sources.antt` says which
-//! pairs there are, `specs/Talk.antt` which ports may talk, `specs/Ways.antt` which way a packet goes,
-//! `specs/Loads.antt` what is counted, and `specs/Text.antt` what is printed.
+//! the topology, and [`load_of_plan`] either, and the P_Keys by which ports may talk. [`loads_of_plan`] returns the numbers. For
+//! each direction of a cable between two switches they say how many pairs go over it: a host's port that sends, and a LID of
+//! another host's port. `specs/Sources.antt` says which pairs there are, `specs/Talk.antt` which ports may talk, `specs/Ways.antt`
+//! which way a packet goes, `specs/Loads.antt` what is counted, and `specs/Text.antt` what is printed.
 //!
 //! [`top_switches`] finds the switches that are farthest from hosts, as `specs/Tops.antt` says.
 #![tactic(auto)]

@@ -61,7 +61,8 @@ fn add_from(
     ensures below { AreBelow stamp marks.new }
     ensures sums { OnOk result (GrowBy (of_pairs net.now (pairs_in (may_talk to.entry.talk.now) to.entry.target.lid to.entry.target.end one.now))
         sums.old sums.new) }
-    ensures counts { IfOk result (λ counts. counts ≡ counts_of net.now (pairs_in (may_talk to.entry.talk.now) to.entry.target.lid to.entry.target.end one.now)) }
+    ensures counts { IfOk result (λ counts. counts
+        ≡ counts_of net.now (pairs_in (may_talk to.entry.talk.now) to.entry.target.lid to.entry.target.end one.now)) }
 {
     let flow = Flow {
         lid: to.target.lid,

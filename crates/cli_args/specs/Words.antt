@@ -219,11 +219,11 @@ abbrev pub explain_by : Option Text → Option (Call Names Text)
 explain_by None = Some (Explain None)
 explain_by (Some word) = option_map (λ code. Explain (Some code)) (code_of word)
 
--- `check` takes no more arguments than its subnet's, `shares` takes a port, and `tables`, `keys`, `trace` and `graph` take a script,
--- `cuts` two ports;
--- `diff` needs other partitions, `trace` a packet, `run` a script, `smp` SMPs, `manage` replies, and `compare` two scripts and a port; `import` needs a file of
--- its own and takes a GUID and roots, `audit` needs a fabric and a dump, and takes MFTs or lanes, and `load` these or a topology and partitions, and takes a script; `audit-keys` two files of its own and partitions, and takes a GUID, and
--- `explain` takes a code
+-- `check` takes no more arguments than its subnet's, `shares` takes a port, and `tables`, `keys`, `trace` and `graph` take a
+-- script, `cuts` two ports; `diff` needs other partitions, `trace` a packet, `run` a script, `smp` SMPs, `manage` replies, and
+-- `compare` two scripts and a port; `import` needs a file of its own and takes a GUID and roots, `audit` needs a fabric and a dump,
+-- and takes MFTs or lanes, and `load` these or a topology and partitions, and takes a script; `audit-keys` two files of its own and
+-- partitions, and takes a GUID, and `explain` takes a code
 abbrev pub call_in : Subcommand → List Row → Option (Call Names Text)
 call_in command.Check rows = in_subnet rows (Some Check)
 call_in command.Shares rows = in_subnet rows (Some (Shares (first_of (codes "PORT") rows)))
@@ -266,9 +266,9 @@ subcommand_in word =
     else if bytes_eq word (codes "explain") then Some command.Explain
     else None
 
--- the text for an argument that clap accepts and the command cannot take: in a trace it is not a number, in an audit of keys not a GUID,
--- in an import not a GUID or not `auto`, in cuts the second port is missing, a picture is none of those above, an audit has MFTs and lanes, loads have neither partitions nor a dump, or both,
--- and else it is not a code
+-- the text for an argument that clap accepts and the command cannot take: in a trace it is not a number, in an audit of keys not a
+-- GUID, in an import not a GUID or not `auto`, in cuts the second port is missing, a picture is none of those above, an audit has
+-- MFTs and lanes, loads have neither partitions nor a dump, or both, and else it is not a code
 abbrev pub text_for : Subcommand → Text
 text_for command.Trace = NO_SUCH_NUMBER.now
 text_for command.Import = NO_SUCH_IMPORT.now

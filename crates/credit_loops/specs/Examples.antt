@@ -12,7 +12,8 @@ use Rattle.credit_loops.specs.Channels.{channels, deadlock, depends}
 abbrev three_cabled : TopologyState
 three_cabled = record {
   nodes = a_switch (codes "A") 16 ∷ a_switch (codes "B") 32 ∷ a_switch (codes "C") 48 ∷ [];
-  cables = record { first = port 0 1; second = port 1 2 } ∷ record { first = port 1 1; second = port 2 2 } ∷ record { first = port 2 1; second = port 0 2 } ∷ [];
+  cables = record { first = port 0 1; second = port 1 2 } ∷ record { first = port 1 1; second = port 2 2 }
+      ∷ record { first = port 2 1; second = port 0 2 } ∷ [];
   roots = [];
   sm = port 0 0;
 }

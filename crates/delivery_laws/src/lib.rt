@@ -1,11 +1,10 @@
 //! Whom data packets reach, by the tables that a fabric holds: definitions, and the laws over them.
 //!
-//! `specs/Deliveries.antt` says which ports of channel adapters a packet reaches, whatever stands in the
-//! tables: those to which some walk leads by what switches hold, and that accept its key. `specs/Forwards.antt`
-//! says what tables have to hold, so that a packet goes by its LID; that it does then is [`packets_go_by_lid`].
-//! `specs/Groups.antt` says what masks have to hold, so that a packet to a multicast LID goes to its receivers; that
-//! it does then is [`packets_go_by_mlid`], and when no bit of theirs is set in vain. Forwarding by tables and masks, and enforcement, are those of the IBA volume 1,
-//! chapter 14.
+//! `specs/Deliveries.antt` says which ports of channel adapters a packet reaches, whatever stands in the tables: those to which
+//! some walk leads by what switches hold, and that accept its key. `specs/Forwards.antt` says what tables have to hold, so that a
+//! packet goes by its LID; that it does then is [`packets_go_by_lid`]. `specs/Groups.antt` says what masks have to hold, so that a
+//! packet to a multicast LID goes to its receivers; that it does then is [`packets_go_by_mlid`], and when no bit of theirs is set
+//! in vain. Forwarding by tables and masks, and enforcement, are those of the IBA volume 1, chapter 14.
 #![tactic(auto)]
 
 mod laws;

@@ -149,7 +149,8 @@ pub record SaysAllOf (text : List ℕ) (nodes : List Node) (ports : List Audited
 
 abbrev pub PrintsAll : (List Node → (all : Bool) → List AuditedPort → List Partition → List ℕ) → Type 0
 PrintsAll text =
-    (nodes : List Node) (all : Bool) (ports : List AuditedPort) (partitions : List Partition) → OfEach (SaysAllOf (text nodes all ports partitions) nodes ports) ports
+    (nodes : List Node) (all : Bool) (ports : List AuditedPort) (partitions : List Partition)
+    → OfEach (SaysAllOf (text nodes all ports partitions) nodes ports) ports
 
 abbrev pub AllDifferencesArePrinted : Type 0
 AllDifferencesArePrinted = PrintsAll (λ nodes all ports partitions. (audit_of nodes all ports partitions).text)

@@ -1,5 +1,5 @@
-//! Wrong rules for the status, the pairs, the lines and the last of them, each refused by a law. The functions do nothing: each contract says that
-//! with this rule the law is false.
+//! Wrong rules for the status, the pairs, the lines and the last of them, each refused by a law. The functions do nothing: each
+//! contract says that with this rule the law is false.
 
 ghost use Rattle.keys_audit.specs.WrongRules.{BasesAreNotEnough, MissingKeysCount, OneDirectionCounts, OwnTablesAreNotEnough, UnreadPortsDoNotPass, UnreadSwitchPortsDoNotPass};
 ghost use Rattle.keys_audit.specs.WrongRules.{BothMayTalk, EmptyPlacesAreNoKeys, GapsDoNotEndTheTable, DifferencesArePrinted, LimitedMembersDoNotTalk, SwitchPortsCount, UnreadPortsArePrinted, UnreadTablesDoNotFollow};

@@ -201,7 +201,10 @@ MissingRowsAreUnknown = ReportsSafeLanes without_rows → ⊥
 
 -- LIDs 1 and 3 are of the CA at the switch with a cable to itself, and no row is known
 abbrev pub own_tables : List LaneRow → TablesState
-own_tables rows = record { aims = record { lid = 1; guid = None; end = Some (port 1 1) } ∷ record { lid = 3; guid = None; end = Some (port 1 1) } ∷ []; rows = rows }
+own_tables rows = record {
+  aims = record { lid = 1; guid = None; end = Some (port 1 1) } ∷ record { lid = 3; guid = None; end = Some (port 1 1) } ∷ [];
+  rows = rows;
+}
 
 -- ---- packets are dropped, and that is no matter
 abbrev pub without_drops : NetState → TablesState → List PathSl → LaneVerdict
@@ -213,7 +216,8 @@ DroppedPacketsAreLost = ReportsSafeLanes without_drops → ⊥
 -- LIDs 1 and 3 are the CA's, and LID 2 the switch's, whose row from port 3 to port 1 has VL 15
 abbrev pub dropping_tables : TablesState
 dropping_tables = record {
-  aims = record { lid = 1; guid = None; end = Some (port 1 1) } ∷ record { lid = 2; guid = None; end = Some (port 0 0) } ∷ record { lid = 3; guid = None; end = Some (port 1 1) } ∷ [];
+  aims = record { lid = 1; guid = None; end = Some (port 1 1) }
+      ∷ record { lid = 2; guid = None; end = Some (port 0 0) } ∷ record { lid = 3; guid = None; end = Some (port 1 1) } ∷ [];
   rows = round_row 3 15 ∷ [];
 }
 

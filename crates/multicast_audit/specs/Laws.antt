@@ -116,7 +116,8 @@ pub record NamesAllReasons (words : Verdict → MulticastVerdict → List ℕ) :
   pub lids : (routes : Verdict) (multicast : MulticastVerdict) → has_word (codes "no-lid") (words routes multicast) ≡ not routes.has_lids
   pub pairs : (routes : Verdict) (multicast : MulticastVerdict) → has_word (codes "unreached") (words routes multicast) ≡ routes.loses
   pub waits : (routes : Verdict) (multicast : MulticastVerdict) → has_word (codes "deadlock") (words routes multicast) ≡ not routes.is_free
-  pub names : (routes : Verdict) (multicast : MulticastVerdict) → has_word (codes "mismatch") (words routes multicast) ≡ not (routes.is_same && multicast.is_same)
+  pub names : (routes : Verdict) (multicast : MulticastVerdict)
+      → has_word (codes "mismatch") (words routes multicast) ≡ not (routes.is_same && multicast.is_same)
   pub entries : (routes : Verdict) (multicast : MulticastVerdict)
       → has_word (codes "unknown") (words routes multicast) ≡ not ((routes.is_known && multicast.is_known) && not routes.lacks_entries)
   pub loops : (routes : Verdict) (multicast : MulticastVerdict) → has_word (codes "multicast-loop") (words routes multicast) ≡ multicast.has_loops

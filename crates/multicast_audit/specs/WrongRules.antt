@@ -32,7 +32,10 @@ abbrev pub cable_of : PortRef → PortRef → Cable
 cable_of a b = record { first = a; second = b }
 
 abbrev pub fabric_of : List Node → List Cable → NetState
-fabric_of nodes cables = record { plan = record { nodes = nodes; cables = cables; apart = []; ends = []; aggregation = []; lids = [] }; dump = record { tables = [] } }
+fabric_of nodes cables = record {
+  plan = record { nodes = nodes; cables = cables; apart = []; ends = []; aggregation = []; lids = [] };
+  dump = record { tables = [] };
+}
 
 -- two switches with two cables between them: ports 1 and 2 of both
 abbrev pub two_cabled : NetState

@@ -1,8 +1,8 @@
 //! How the traffic of a simulated fabric is spread over its cables, by the LFTs that its switches hold.
 //!
 //! [`own_load_text`] prints for each direction of a cable between two switches how many pairs go over it, as `cable_load` does of a
-//! live fabric, and [`own_looks`] returns the same for a picture of the fabric. `specs/OwnLoads.antt` says of which fabric and between which ports, and `specs/OwnDump.antt` what its LFTs are as a
-//! dump.
+//! live fabric, and [`own_looks`] returns the same for a picture of the fabric. `specs/OwnLoads.antt` says of which fabric and
+//! between which ports, and `specs/OwnDump.antt` what its LFTs are as a dump.
 #![tactic(auto)]
 
 mod own_dump;

@@ -12,10 +12,11 @@ use std::test::Fail;
 use table_push::PushFault;
 use updn_routes::Routes;
 
-/// The pushes over the two-switch fabric: how many exchanges each takes, and how many of them are Sets. Ports: Get and Set of two ports 0 and of SwitchInfo twice; of the ten ports that a
-/// cable ends in a Get and a Set to Armed, and when all are Armed a Get and a Set to Active. P_Key tables: of two ports 0, and of both ends of four
-/// cables, a Set of the first block and a Get of each of the three empty ones. LFTs: eight blocks each of two
-/// switches. An MLID range of multicast tables: a block at each of three positions of two switches.
+/// The pushes over the two-switch fabric: how many exchanges each takes, and how many of them are Sets. Ports: Get and Set of two
+/// ports 0 and of SwitchInfo twice; of the ten ports that a cable ends in a Get and a Set to Armed, and when all are Armed a Get
+/// and a Set to Active. P_Key tables: of two ports 0, and of both ends of four cables, a Set of the first block and a Get of each
+/// of the three empty ones. LFTs: eight blocks each of two switches. An MLID range of multicast tables: a block at each of three
+/// positions of two switches.
 const PUSHES: [(Push, u64, u64); 4] = [
     (Push::Multicast, 6, 6),
     (Push::Ports, 48, 24),

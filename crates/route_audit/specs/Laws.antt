@@ -165,7 +165,8 @@ pub record PrintsLines (text : NetState → List ℕ) : Type 0 where
   -- what the files lack
   pub passed_over : (net : NetState) (index : ℕ) (cable : Cable) → slice_get net.plan.apart index ≡ Some cable → HasSubslice (text net) (apart_line net cable)
   pub no_tables : (net : NetState) (index place : ℕ) → slice_get (switches net.plan.nodes) index ≡ Some place → HasSubslice (text net) (no_table_line net place)
-  pub no_switches : (net : NetState) (index : ℕ) (table : Table) → slice_get net.dump.tables index ≡ Some table → HasSubslice (text net) (no_switch_line net table)
+  pub no_switches : (net : NetState) (index : ℕ) (table : Table) → slice_get net.dump.tables index ≡ Some table
+      → HasSubslice (text net) (no_switch_line net table)
   pub no_ports : (net : NetState) (index : ℕ) (aim : Aim) → slice_get (aims net) index ≡ Some aim → HasSubslice (text net) (no_port_line aim)
   pub no_lids : (net : NetState) (index : ℕ) (cable : Cable) → slice_get net.plan.cables index ≡ Some cable
       → HasSubslice (text net) (no_lid_lines net (aims net) cable)

@@ -57,7 +57,8 @@ both_ways = record { lid = 1; guid = None; end = None } ∷ record { lid = 2; gu
 abbrev pub three_cabled : TopologyState
 three_cabled = record {
   nodes = a_switch (codes "A") 16 ∷ a_switch (codes "B") 32 ∷ a_switch (codes "C") 48 ∷ [];
-  cables = record { first = port 0 1; second = port 1 2 } ∷ record { first = port 1 1; second = port 2 2 } ∷ record { first = port 2 1; second = port 0 2 } ∷ [];
+  cables = record { first = port 0 1; second = port 1 2 } ∷ record { first = port 1 1; second = port 2 2 }
+      ∷ record { first = port 2 1; second = port 0 2 } ∷ [];
   roots = [];
   sm = port 0 2;
 }

@@ -1,5 +1,5 @@
-//! The bits of the ComponentMask that name the components of a request by ServiceRecord (IBA volume 1, 15.2.5.14). The numbers of ServiceData have the bits
-//! from 7 on.
+//! The bits of the ComponentMask that name the components of a request by ServiceRecord (IBA volume 1, 15.2.5.14). The numbers of
+//! ServiceData have the bits from 7 on.
 
 /// ServiceID.
 pub const SERVICE_ID: u64 = 1 << 0;

@@ -24,7 +24,8 @@ field_of None None None = Ok Other
 unfoldable pub field_in : List ℕ → Result Field LanesCause
 field_in text = do
   field ← behind (codes "\t\t") text
-  field_of (value_of (codes "slid....................") field) (value_of (codes "dlid....................") field) (value_of (codes "sl......................") field)
+  field_of (value_of (codes "slid....................") field) (value_of (codes "dlid....................") field)
+      (value_of (codes "sl......................") field)
 
 -- ---- one more field of a record, which it does not have yet
 abbrev pub with_field : PathFields → Field → Result PathFields LanesCause

@@ -1,4 +1,5 @@
--- Two ports that share no partition: the second event of a report is the first one where the other port does nothing; and one is not near the other.
+-- Two ports that share no partition: the second event of a report is the first one where the other port does nothing; and one is
+-- not near the other.
 use Rattle.std.proofs.Common.{ℕ, ◌≡◌, zero, suc, true, false, List, [], ◌∷◌, ap}
 use Rattle.subnet_model.specs.Examples.{two_tenants}
 use Rattle.subnet_core.specs.WrongRules.{AllPortsAreNotNear, CountedEvent, CountedEventsReportOfFarPorts}

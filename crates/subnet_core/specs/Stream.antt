@@ -83,4 +83,5 @@ DoesNotBegin (Err fault) given = FailsWith (Becomes given) (fault_in fault) (up_
 abbrev pub Streams : {X : Type 0} → Result X RunFault → Result InventoryState RunFault → (script left old new : Option (List ℕ)) → Type 0
 Streams {X} answer given script left old new =
     (DoesNotBegin answer given × (left ≡ script) × (new ≡ old))
-    ⊎ ((inventory : InventoryState) × IsInventoried inventory × WithFabric (Becomes given) (λ stop. up_from given stop ≡ Ok inventory) × CarriesOut X inventory answer script left old new)
+    ⊎ ((inventory : InventoryState) × IsInventoried inventory × WithFabric (Becomes given) (λ stop. up_from given stop ≡ Ok inventory)
+    × CarriesOut X inventory answer script left old new)

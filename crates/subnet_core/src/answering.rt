@@ -192,7 +192,8 @@ fn answered(
     request: Request<'_>,
 ) -> Result<Answer, AnswerFault>
     requires { Stands inventory.now routes.now administrator.old fabric.old }
-    ensures answers { IfOk result (λ given. AnswersRequests inventory.now administrator.old request.entry.port request.entry.deliveries.now given administrator.new) }
+    ensures answers { IfOk result (λ given.
+        AnswersRequests inventory.now administrator.old request.entry.port request.entry.deliveries.now given administrator.new) }
     ensures none { request.entry.deliveries.now ≡ [] → IfOk result (λ given. (given.mads.items ≡ []) × (given.events.items ≡ [])
         × (administrator.new ≡ administrator.old) × (fabric.new ≡ fabric.old)) }
     ensures back { IfOk result (λ given. AreSentBack fabric.new request.entry.deliveries.now given.events.items) }

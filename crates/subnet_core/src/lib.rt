@@ -1,13 +1,13 @@
 //! Whole runs: the texts of a topology, of partitions and of a script in, a report out.
 //!
-//! [`run`] is the call that the product is named for. Its clause `exact` says that its answer is what
-//! the three texts stand for (`specs/Run.antt`), and its clause `apart` that what a port receives
-//! depends only on the ports that share a partition with it (`specs/Headline.antt`). [`bring_up`],
-//! [`Subnet::parse`] and [`Subnet::step`] do the same piece by piece, and [`Report::text`] prints it. A subnet is brought
-//! up over the simulated fabric of its topology, and `specs/BringUp.antt` says when that fails; each step carries its
-//! command over that fabric (`specs/Senders.antt`), and gives the events, and leaves the memberships, that the list of ports
-//! gives (`specs/Answering.antt`). Who is in a subnet takes no fabric: [`read_inventory`] reads it, of any size [`read_large_inventory`], and [`Inventory::listing`] prints it (`specs/Listing.antt`).
-//! [`manage`] sets up a fabric behind any wire as that of an inventory, and [`up_text`] prints that it is up (`specs/Managing.antt`).
+//! [`run`] is the call that the product is named for. Its clause `exact` says that its answer is what the three texts stand for
+//! (`specs/Run.antt`), and its clause `apart` that what a port receives depends only on the ports that share a partition with it
+//! (`specs/Headline.antt`). [`bring_up`], [`Subnet::parse`] and [`Subnet::step`] do the same piece by piece, and [`Report::text`]
+//! prints it. A subnet is brought up over the simulated fabric of its topology, and `specs/BringUp.antt` says when that fails; each
+//! step carries its command over that fabric (`specs/Senders.antt`), and gives the events, and leaves the memberships, that the
+//! list of ports gives (`specs/Answering.antt`). Who is in a subnet takes no fabric: [`read_inventory`] reads it, of any size
+//! [`read_large_inventory`], and [`Inventory::listing`] prints it (`specs/Listing.antt`). [`manage`] sets up a fabric behind any
+//! wire as that of an inventory, and [`up_text`] prints that it is up (`specs/Managing.antt`).
 #![tactic(auto)]
 
 mod acknowledging;

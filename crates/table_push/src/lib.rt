@@ -1,16 +1,14 @@
 //! Tables written by SMPs: what the subnet manager sets in the agents of a fabric, over any wire.
 //!
-//! [`push_ports`] sets up all ports and LinearFDBTop, [`push_keys`] writes the P_Key tables of all end ports and of the
-//! ports of switches that they are attached to, [`push_linear`] the LFTs of all switches. Nodes are reached by
-//! the paths that the sweep found, blocks are set whole, and each reply is compared with what was set: [`PushFault`] says
-//! why a push stops. [`push_multicast`] writes the MFTs of a partition for the receivers
-//! of each multicast LID, and [`push_changed`] the blocks of them that differ from those that stand there. [`port_masks`]
-//! computes the port masks of one group at all switches, along the [`Tree`] of the routes ([`tree_of`]), and sets nothing. [`push_all`] does
-//! the first three pushes. [`push_ports_counting`] and [`push_all_counting`] also return how many ports of switches do not
-//! enforce partitions. `specs/BroughtUp.antt` says what a fabric holds then, and [`pushes_bring_up`] that it does.
-//! [`brought_up_forwards_by_lid`] says that every packet goes by its LID then, for routes that lead to each port
-//! ([`known_to_lead_home`]).
-//! The attributes are those of the IBA volume 1, chapter 14.
+//! [`push_ports`] sets up all ports and LinearFDBTop, [`push_keys`] writes the P_Key tables of all end ports and of the ports of
+//! switches that they are attached to, [`push_linear`] the LFTs of all switches. Nodes are reached by the paths that the sweep
+//! found, blocks are set whole, and each reply is compared with what was set: [`PushFault`] says why a push stops.
+//! [`push_multicast`] writes the MFTs of a partition for the receivers of each multicast LID, and [`push_changed`] the blocks of
+//! them that differ from those that stand there. [`port_masks`] computes the port masks of one group at all switches, along the
+//! [`Tree`] of the routes ([`tree_of`]), and sets nothing. [`push_all`] does the first three pushes. [`push_ports_counting`] and
+//! [`push_all_counting`] also return how many ports of switches do not enforce partitions. `specs/BroughtUp.antt` says what a
+//! fabric holds then, and [`pushes_bring_up`] that it does. [`brought_up_forwards_by_lid`] says that every packet goes by its LID
+//! then, for routes that lead to each port ([`known_to_lead_home`]). The attributes are those of the IBA volume 1, chapter 14.
 #![tactic(auto)]
 
 mod attachments;

@@ -12,7 +12,8 @@ IsMade view (Ok (Some made)) given = given ≡ Ok (view made)
 IsMade view (Err error) given = Fails (text_fault_in error) given
 
 -- so it is made of some text, which is all that a reader had left, if that is known
-pub record IsMadeOf {X Y Cause : Type 0} (view : X → Y) (made : Result (Option X) (TextFault Cause)) (known : Option (List ℕ)) (definition : List ℕ → Result Y (AtLine Cause)) : Type 0 where
+pub record IsMadeOf {X Y Cause : Type 0} (view : X → Y) (made : Result (Option X) (TextFault Cause)) (known : Option (List ℕ))
+    (definition : List ℕ → Result Y (AtLine Cause)) : Type 0 where
   pub text : List ℕ
   pub is_known : IfSome known (λ bytes. bytes ≡ text)
   pub is_made : IsMade view made (definition text)

@@ -1,8 +1,8 @@
 //! Texts from readers and to writers, in pieces.
 //!
-//! A [`Reader`] and an [`Output`] are any reader and any writer, with what a contract may know of them.
-//! [`read_to_end`] reads a text whole, [`read_line`] the next line, [`read_lines_of`] all lines, each of which a `LineReader` takes, and [`write_text`] and [`write_whole`] write one
-//! (`specs/Reading.antt`, `specs/Writing.antt`).
+//! A [`Reader`] and an [`Output`] are any reader and any writer, with what a contract may know of them. [`read_to_end`] reads a
+//! text whole, [`read_line`] the next line, [`read_lines_of`] all lines, each of which a `LineReader` takes, and [`write_text`] and
+//! [`write_whole`] write one (`specs/Reading.antt`, `specs/Writing.antt`).
 #![tactic(auto)]
 
 mod laws;

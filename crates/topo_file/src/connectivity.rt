@@ -122,7 +122,8 @@ fn kept(alloc: Global, nodes: &[Node], marks: &[bool]) -> Result<Vec<bool>, Allo
 fn mark_along(next: &mut Vec<bool>, nodes: &[Node], marks: &[bool], from: usize, to: usize)
     ensures length { length next.new.items ≡ length next.old.items }
     ensures marks { (place : ℕ) → is_marked next.new.items place
-        ≡ (is_marked next.old.items place || ((to == place) && ((is_marked marks.now from && is_switch_at nodes.now to) && nat_lt to (length next.old.items)))) }
+        ≡ (is_marked next.old.items place
+        || ((to == place) && ((is_marked marks.now from && is_switch_at nodes.now to) && nat_lt to (length next.old.items)))) }
 {
     if is_marked(marks, from) && is_switch_at(nodes, to) && to < next.len() {
         next[to] = true;
