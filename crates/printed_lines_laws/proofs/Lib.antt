@@ -3,6 +3,8 @@ pub mod ListingLemmas
 pub mod ShareLemmas
 pub mod ChangeLemmas
 pub mod CutLemmas
+pub mod TableLemmas
 pub mod KeysLemmas
+pub mod TraceLemmas
 pub mod PictureLemmas
 pub mod WrongLemmas

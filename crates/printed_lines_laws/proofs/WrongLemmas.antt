@@ -3,6 +3,8 @@ use Rattle.std.proofs.Common.{◌≡◌, ◌≤◌, arith, refl, subst, ℕ, fal
 use Rattle.std.specs.Fmt.{digits}
 use Rattle.std.specs.Str.Iter.{HasSubslice}
 use Rattle.audit_plan.proofs.SubsliceLemmas.{no_longer}
+use Rattle.agent_rules.specs.declared.link.PortLink.TheVariants.{Cabled}
+use Rattle.data_packet.specs.declared.refusal.Refusal.TheVariants.{PortNotActive}
 use Rattle.cable_cuts.proofs.ChangeLemmas.{first_in, later_in}
 use Rattle.cable_cuts.specs.Texts.{change_line, loss_line}
 use Rattle.cable_cuts.specs.declared.changes.Change.{Change as EntryChange}
@@ -14,14 +16,18 @@ use Rattle.fabric_parts.specs.declared.cable.Cable.{Cable}
 use Rattle.fabric_parts.specs.declared.node_type.NodeType.{NodeType}
 use Rattle.fabric_parts.specs.declared.node_type.NodeType.TheVariants as node_type
 use Rattle.fabric_tables.specs.Keys.{keys_line}
+use Rattle.fabric_tables.specs.Tables.{entry_line}
+use Rattle.fabric_tables.specs.Whole.{led_by}
 use Rattle.partition_changes.specs.Changes.{Change, partition_line}
 use Rattle.partition_file.specs.declared.heading.Heading.{Heading}
+use Rattle.packet_trace.specs.Lines.{refuses_line}
+use Rattle.port_model.specs.AdapterState.{AdapterState, at_power_up}
 use Rattle.port_shares.specs.Sums.{are_few, sum_line, sum_of}
 use Rattle.printed_lines_laws.specs.Laws.{PrintsShares, signed_line}
 use Rattle.printed_lines_laws.specs.WrongRules.{AllPortsAreListed, KeysOfAllPortsCount, LostEntriesArePrinted, ManyPortsHaveSums, NoCableIsLeftOut, NodesAreDrawnToo}
-use Rattle.printed_lines_laws.specs.WrongRules.{WhatGoesIsPrintedToo, of_few_alone}
+use Rattle.printed_lines_laws.specs.WrongRules.{RefusalsArePrinted, TablesOfAllSwitchesCount, WhatGoesIsPrintedToo, of_few_alone}
 use Rattle.smp_wire.specs.FabricState.{FabricState, fabric_with}
-use Rattle.smp_wire.specs.declared.node.Node.TheVariants.{Adapter}
+use Rattle.smp_wire.specs.declared.node.Node.TheVariants.{Adapter, Switch}
 use Rattle.subnet_core.specs.Listing.{port_line}
 use Rattle.subnet_model.specs.Configuration.{ConfigurationState}
 use Rattle.subnet_model.specs.declared.subnet_port.SubnetPort.{SubnetPort}
@@ -115,6 +121,21 @@ lost_entries_are_printed law =
     let most : length line ≤ 0 = no_longer [] line (law [] (subnet_of (switch ∷ []) []) one_switch no_routes cable change (first_in change [])) in
     absurd (omega (arith, most))
 
+-- ---- a CA port, and behind it a switch with an entry for its own LID
+abbrev a_host_first : FabricState
+a_host_first = fabric_with (Adapter [] ∷ Switch (led_by 16 1 (255 ∷ 0 ∷ [])) ∷ []) [] (port 0 1)
+
+pub tables_of_all_switches_count : TablesOfAllSwitchesCount
+tables_of_all_switches_count law =
+    let h = host (codes "h") in
+    let switch = end_port node_type.Switch 0 (codes "A") in
+    let nodes : List PlannedNode = planned node_type.ChannelAdapter (codes "h") ∷ planned node_type.Switch (codes "A") ∷ [] in
+    let there = later_in h (switch ∷ []) switch (first_in switch []) in
+    let line : List ℕ = entry_line switch 0 in
+    let most : length line ≤ 0 =
+    no_longer [] line (law.entries nodes (h ∷ switch ∷ []) [] a_host_first switch 1 (led_by 16 1 (255 ∷ 0 ∷ [])) switch 0 there refl refl there refl (omega arith)) in
+    absurd (omega (arith, most))
+
 -- ---- a second port, of a node with a long name
 abbrev two_hosts : FabricState
 two_hosts = fabric_with (Adapter [] ∷ Adapter [] ∷ []) [] (port 0 1)
@@ -128,6 +149,17 @@ keys_of_all_ports_count law =
     let line : List ℕ = keys_line long_name 1 [] in
     let most : length line ≤ 9 =
     no_longer _ line (law.own nodes (h ∷ second ∷ []) two_hosts second 1 (Adapter []) (later_in h (second ∷ []) second (first_in second [])) refl refl) in
+    absurd (omega (arith, most))
+
+-- ---- a port at power-up, which sends nothing
+abbrev at_rest : AdapterState
+at_rest = at_power_up 16 1 1 16 [] Cabled
+
+pub refusals_are_printed : RefusalsArePrinted
+refusals_are_printed law =
+    let nodes : List PlannedNode = planned node_type.ChannelAdapter (codes "h") ∷ [] in
+    let line : List ℕ = refuses_line nodes (port 0 1) PortNotActive in
+    let most : length line ≤ 0 = no_longer [] line (law.refusals nodes (fabric_with (Adapter (at_rest ∷ []) ∷ []) [] (port 0 1)) (port 0 1) 2 1 at_rest PortNotActive refl refl) in
     absurd (omega (arith, most))
 
 -- ---- one switch, with a long name

@@ -1,7 +1,8 @@
 -- What is printed has a line for each thing that it is printed of: the statements of the laws of `src/laws.rt`.
-use Rattle.std.specs.Prelude.{ℕ, ◌≡◌, ◌≢◌, ◌⊎◌, ◌<◌, ◌≤◌, true, false, List, ◌++◌, codes, length, slice_get, Option, Some, None}
+use Rattle.std.specs.Prelude.{ℕ, ◌≡◌, ◌≢◌, ◌⊎◌, ◌<◌, ◌≤◌, ◌+◌, true, false, List, ◌++◌, codes, length, slice_get, Option, Some, None, Ok, Err, []}
 use Rattle.std.specs.List.{Contains, zip}
 use Rattle.std.specs.Str.Iter.{HasSubslice}
+use Rattle.agent_rules.specs.declared.power_up.TheConstants.{MULTICAST_TABLE}
 use Rattle.cable_cuts.specs.Changes.{changes, entry_by}
 use Rattle.cable_cuts.specs.Outcomes.{IsOutcome}
 use Rattle.cable_cuts.specs.Texts.{ReportsAll, change_line, lines_of_one, loss_line}
@@ -9,6 +10,9 @@ use Rattle.cable_cuts.specs.declared.changes.Change.{Change as EntryChange}
 use Rattle.cable_cuts.specs.declared.fate.Cut.{Cut}
 use Rattle.cable_cuts.specs.declared.fate.Cut.TheVariants.{Keeps}
 use Rattle.cable_cuts.specs.declared.outcome.Outcome.{Outcome}
+use Rattle.data_packet.specs.declared.packet.Packet.{Packet}
+use Rattle.data_packet.specs.declared.refusal.Refusal.{Refusal}
+use Rattle.delivery_laws.specs.Deliveries.{adapter_at}
 use Rattle.fabric_graph.specs.Graph.{edge_at, rank_text, text_of}
 use Rattle.fabric_graph.specs.Lists.{attachments_of, place_text}
 use Rattle.fabric_graph.specs.Ranks.{rank_count}
@@ -17,13 +21,21 @@ use Rattle.fabric_graph.specs.ThickEdges.{thick_edge}
 use Rattle.fabric_parts.specs.Cable.{far_end}
 use Rattle.fabric_parts.specs.declared.cable.Cable.{Cable}
 use Rattle.fabric_parts.specs.declared.cable.PortRef.{PortRef}
+use Rattle.fabric_parts.specs.declared.lid.TheConstants.{FIRST_MULTICAST_LID}
 use Rattle.fabric_tables.specs.Keys.{keys_line, keys_text, words_in}
+use Rattle.fabric_tables.specs.Multicast.{mlid_line, tables_text}
+use Rattle.fabric_tables.specs.Tables.{entry_line}
 use Rattle.line_parts.specs.Lines.{heading_line, member_line}
+use Rattle.packet_trace.specs.Lines.{refuses_line, stamps_line, step_line, trace_text}
+use Rattle.packet_trace.specs.Steps.{steps_of}
+use Rattle.packet_trace.specs.declared.turn.Step.{Step}
 use Rattle.partition_changes.specs.Changes.{Change, bases_named, change_of_member_line, group_changes, group_line, member_changes, partition_changes}
 use Rattle.partition_changes.specs.Changes.{partition_line, share_changes, sign}
 use Rattle.partition_changes.specs.Sums.{listed_changes}
 use Rattle.partition_file.specs.declared.heading.Heading.{Heading}
 use Rattle.pkey_rules.specs.KeyTable.{find_base, shares_base}
+use Rattle.port_model.specs.AdapterState.{AdapterState}
+use Rattle.port_model.specs.Packets.{stamped}
 use Rattle.port_shares.specs.Shares.{Share, share_line}
 use Rattle.port_shares.specs.Sums.{are_few, listed_shares, sum_line, sum_of}
 use Rattle.smp_wire.specs.FabricState.{FabricState, is_switch_at as is_node_switch}
@@ -32,6 +44,9 @@ use Rattle.smp_wire.specs.declared.node.Node.TheVariants.{Switch}
 use Rattle.subnet_core.specs.Listing.{listing_text, port_line}
 use Rattle.subnet_model.specs.Configuration.{ConfigurationState}
 use Rattle.subnet_model.specs.declared.subnet_port.SubnetPort.{SubnetPort}
+use Rattle.sweep.specs.declared.graph.GraphSwitch.{GraphSwitch}
+use Rattle.switch_model.specs.Forwarding.{linear_entry_of}
+use Rattle.switch_model.specs.Multicast.{is_in_masks}
 use Rattle.switch_model.specs.SwitchState.{SwitchState, num_ports}
 use Rattle.topo_file.specs.Node.{is_switch_at, place_of}
 use Rattle.topo_file.specs.Topology.{TopologyState}
@@ -120,6 +135,21 @@ PrintsEntries text =
 abbrev pub AllEntriesArePrinted : Type 0
 AllEntriesArePrinted = PrintsEntries lines_of_one
 
+-- ---- `tables`: of each switch the LFT row of each end port to which an entry leads, and the MFT row of each MLID of which a bit is set
+pub record PrintsTables (text : List PlannedNode → List SubnetPort → List GraphSwitch → FabricState → List ℕ) : Type 0 where
+  pub entries : (nodes : List PlannedNode) (ports : List SubnetPort) (switches : List GraphSwitch) (fabric : FabricState) (switch : SubnetPort)
+      (place : ℕ) (held : SwitchState) (port : SubnetPort) (entry : ℕ) → Contains ports switch → place_of switch.node_name nodes ≡ Some place
+      → slice_get fabric.nodes place ≡ Some (Switch held) → Contains ports port → linear_entry_of held port.lid ≡ Some entry → entry ≤ num_ports held
+      → HasSubslice (text nodes ports switches fabric) (entry_line port entry)
+  pub masks : (nodes : List PlannedNode) (ports : List SubnetPort) (switches : List GraphSwitch) (fabric : FabricState) (switch : SubnetPort)
+      (place : ℕ) (held : SwitchState) (mlid number : ℕ) → Contains ports switch → place_of switch.node_name nodes ≡ Some place
+      → slice_get fabric.nodes place ≡ Some (Switch held) → FIRST_MULTICAST_LID ≤ mlid → mlid < FIRST_MULTICAST_LID + MULTICAST_TABLE
+      → number ≤ num_ports held → is_in_masks held.masks mlid number ≡ true
+      → HasSubslice (text nodes ports switches fabric) (mlid_line held mlid)
+
+abbrev pub AllTablesArePrinted : Type 0
+AllTablesArePrinted = PrintsTables tables_text
+
 -- ---- `keys`: the P_Key table of each end port, and of each port of a switch that faces a channel adapter
 pub record PrintsKeys (text : List PlannedNode → List SubnetPort → FabricState → List ℕ) : Type 0 where
   pub own : (nodes : List PlannedNode) (ports : List SubnetPort) (fabric : FabricState) (port : SubnetPort) (place : ℕ) (node : Node)
@@ -133,6 +163,26 @@ pub record PrintsKeys (text : List PlannedNode → List SubnetPort → FabricSta
 
 abbrev pub AllKeysArePrinted : Type 0
 AllKeysArePrinted = PrintsKeys keys_text
+
+-- ---- a queue pair for data
+abbrev pub data_qp : ℕ
+data_qp = 2
+
+-- ---- `trace`: what a port stamps, and each step of the packet; or why the port refuses to send it
+pub record PrintsSteps (text : List PlannedNode → FabricState → PortRef → (dlid p_key : ℕ) → List ℕ) : Type 0 where
+  pub stamps : (nodes : List PlannedNode) (fabric : FabricState) (from : PortRef) (dlid p_key : ℕ) (port : AdapterState) (packet : Packet)
+      → adapter_at fabric.nodes from ≡ Some port → stamped port dlid p_key data_qp [] ≡ Ok packet
+      → HasSubslice (text nodes fabric from dlid p_key) (stamps_line nodes from packet)
+  pub steps : (nodes : List PlannedNode) (fabric : FabricState) (from : PortRef) (dlid p_key : ℕ) (port : AdapterState) (packet : Packet)
+      (first : PortRef) (step : Step) → adapter_at fabric.nodes from ≡ Some port → stamped port dlid p_key data_qp [] ≡ Ok packet
+      → far_end fabric.cables from ≡ Some first → Contains (steps_of fabric packet first) step
+      → HasSubslice (text nodes fabric from dlid p_key) (step_line nodes step)
+  pub refusals : (nodes : List PlannedNode) (fabric : FabricState) (from : PortRef) (dlid p_key : ℕ) (port : AdapterState) (refusal : Refusal)
+      → adapter_at fabric.nodes from ≡ Some port → stamped port dlid p_key data_qp [] ≡ Err refusal
+      → HasSubslice (text nodes fabric from dlid p_key) (refuses_line nodes from refusal)
+
+abbrev pub AllStepsArePrinted : Type 0
+AllStepsArePrinted = PrintsSteps trace_text
 
 -- ---- `graph`: what is drawn where each node stands, each row, each thick edge, and what is drawn of each cable
 pub record DrawsAll (text : TopologyState → ConfigurationState → RoutesState → Picture → List ℕ) : Type 0 where

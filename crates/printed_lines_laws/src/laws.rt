@@ -1,7 +1,7 @@
 //! What is printed of all. Each function's contract is its law; it does nothing.
 
 ghost use Rattle.printed_lines_laws.specs.Laws.{AllChangesArePrinted, AllCutsArePrinted, AllEntriesArePrinted, AllIsDrawn, AllKeysArePrinted, AllMembersAreListed};
-ghost use Rattle.printed_lines_laws.specs.Laws.{AllSharesArePrinted};
+ghost use Rattle.printed_lines_laws.specs.Laws.{AllSharesArePrinted, AllStepsArePrinted, AllTablesArePrinted};
 
 /// `check` prints a line for each end port, each partition, and each member of one.
 pub fn all_members_are_listed()
@@ -29,9 +29,20 @@ pub fn all_entries_are_printed()
     ensures { AllEntriesArePrinted }
 {}
 
+/// `tables` prints of each switch the LFT row of each end port to which an entry leads, and the MFT row of each MLID of which the bit
+/// of a port is set.
+pub fn all_tables_are_printed()
+    ensures { AllTablesArePrinted }
+{}
+
 /// `keys` prints a line for each end port, and for each port of a switch that faces a channel adapter.
 pub fn all_keys_are_printed()
     ensures { AllKeysArePrinted }
+{}
+
+/// `trace` prints what the port stamps, and each step of the packet, or why the port refuses to send it.
+pub fn all_steps_are_printed()
+    ensures { AllStepsArePrinted }
 {}
 
 /// `graph` draws what stands at each node, each row, each thick edge, and each cable.

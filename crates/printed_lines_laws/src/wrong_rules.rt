@@ -2,7 +2,7 @@
 //! function does nothing: its contract says that with this rule the law is false.
 
 ghost use Rattle.printed_lines_laws.specs.WrongRules.{AllPortsAreListed, KeysOfAllPortsCount, LostEntriesArePrinted, ManyPortsHaveSums, NoCableIsLeftOut, NodesAreDrawnToo};
-ghost use Rattle.printed_lines_laws.specs.WrongRules.{WhatGoesIsPrintedToo};
+ghost use Rattle.printed_lines_laws.specs.WrongRules.{RefusalsArePrinted, TablesOfAllSwitchesCount, WhatGoesIsPrintedToo};
 
 /// If partitions alone were listed, an end port that is in none would have no line.
 pub fn all_ports_are_listed()
@@ -29,9 +29,19 @@ pub fn lost_entries_are_printed()
     ensures { LostEntriesArePrinted }
 {}
 
+/// If the tables of the first port alone were printed, a switch behind a CA port would have no row.
+pub fn tables_of_all_switches_count()
+    ensures { TablesOfAllSwitchesCount }
+{}
+
 /// If the keys of the first port alone were printed, the second would have no line.
 pub fn keys_of_all_ports_count()
     ensures { KeysOfAllPortsCount }
+{}
+
+/// If nothing were printed of a packet that is not sent, no one would see why.
+pub fn refusals_are_printed()
+    ensures { RefusalsArePrinted }
 {}
 
 /// If cables alone were drawn, a switch would not be in the picture.
