@@ -6,8 +6,10 @@ ND1: ibnetdiscover prints no such line
 A line is empty, a comment, `WORD=VALUE`, the header of a node, a line of one of its ports, or a
 heading of a chassis, as ibnetdiscover prints them, also with its options -f, -g and -m. Other lines
 are refused, such as those that its options -l, -p and -s print. So is what it writes on standard
-error, as `ibwarn: ..`: keep that apart, by `ibnetdiscover >discovered 2>errors`. `import` and
-`audit-keys` take neither a topology nor a dump here.
+error, as `ibwarn: ..`: keep that apart, by `ibnetdiscover >discovered 2>errors`. If ibnetdiscover fails,
+it prints `ibnetdiscover: iberror: failed: discover failed` in place of the nodes: what it wrote on
+standard error says why. A byte order mark at the start of the file is refused too: save the file as
+UTF-8 without one. `import` and `audit-keys` take neither a topology nor a dump here.
 
 For this input the program prints `fault ND1 netdiscover line 4`, since port 1 of A leads to no
 node:

@@ -43,11 +43,12 @@ FT1: dump_fts prints no such line, or not here
 
 A table is a heading, two lines of titles, rows and the count of these, as dump_fts and ibroute of
 infiniband-diags print them, with their option -a or without, and as `fabric tables` does. Multicast
-tables are allowed between tables, and comments and empty lines anywhere. What the tools write on
-standard error, as `ibwarn: ..`, is none of these: keep it apart, by `dump_fts >tables 2>errors`. The
-file that OpenSM itself writes has another format. A dump shows no virtual lanes: without `--sl2vl`,
-`fabric audit` judges routes as if all packets used one virtual lane. The multicast tables here are passed
-over: give them by `--mft`.
+tables are allowed between tables, and comments and empty lines anywhere. So is the line of a query that
+failed, `ibroute: iberror: failed: ..`: a table that it breaks off does not count. What the tools write on
+standard error, as `ibwarn: ..`, is none of these: keep it apart, by `dump_fts >tables 2>errors`. Nor is a
+byte order mark at the start of the file: save the file as UTF-8 without one. The file that OpenSM itself
+writes has another format. A dump shows no virtual lanes: without `--sl2vl`, `fabric audit` judges routes
+as if all packets used one virtual lane. The multicast tables here are passed over: give them by `--mft`.
 ",
     "fault FT1 dump line 4",
     "    Unicast lids [0x0-0x3] of switch Lid 2 guid 0x0000000000000010 (A):
@@ -144,7 +145,8 @@ pub const FT6: &str = with_tables!(
 FT6: the file ends within a table, or has none
 
 There is a table, and each table ends with its count. Line 0 is reported. dump_fts was stopped before
-its end, or found no switch: what it wrote on standard error says why.
+its end, or found no switch: what it wrote on standard error, or a line `.. iberror: failed: ..` of the
+file, says why.
 ",
     "fault FT6 dump line 0",
     "    Unicast lids [0x0-0x3] of switch Lid 2 guid 0x0000000000000010 (A):

@@ -43,7 +43,8 @@ KT1: smpquery prints no such line, or not here
 
 Before the lines that each query printed there is a line `# smpquery QUERY LID [PORT]`, as
 tools/collect-keys writes it. QUERY is nodeinfo, switchinfo, pkeys or portinfo. No field stands twice.
-In the arguments PKEYS stand before PARTS.
+In the arguments PKEYS stand before PARTS. A byte order mark at the start of the file is refused: save the
+file as UTF-8 without one.
 ",
     "fault KT1 pkeys line 1",
     "       0: 0xffff 0x0000 0x0000 0x0000 0x0000 0x0000 0x0000 0x0000

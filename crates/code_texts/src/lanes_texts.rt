@@ -49,8 +49,10 @@ The file has SL-to-VL mapping tables, as `smpquery sl2vl LID PORT` prints them, 
 `saquery PR` does, in any order. A row of a table has the VLs of all 16 SLs, each at most 15, and stands
 behind the heading `# SL2VL table: Lid LID`. The fields of a record stand behind `PathRecord dump:`, each
 behind two tabs: a LID is decimal, an SL hexadecimal and at most 0xf. Empty lines are allowed anywhere,
-and so are other lines that begin with `#`. What the tools write on standard error is none of these: keep
-it apart, by `2>errors`.
+and so are other lines that begin with `#`. The line of a query that failed, `smpquery: iberror: failed:
+..`, is allowed anywhere except in a record that still lacks its slid, dlid or sl. What the tools write on
+standard error is none of these: keep it apart, by `2>errors`. Nor is a byte order mark at the start of
+the file: save the file as UTF-8 without one.
 ",
     "fault FV1 lanes line 3",
     "    # SL2VL table: Lid 2

@@ -43,9 +43,10 @@ FM1: dump_fts -M prints no such line, or not here
 An MFT is a heading, the titles, rows and the count of these, as dump_fts -M and dump_mfts of
 infiniband-diags print them, with their option -a or without, and as `fabric tables` does. A row has two
 columns for each port, from port 0 on, and `x` in the first of them if the port is in the mask. LFTs are
-allowed between MFTs, and comments and empty lines anywhere. What the tools write on standard error is
-none of these: keep it apart, by `dump_fts -M >masks 2>errors`. Tables of a range of MLIDs are
-refused.
+allowed between MFTs, and comments and empty lines anywhere. So is the line of a query that failed,
+`ibroute: iberror: failed: ..`: an MFT that it breaks off does not count. What the tools write on standard
+error is none of these: keep it apart, by `dump_fts -M >masks 2>errors`. Nor is a byte order mark at the
+start of the file: save the file as UTF-8 without one. Tables of a range of MLIDs are refused.
 ",
     "fault FM1 mfts line 4",
     "    Multicast mlids [0xc000-0xc3ff] of switch Lid 2 guid 0x0000000000000010 (A):

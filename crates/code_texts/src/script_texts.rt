@@ -56,7 +56,8 @@ A line is empty, `send PORT DLID PKEY QP PAYLOAD`, `cut PORT PORT` or `mend PORT
 these arguments, or `ask PORT METHOD ATTR TID` with any arguments after these; a comment may follow.
 METHOD is `get`, `table`, `set` or `delete`, and ATTR is `node`, `path`, `member` or `service`.
 Outside comments only printable ASCII, blanks and tabs are allowed; a CR is allowed only before LF
-or a comment.
+or a comment. So a byte order mark at the start of the file is refused: save the file as UTF-8 without
+one.
 ",
     "fault SF1 script line 1",
     "sent i/1 1 0xffff 7 1:01",

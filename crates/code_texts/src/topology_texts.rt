@@ -8,7 +8,8 @@ A line is empty, or one of `switch NAME GUID PORTS`, `adapter NAME GUID PORTS`, 
 digits, `_`, `-` and `.`. GUID is 1 to 2^64-1. PORTS is 1 to 8 for a CA (`adapter`); for a switch 1 to
 36, and 1 to 254 in `import`, `audit`, `load --dump`, `audit-keys`, `shares` and `diff`, which simulate
 nothing. PORT is `NAME/NUMBER`. Numbers are decimal, or `0x` and hexadecimal digits. Outside comments
-only printable ASCII, blanks and tabs are allowed; a CR is allowed only before LF or a comment.
+only printable ASCII, blanks and tabs are allowed; a CR is allowed only before LF or a comment. So a byte
+order mark at the start of the file is refused: save the file as UTF-8 without one.
 
 `audit` and `load --dump` take a file without a line `Switch`, `Ca` or `Rt` for a topology: see whether
 the two files are exchanged. For other commands `fabric import` makes a topology of what ibnetdiscover

@@ -94,10 +94,11 @@ all_full = record { ports = All; full = true }
 abbrev pub manager_full : Item
 manager_full = record { ports = Manager; full = true }
 
--- in the default partition the manager is always full, and without a rule for it all ports are limited
+-- in the default partition the manager is always full, and without a rule for it all ports are limited. Behind the words of a rule the
+-- manager comes last, and without a rule first: so the two are distinguished
 abbrev pub built_in : List RuleState → ℕ → List Item
 built_in rules base =
-    if base == default_base then (if is_ruled base rules then manager_full ∷ [] else all_limited ∷ manager_full ∷ []) else []
+    if base == default_base then (if is_ruled base rules then manager_full ∷ [] else manager_full ∷ all_limited ∷ []) else []
 
 abbrev pub partition_of : List RuleState → ℕ → Partition
 partition_of rules base = record {

@@ -93,8 +93,8 @@ fn add_built_in(items: &mut ItemList, rules: &[Rule], base: u16) -> Result<(), A
     if is_ruled(rules, base) {
         return items.push(MANAGER_FULL);
     }
-    items.push(ALL_LIMITED)?;
-    items.push(MANAGER_FULL)
+    items.push(MANAGER_FULL)?;
+    items.push(ALL_LIMITED)
 }
 
 fn partition_of(alloc: Global, rules: &[Rule], base: u16) -> Result<Partition, AllocError>

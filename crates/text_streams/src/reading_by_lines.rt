@@ -1,6 +1,6 @@
 //! Big texts whose lines are taken while they are read: no more than a line and a piece of them is kept.
 
-ghost use Rattle.std.specs.Prelude.{ℕ, ◌≡◌, ◌≤◌, ◌+◌, ◌++◌, List, length, true, IfOk, IfErr, Ok, None};
+ghost use Rattle.std.specs.Prelude.{ℕ, ◌≡◌, ◌==◌, ◌<◌, ◌≤◌, ◌+◌, ◌++◌, List, length, slice_index, true, IfOk, IfErr, IfSome, Ok, None};
 ghost use Rattle.step_results.specs.AtLine.{after_lines};
 ghost use Rattle.step_results.specs.Gives.{Fails};
 ghost use Rattle.step_results.specs.TextGives.{text_fault_in};
@@ -40,8 +40,9 @@ pub fn read_lines_of<R: Reader, L: LineReader + Drop>(
                 return Ok(Some(so_far));
             }
             Ok(count) => {
+                let before = waiting.len();
                 waiting.extend_from_slice(&piece[..count])?;
-                number = take_ended(alloc, &mut so_far, number, &mut waiting)?;
+                number = take_ended(alloc, &mut so_far, number, &mut waiting, before)?;
             }
             Err(error) if error.kind() == ErrorKind::Interrupted => {}
             Err(_) => return Ok(None),
@@ -50,26 +51,39 @@ pub fn read_lines_of<R: Reader, L: LineReader + Drop>(
     Ok(None)
 }
 
-/// Takes the lines that have ended of the bytes that wait, and returns how many lines there are then.
+/// Takes the lines that have ended of the bytes that wait, and returns how many lines there are then. The first `before` bytes have
+/// no LF, and are not looked at again.
 fn take_ended<L: LineReader + Drop>(
     alloc: Global,
     so_far: &mut L,
     number: usize,
     waiting: &mut Vec<u8>,
+    before: usize,
 ) -> Result<usize, TextFault<L::Cause>>
-    requires { number + length waiting.old.items ≤ 0xffffffffffffffff }
+    requires count { number + length waiting.old.items ≤ 0xffffffffffffffff }
+    requires front { before ≤ length waiting.old.items }
     ensures count { IfOk result (λ now. now + length waiting.new.items ≤ number + length waiting.old.items) }
     ensures taken { IfOk result (λ now. (rest : List ℕ) → after_lines L.after_line (number + 1) so_far.old (lines (waiting.old.items ++ rest))
         ≡ after_lines L.after_line (now + 1) so_far.new (lines (waiting.new.items ++ rest))) }
     ensures refused { IfErr result (λ fault. (rest : List ℕ) → Fails (text_fault_in fault)
         (after_lines L.after_line (number + 1) so_far.old (lines (waiting.old.items ++ rest)))) }
 {
-    let Some(last) = memrchr(b'\n', waiting.as_slice()) else {
+    let Some(last) = last_end(waiting.as_slice(), before) else {
         return Ok(number);
     };
     let now = take_lines(alloc, so_far, number, &waiting[..last + 1])?;
     drop_front(waiting, last + 1);
     Ok(now)
+}
+
+/// Where the last LF is, if there is one from this place on.
+fn last_end(text: &[u8], first: usize) -> Option<usize>
+    requires { first ≤ length text.now }
+    ensures within { IfSome result (λ last. last < length text.now) }
+    ensures lf { IfSome result (λ last. (slice_index text.now last == 10) ≡ true) }
+{
+    let behind = memrchr(b'\n', &text[first..])?;
+    Some(first + behind)
 }
 
 /// Takes the lines of a text after so many others, and returns how many there are then.

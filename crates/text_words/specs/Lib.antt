@@ -1,4 +1,5 @@
 pub mod Cut
+pub mod Failure
 pub mod Lines
 pub mod Number
 pub mod Words

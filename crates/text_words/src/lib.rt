@@ -9,6 +9,7 @@
 
 mod content;
 mod cut;
+mod failure;
 mod line;
 mod line_words;
 mod number;
@@ -16,6 +17,7 @@ mod numbered;
 mod word;
 
 pub use crate::cut::cut_at;
+pub use crate::failure::is_failure;
 pub use crate::line::Lines;
 pub use crate::line_words::Words;
 pub use crate::number::{digits_in, number_in, u16_in};

@@ -12,11 +12,12 @@ returns-in_err-now-clause-refused g c =
     let p = err_from_is_err_and c.from_residual.result c.from_residual.ensures.1 in
     let last = c.in-Some.last in
     let waiting = c.args.waiting.now.items in
-    let is_last = rw c.as_slice.ensures.value at c.in-Some.ensures in
+    let within = rw c.as_slice.ensures.value at c.in-Some.ensures.within in
+    let lf = rw c.as_slice.ensures.value at c.in-Some.ensures.lf in
     let refused = rw c.deref.ensures.value at c.in_err-now.ensures.refused in
     rw (p.1, p.2)
     (λ (rest : List ℕ). subst (λ given. Fails (text_fault_in c.in_err-now.field-0.0) given)
-    (ap (after_lines g.L.LineReader.after_line (c.args.number + 1) c.args.so_far.now) (sym (lines_cut waiting rest last is_last.0.high is_last.1)))
+    (ap (after_lines g.L.LineReader.after_line (c.args.number + 1) c.args.so_far.now) (sym (lines_cut waiting rest last within lf)))
     (refused (lines (drop (last + 1) waiting ++ rest))))
 
 pub returns-clause-taken : goal.returns-clause-taken
@@ -24,8 +25,9 @@ returns-clause-taken g c rest =
     let step = g.L.LineReader.after_line in
     let waiting = c.args.waiting.now.items in
     let last = c.in-Some.last in
-    let is_last = rw c.as_slice.ensures.value at c.in-Some.ensures in
-    let cut = lines_cut waiting rest last is_last.0.high is_last.1 in
+    let within = rw c.as_slice.ensures.value at c.in-Some.ensures.within in
+    let lf = rw c.as_slice.ensures.value at c.in-Some.ensures.lf in
+    let cut = lines_cut waiting rest last within lf in
     let taken = rw c.deref.ensures.value at c.in_ok-now.ensures.taken in
     ap (after_lines step (c.args.number + 1) c.args.so_far.now) cut
     ∙ taken (lines (drop (last + 1) waiting ++ rest))
