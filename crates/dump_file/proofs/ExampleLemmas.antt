@@ -54,6 +54,12 @@ texts_are_read = record {
   of_mfts = refl;
   within_an_mft = refl;
   without_titles = refl;
+  failed_between = refl;
+  failed_within = refl;
+  failed_at_titles = refl;
+  failed_alone = refl;
+  counted_behind_it = refl;
+  a_warning = refl;
   without_second_title = refl;
 }
 

@@ -10,13 +10,13 @@ use Rattle.dump_file.specs.declared.heading.Heading.{Heading}
 use Rattle.dump_file.specs.declared.row.Row.{Row}
 use Rattle.dump_file.specs.declared.table.Table.{Table}
 use Rattle.dump_file.specs.Destination.{guid_said}
-use Rattle.dump_file.specs.Dump.{DraftState, closed, heading_of, nothing, rows_so_far, with_rows}
+use Rattle.dump_file.specs.Dump.{DraftState, broken_off, closed, heading_of, nothing, rows_so_far, with_rows}
 use Rattle.dump_file.specs.Row.{are_two, end_of, is_above, is_said_otherwise, may_follow, said_of}
 use Rattle.dump_file.specs.Sound.{IsSoundSoFar, StandUnder, has_its_end, have_one_end, is_end, is_rising, may_take, rise}
 use Rattle.dump_file.specs.Table.{rows_of, table_of}
 
 pub nothing_sound : IsSoundSoFar nothing
-nothing_sound = record { rising = refl; open_rows = refl; one_end = refl }
+nothing_sound = record { rising = refl; open_rows = refl; one_end_closed = refl; one_end = refl }
 
 -- ---- LIDs rise
 rise_after : (top low : ℕ) (row first : Row) (rest : List Row) → option_map_or (λ last. nat_lt last.lid row.lid) (slice_get (first ∷ rest) (length rest)) true ≡ true
@@ -49,7 +49,7 @@ pub or_before : (a b c : Option ℕ) → option_or a (option_or b c) ≡ option_
 or_before (Some x) b c = refl
 or_before None b c = refl
 
-or_none : (a : Option ℕ) → option_or a None ≡ a
+pub or_none : (a : Option ℕ) → option_or a None ≡ a
 or_none (Some x) = refl
 or_none None = refl
 
@@ -104,12 +104,16 @@ pub sound_with_row : (so_far : DraftState) (row : Row) → IsSoundSoFar so_far �
 sound_with_row so_far row sound takes apart = record {
   rising = sound.rising;
   open_rows = opens (heading_of so_far.stage) so_far.rows row takes sound.open_rows;
+  one_end_closed = sound.one_end_closed;
   one_end = ap have_one_end (row_joins (rows_of so_far.tables) so_far.rows row) ∙ one_end_more (rows_so_far so_far) row sound.one_end apart;
 }
 
 -- ---- one more table
-pub rows_closed : (tables : List Table) (heading : Heading) (rows : List Row) → rows_of (tables ++ table_of heading rows ∷ []) ++ [] ≡ rows_of tables ++ rows
-rows_closed tables heading rows = append-nil _ ∙ sym (flat_map_more (λ table. table.rows) [] tables (table_of heading rows))
+pub rows_of_closed : (tables : List Table) (heading : Heading) (rows : List Row) → rows_of (tables ++ table_of heading rows ∷ []) ≡ rows_of tables ++ rows
+rows_of_closed tables heading rows = sym (flat_map_more (λ table. table.rows) [] tables (table_of heading rows))
+
+rows_closed : (tables : List Table) (heading : Heading) (rows : List Row) → rows_of (tables ++ table_of heading rows ∷ []) ++ [] ≡ rows_of tables ++ rows
+rows_closed tables heading rows = append-nil _ ∙ rows_of_closed tables heading rows
 
 pub sound_closed : (so_far : DraftState) (heading : Heading) → IsSoundSoFar so_far → heading_of so_far.stage ≡ Some heading → IsSoundSoFar (closed so_far heading)
 sound_closed so_far heading sound under =
@@ -117,5 +121,15 @@ sound_closed so_far heading sound under =
     record {
       rising = list_all_push is_rising so_far.tables (table_of heading so_far.rows) sound.rising rises;
       open_rows = refl;
+      one_end_closed = ap have_one_end (rows_of_closed so_far.tables heading so_far.rows) ∙ sound.one_end;
       one_end = ap have_one_end (rows_closed so_far.tables heading so_far.rows) ∙ sound.one_end;
     }
+
+-- ---- the table that is open is broken off
+pub sound_broken_off : (so_far : DraftState) → IsSoundSoFar so_far → IsSoundSoFar (broken_off so_far)
+sound_broken_off so_far sound = record {
+  rising = sound.rising;
+  open_rows = refl;
+  one_end_closed = sound.one_end_closed;
+  one_end = ap have_one_end (append-nil (rows_of so_far.tables)) ∙ sound.one_end_closed;
+}

@@ -5,6 +5,7 @@ use Rattle.std.specs.Option.{option_map_or}
 use Rattle.step_results.specs.AtLine.{AtLine, after_lines}
 use Rattle.step_results.specs.Steps.{◌>>=◌}
 use Rattle.text_words.specs.Cut.{cut_at}
+use Rattle.text_words.specs.Failure.{is_failure}
 use Rattle.text_words.specs.Lines.{lines}
 use Rattle.text_words.specs.Number.{number_in}
 use Rattle.dump_file.specs.declared.fault.DumpCause.{DumpCause}
@@ -160,8 +161,16 @@ after_text Multicast number so_far text = after_multicast so_far text
 abbrev pub is_passed_over : List ℕ → Bool
 is_passed_over text = (length text == 0) || starts_with nat_eq text (codes "#")
 
+-- a program that fails says so in place of its answer, or of the rest of it. A table that is open is broken off: neither it nor its rows
+-- count, since a table that is cut is none
+abbrev pub broken_off : DraftState → DraftState
+broken_off so_far = record so_far { stage = Between; rows = [] }
+
+abbrev pub after_words : ℕ → DraftState → List ℕ → Result DraftState DumpCause
+after_words number so_far text = if is_failure text then Ok (broken_off so_far) else after_text so_far.stage number so_far text
+
 unfoldable pub after_line : ℕ → DraftState → List ℕ → Result DraftState DumpCause
-after_line number so_far line = if is_passed_over (trimmed line) then Ok so_far else after_text so_far.stage number so_far (trimmed line)
+after_line number so_far line = if is_passed_over (trimmed line) then Ok so_far else after_words number so_far (trimmed line)
 
 -- ---- the whole text: its last table has ended, and there is one. A table by the LID of its switch has rows that one by a directed
 -- route may lack, so it counts in the place of that

@@ -88,13 +88,20 @@ routed_title = codes "Unicast lids [0x0-0x5] of switch DR path slid 0; dlid 0; 0
 abbrev other_text : List ℕ
 other_text = codes "Unicast lids [0x0-0x0] of switch DR path slid 0; dlid 0; 0,2 guid 0x0000000000000020 (B):\n  Lid  Out   Destination\n       Port     Info \n0 valid lids dumped\n"
 
-abbrev denying_text : List ℕ
-denying_text =
+abbrev denying_rows : List ℕ
+denying_rows =
     codes "Unicast lids [0x0-0x5] of switch DR path slid 0; dlid 0; 0,1 guid 0x0000000000000010 (A):\n  Lid  Out   Destination\n       Port     Info \n"
-    ++ codes "0x0003 003 : (Channel Adapter portguid 0x0000000000000222: 'h2')\n1 valid lids dumped\n"
+    ++ codes "0x0003 003 : (Channel Adapter portguid 0x0000000000000222: 'h2')\n"
+
+abbrev denying_text : List ℕ
+denying_text = denying_rows ++ codes "1 valid lids dumped\n"
 
 abbrev mft_text : List ℕ
 mft_text = codes "Multicast mlids [0xc000-0xc3ff] of switch Lid 2 guid 0x0000000000000010 (A):\n     Ports: 0\n MLid\n"
+
+-- what `ibroute` prints if a switch does not answer it
+abbrev failure_text : List ℕ
+failure_text = codes "ibroute: iberror: failed: dump tables: node info failed: valid addr?\n"
 
 abbrev first_table : Table
 first_table = record { line = 3; guid = 0x10; top = 5; rows = one_row ∷ closed_row ∷ [] }
@@ -117,6 +124,16 @@ pub record TextsAreRead : Type 0 where
   -- a multicast table that has no end, and a table without its titles
   pub within_an_mft : dump_of (mft_text ++ heading_text) ≡ Err (record { line = 4; cause = Malformed })
   pub without_titles : dump_of (routed_title ++ rows_text) ≡ Err (record { line = 2; cause = Malformed })
+  -- a query that failed between tables and in a multicast table; one that failed within a table, of which nothing counts then: another one of
+  -- the switch may follow, its rows deny nothing, and it alone is none
+  pub failed_between : dump_of (failure_text ++ mft_text ++ failure_text ++ other_text ++ failure_text)
+      ≡ Ok (record { tables = record { line = 6; guid = 0x20; top = 0; rows = [] } ∷ [] })
+  pub failed_within : dump_of (denying_rows ++ failure_text ++ heading_text ++ rows_text ++ codes "2 lids dumped\n")
+      ≡ Ok (record { tables = record first_table { line = 6 } ∷ [] })
+  pub failed_at_titles : dump_of (routed_title ++ failure_text ++ other_text) ≡ Ok (record { tables = record { line = 3; guid = 0x20; top = 0; rows = [] } ∷ [] })
+  pub failed_alone : dump_of (heading_text ++ rows_text ++ failure_text) ≡ Err (record { line = 0; cause = Unfinished })
+  pub counted_behind_it : dump_of (heading_text ++ rows_text ++ failure_text ++ codes "2 lids dumped\n") ≡ Err (record { line = 8; cause = Malformed })
+  pub a_warning : dump_of (codes "ibwarn: [4711] mad_rpc: _do_madrpc failed; dport (Lid 9)\n" ++ other_text) ≡ Err (record { line = 1; cause = Malformed })
   pub without_second_title : dump_of (routed_title ++ codes "  Lid  Out   Destination\n" ++ rows_text) ≡ Err (record { line = 3; cause = Malformed })
 
 -- ---- dumps that are not sound

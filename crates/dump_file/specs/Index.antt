@@ -1,10 +1,9 @@
 -- Which end port each LID has, and which switches have a table, looked up.
 use Rattle.std.specs.Prelude.{ℕ, ◌≡◌, ◌==◌, List, slice_get, Option, None, unwrap_or}
 use Rattle.std.specs.List.{list_any}
-use Rattle.std.specs.Option.{option_or}
 use Rattle.dump_file.specs.declared.row.Row.{Row}
 use Rattle.dump_file.specs.declared.table.Table.{Table}
-use Rattle.dump_file.specs.Row.{end_of, said_of}
+use Rattle.dump_file.specs.Row.{end_of}
 
 -- the end port that stands at the place of the LID
 abbrev pub end_known : List (Option ℕ) → ℕ → Option ℕ
@@ -13,13 +12,6 @@ end_known ends lid = unwrap_or (slice_get ends lid) None
 -- the list has the end port of each LID of which these rows say one
 abbrev pub KnowsEnds : List (Option ℕ) → List Row → Type 0
 KnowsEnds ends rows = (lid : ℕ) → end_known ends lid ≡ end_of lid rows
-
--- what a second list knows beside the first: whose the LID of this row is, if the row says it; or nothing
-abbrev pub KnowsMore : Row → List (Option ℕ) → List (Option ℕ) → Type 0
-KnowsMore row before after = (lid : ℕ) → end_known after lid ≡ option_or (said_of lid row) (end_known before lid)
-
-abbrev pub KnowSame : List (Option ℕ) → List (Option ℕ) → Type 0
-KnowSame before after = (lid : ℕ) → end_known after lid ≡ end_known before lid
 
 -- ---- these are the GUIDs of the switches that have a table
 abbrev pub KnowsSwitches : List ℕ → List Table → Type 0

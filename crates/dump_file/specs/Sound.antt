@@ -49,10 +49,11 @@ abbrev pub may_take : Option Heading → List Row → Row → Bool
 may_take (Some heading) rows row = may_follow heading.top rows row.lid
 may_take None rows row = false
 
--- what stands after each line
+-- what stands after each line, also if the table that is open is broken off
 pub record IsSoundSoFar (so_far : DraftState) : Type 0 where
   pub rising : list_all is_rising so_far.tables ≡ true
   pub open_rows : StandUnder (heading_of so_far.stage) so_far.rows
+  pub one_end_closed : have_one_end (rows_of so_far.tables) ≡ true
   pub one_end : have_one_end (rows_so_far so_far) ≡ true
 
 -- what stands of the whole

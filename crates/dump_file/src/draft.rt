@@ -1,10 +1,9 @@
 //! A dump of which lines are still to come.
 
 ghost use Rattle.std.specs.Prelude.{◌≡◌, ◌++◌, Some, is_some, false, true, IfOk, OnErr, OnOk, [], ◌∷◌};
-ghost use Rattle.dump_file.specs.Dump.{closed, count_reported, has_one, heading_of, heading_reported, new_heading, new_row, noted_by_lid, nothing};
+ghost use Rattle.dump_file.specs.Dump.{broken_off, closed, count_reported, has_one, heading_of, heading_reported, new_heading, new_row, noted_by_lid, nothing};
 ghost use Rattle.dump_file.specs.Dump.{row_reported, rows_counted, rows_so_far, with_rows};
-ghost use Rattle.dump_file.specs.Index.{KnowSame, KnowsMore};
-ghost use Rattle.dump_file.specs.Row.{is_said_otherwise, may_follow};
+ghost use Rattle.dump_file.specs.Row.{is_above, is_said_otherwise, may_follow};
 ghost use Rattle.dump_file.specs.Sound.{may_take};
 ghost use Rattle.dump_file.specs.Table.{place_of};
 
@@ -30,7 +29,7 @@ pub(crate) struct Draft {
     pub(crate) stage: Stage,
     // Of the table that is open.
     pub(crate) rows: Vec<Row>,
-    // The end port of each LID of which a row says one.
+    // The end port of each LID of which a row of these tables says one. Those of the table that is open are noted when it ends.
     pub(crate) ends: EndList,
 }
 
@@ -39,7 +38,6 @@ impl Model for Draft {
     ghost use Rattle.dump_file.specs.Sound.{IsSoundSoFar};
     ghost use Rattle.dump_file.specs.Table.{rows_of};
     ghost use Rattle.dump_file.specs.Index.{KnowsEnds, KnowsSwitches};
-    ghost use Rattle.std.specs.Prelude.{◌++◌};
 
     ghost Value = { DraftState };
 
@@ -53,7 +51,7 @@ impl Model for Draft {
     ghost invariant = { λ draft.
         IsSoundSoFar (record { tables = draft.tables.items; by_lid = draft.by_lid.keys; stage = draft.stage; rows = draft.rows.items })
         × (KnowsSwitches draft.known.keys draft.tables.items
-        × KnowsEnds draft.ends (rows_of draft.tables.items ++ draft.rows.items)) };
+        × KnowsEnds draft.ends (rows_of draft.tables.items)) };
 }
 
 impl Draft {
@@ -106,8 +104,9 @@ impl Draft {
         self.new_heading(heading)
     }
 
-    /// Whether a row before says that another end port has this row's LID.
+    /// Whether a row before says that another end port has this row's LID. Of the rows of the table that is open none has it.
     fn is_said_otherwise(&self, row: Row) -> bool
+        requires above { is_above self.now.rows row.lid ≡ true }
         ensures { result ≡ is_said_otherwise (rows_so_far self.now) row }
     {
         are_two(self.ends.end_of(row.lid), row.destination.guid())
@@ -139,7 +138,7 @@ impl Draft {
         self.new_row(heading, row)
     }
 
-    /// Closes the table that is open. It can only run out of memory.
+    /// Closes the table that is open. It can only run out of memory, and then what was reported may be lost.
     pub(crate) fn close(&mut self, alloc: Global, heading: Heading) -> Result<(), AllocError>
         requires open { heading_of self.old.stage ≡ Some heading }
         ensures ok { OnOk result (self.new ≡ closed self.old heading) }
@@ -147,6 +146,10 @@ impl Draft {
         self.tables.reserve(1)?;
         note_by_lid(&mut self.by_lid, heading)?;
         self.known.insert(heading.guid)?;
+        if let Err(error) = self.ends.add_rows(self.rows.as_slice()) {
+            *self = Draft::new(alloc);
+            return Err(error);
+        }
         let rows = RowList::of(mem::replace(&mut self.rows, Vec::new(alloc)));
         self.tables.push(Table::of(heading, rows))?;
         self.stage = Stage::Between;
@@ -160,10 +163,16 @@ impl Draft {
         ensures ok { OnOk result (self.new ≡ with_rows self.old (self.old.rows ++ row ∷ [])) }
         ensures err { OnErr result (self.new ≡ self.old) }
     {
-        self.rows.reserve(1)?;
-        know_end(&mut self.ends, row)?;
         self.rows.push(row)?;
         Ok(())
+    }
+
+    /// Breaks off the table that is open, if one is.
+    pub(crate) fn break_off(&mut self, alloc: Global)
+        ensures { self.new ≡ broken_off self.old }
+    {
+        self.rows = Vec::new(alloc);
+        self.stage = Stage::Between;
     }
 }
 
@@ -173,17 +182,6 @@ fn note_by_lid(by_lid: &mut IndexSet<u64>, heading: Heading) -> Result<(), Alloc
 {
     if heading.by_lid {
         by_lid.insert(heading.guid)?;
-    }
-    Ok(())
-}
-
-/// Notes whose the row's LID is, if the row says it. It can only run out of memory, and then all is as before.
-fn know_end(ends: &mut EndList, row: Row) -> Result<(), AllocError>
-    ensures ok { OnOk result (KnowsMore row ends.old ends.new) }
-    ensures err { OnErr result (KnowSame ends.old ends.new) }
-{
-    if let Some(guid) = row.destination.guid() {
-        ends.insert(row.lid, guid)?;
     }
     Ok(())
 }

@@ -47,7 +47,7 @@ impl EndList {
     }
 
     /// Notes whose LIDs are that have no end port yet, by these rows.
-    fn add_rows(&mut self, rows: &[Row]) -> Result<(), AllocError>
+    pub(crate) fn add_rows(&mut self, rows: &[Row]) -> Result<(), AllocError>
         ensures { OnOk result ((lid : ℕ) → end_known self.new lid ≡ option_or (end_known self.old lid) (end_of lid rows.now)) }
     {
         for row in rows {
@@ -76,7 +76,7 @@ impl EndList {
     }
 
     /// Notes the end port of a LID. It can only run out of memory, and then all is as before.
-    pub(crate) fn insert(&mut self, lid: u16, guid: u64) -> Result<(), AllocError>
+    fn insert(&mut self, lid: u16, guid: u64) -> Result<(), AllocError>
         ensures ok { OnOk result ((other : ℕ) → end_known self.new other ≡ (if lid == other then Some guid else end_known self.old other)) }
         ensures err { OnErr result ((other : ℕ) → end_known self.new other ≡ end_known self.old other) }
     {

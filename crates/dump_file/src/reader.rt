@@ -5,7 +5,7 @@ ghost use Rattle.step_results.specs.Gives.{LineGives};
 ghost use Rattle.step_results.specs.TextGives.{TextGives};
 ghost use Rattle.text_streams.specs.Reading.{IsEndless};
 ghost use Rattle.text_streams.specs.ReadingByLines.{IsMadeOf};
-ghost use Rattle.dump_file.specs.Dump.{after_between, after_line, after_multicast, after_rows, after_text, are_mlids_counted};
+ghost use Rattle.dump_file.specs.Dump.{after_between, after_line, after_multicast, after_rows, after_text, after_words, are_mlids_counted};
 ghost use Rattle.dump_file.specs.Dump.{count_reported, dump_of, heading_of, heading_reported, if_title, is_heading, is_multicast_end, is_multicast_heading};
 ghost use Rattle.dump_file.specs.Dump.{is_passed_over, row_reported, whole, with_heading, with_row, with_table};
 ghost use Rattle.dump_file.specs.Sound.{IsSound};
@@ -19,7 +19,7 @@ use crate::stage::Stage;
 use std::alloc::Global;
 use step_results::LineError;
 use text_streams::{Reader, read_lines_of};
-use text_words::{LineReader, cut_at, number_in, read_lines};
+use text_words::{LineReader, cut_at, is_failure, number_in, read_lines};
 
 impl Draft {
     fn take_heading(&mut self, number: usize, text: &[u8]) -> Result<(), LineError<DumpCause>>
@@ -133,6 +133,22 @@ impl Draft {
         }
     }
 
+    /// Takes a line that has something on it and is no comment.
+    fn take_words(
+        &mut self,
+        alloc: Global,
+        number: usize,
+        text: &[u8],
+    ) -> Result<(), LineError<DumpCause>>
+        ensures { LineGives (λ _. self.new) result (after_words number self.old text.now) }
+    {
+        if is_failure(text) {
+            self.break_off(alloc);
+            return Ok(());
+        }
+        self.take_text(alloc, number, text)
+    }
+
     /// The dump, if its last table has ended and there is one.
     #[tactic(auto, unfolding(crate::specs::Dump::whole))]
     fn finish(self, alloc: Global) -> Result<Dump, DumpFault>
@@ -164,7 +180,7 @@ impl LineReader for Draft {
         if is_passed_over(text) {
             return Ok(());
         }
-        self.take_text(alloc, number, text)
+        self.take_words(alloc, number, text)
     }
 }
 
@@ -212,6 +228,9 @@ fn is_passed_over(text: &[u8]) -> bool
 /// `fabric tables`. `ibroute LID` has rows that `dump_fts` may leave out, so of a switch that has a table of both that by its
 /// LID counts. Passed over are lines with nothing on them, lines that begin with `#`, multicast tables, and the
 /// warning that ends what `dump_mfts` prints. If a line ends in blanks, or in CR LF, these do not count.
+///
+/// A program that fails prints `ibroute: iberror: failed: ..`. Between tables that line is passed over. A table that is open there is
+/// broken off: neither it nor its rows count.
 #[tactic(auto, unfolding(crate::specs::Dump::dump_of))]
 pub fn read(alloc: Global, text: &[u8]) -> Result<Dump, DumpFault>
     // What the text reports, or its first fault.

@@ -59,6 +59,11 @@ mft_texts_are_read = record {
   without_titles = refl;
   unfinished = refl;
   of_one_switch = refl;
+  failed_between = refl;
+  failed_within = refl;
+  failed_at_titles = refl;
+  failed_alone = refl;
+  counted_behind_it = refl;
   twice = refl;
 }
 

@@ -1,5 +1,5 @@
 -- What stays so with one more row or table, and so of all tables that were read.
-use Rattle.std.proofs.Common.{◌≡◌, ◌∙◌, ap, refl, subst, sym, ℕ, ◌+◌, ◌-◌, true, false, nat_le, nat_lt, List, [], ◌∷◌, ◌++◌, length, slice_get}
+use Rattle.std.proofs.Common.{◌≡◌, ◌∙◌, ap, refl, subst, sym, ℕ, ◌+◌, ◌-◌, true, nat_le, nat_lt, List, [], ◌∷◌, ◌++◌, length, slice_get}
 use Rattle.std.proofs.Common.{◌==◌, Option, Some, None, arith}
 use Rattle.std.specs.Option.{option_map_or}
 use Rattle.std.proofs.lemmas.Bool.{and_from, and_parts, false≢true}
@@ -12,7 +12,7 @@ use Rattle.mft_file.specs.declared.heading.Heading.{Heading}
 use Rattle.mft_file.specs.declared.row.MaskRow.{MaskRow}
 use Rattle.mft_file.specs.declared.stage.Stage.TheVariants.{Between}
 use Rattle.mft_file.specs.declared.table.MaskTable.{MaskTable}
-use Rattle.mft_file.specs.Mfts.{DraftState, heading_of, nothing, with_rows}
+use Rattle.mft_file.specs.Mfts.{DraftState, broken_off, heading_of, nothing, with_rows}
 use Rattle.mft_file.specs.Row.{is_above, may_follow}
 use Rattle.mft_file.specs.Sound.{IsOpen, IsSoundSoFar, StandUnder, is_rising, may_take, rise, shares_switch}
 use Rattle.mft_file.specs.Table.{table_of}
@@ -75,3 +75,7 @@ sound_with_masks so_far heading sound under =
       };
       open_rows = refl;
     }
+
+-- ---- the table that is open is broken off
+pub sound_broken_off : (so_far : DraftState) → IsSoundSoFar so_far → IsSoundSoFar (broken_off so_far)
+sound_broken_off so_far sound = record { tables = sound.tables; open_rows = refl }

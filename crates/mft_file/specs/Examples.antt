@@ -6,7 +6,7 @@ use Rattle.mft_file.specs.declared.fault.MftCause.TheVariants.{DuplicateTable, M
 use Rattle.mft_file.specs.declared.row.MaskRow.{MaskRow}
 use Rattle.mft_file.specs.declared.table.MaskTable.{MaskTable}
 use Rattle.mft_file.specs.Heading.{columns_in, heading_in, is_tens}
-use Rattle.mft_file.specs.Mfts.{count_reported, mfts_of}
+use Rattle.mft_file.specs.Mfts.{MftState, count_reported, mfts_of}
 use Rattle.mft_file.specs.Row.{may_follow, row_in}
 use Rattle.mft_file.specs.Sound.{is_rising, shares_switch}
 
@@ -88,11 +88,18 @@ wide_table =
     codes "Multicast mlids [0xc000-0xc3ff] of switch Lid 2 guid 0x0000000000000010 (A):\n            0                   1\n"
     ++ title_of 12 ++ codes "\n MLid\n0xc001      x                     x\n1 mlids dumped\n"
 
+-- what `ibroute -M` prints if a switch does not answer it
+abbrev failure_text : List ℕ
+failure_text = codes "ibroute: iberror: failed: dump tables: node info failed: valid addr?\n"
+
+abbrev wide_mfts : ℕ → MftState
+wide_mfts line = record { tables = record { line = line; guid = 0x10; rows = record { mlid = 49153; ports = 0 ∷ 11 ∷ [] } ∷ [] } ∷ [] }
+
 pub record MftTextsAreRead : Type 0 where
   pub whole : mfts_of two_tables ≡ Ok (record { tables = first_table ∷ record { line = 12; guid = 0x20; rows = [] } ∷ [] })
   -- behind a unicast table of all entries
   pub of_12_ports : mfts_of (lft_text ++ codes "0 lids dumped\n" ++ wide_table)
-      ≡ Ok (record { tables = record { line = 3; guid = 0x10; rows = record { mlid = 49153; ports = 0 ∷ 11 ∷ [] } ∷ [] } ∷ [] })
+      ≡ Ok (wide_mfts 3)
   -- a unicast table that has no end, and one alone; a table that has no end behind one that has
   pub within_an_lft : mfts_of (lft_text ++ titles_text) ≡ Err (record { line = 2; cause = Malformed })
   pub of_an_lft : mfts_of (lft_text ++ codes "0 lids dumped\n") ≡ Err (record { line = 0; cause = Unfinished })
@@ -101,6 +108,13 @@ pub record MftTextsAreRead : Type 0 where
   pub without_titles : mfts_of (codes "Multicast mlids [0xc000-0xc3ff] of switch Lid 2 guid 0x0000000000000010 (A):\n0xc000        x\n") ≡ Err (record { line = 2; cause = Malformed })
   pub unfinished : mfts_of titles_text ≡ Err (record { line = 0; cause = Unfinished })
   pub of_one_switch : mfts_of (titles_text ++ codes "0 mlids dumped\n" ++ titles_text) ≡ Err (record { line = 5; cause = DuplicateTable })
+  -- a query that failed between tables and in a unicast table; one that failed within a table or its titles, of which nothing counts then:
+  -- another one of the switch may follow, and it alone is none
+  pub failed_between : mfts_of (failure_text ++ lft_text ++ failure_text ++ wide_table ++ failure_text) ≡ Ok (wide_mfts 4)
+  pub failed_within : mfts_of (titles_text ++ codes "0xc000        x\n" ++ failure_text ++ wide_table) ≡ Ok (wide_mfts 6)
+  pub failed_at_titles : mfts_of (codes "Multicast mlids [0xc000-0xc3ff] of switch Lid 2 guid 0x0000000000000010 (A):\n" ++ failure_text ++ wide_table) ≡ Ok (wide_mfts 3)
+  pub failed_alone : mfts_of (titles_text ++ codes "0xc000        x\n" ++ failure_text) ≡ Err (record { line = 0; cause = Unfinished })
+  pub counted_behind_it : mfts_of (titles_text ++ codes "0xc000        x\n" ++ failure_text ++ codes "1 mlids dumped\n") ≡ Err (record { line = 6; cause = Malformed })
   pub twice : mfts_of (titles_text ++ codes "0xc000        x\n0xc000        x\n") ≡ Err (record { line = 5; cause = WrongMlid })
 
 -- ---- tables that are not sound

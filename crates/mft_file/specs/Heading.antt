@@ -1,5 +1,5 @@
 -- The titles of a table.
-use Rattle.std.specs.Prelude.{ℕ, Bool, not, ◌+◌, ◌/◌, ◌%◌, ◌==◌, ◌&&◌, nat_eq, nat_le, List, length, codes, if◌then◌else◌, Result}
+use Rattle.std.specs.Prelude.{ℕ, Bool, ◌+◌, ◌/◌, ◌%◌, ◌==◌, ◌&&◌, nat_eq, nat_le, List, length, codes, if◌then◌else◌, Result}
 use Rattle.std.specs.List.{enumerate_from, ends_with, list_all, starts_with}
 use Rattle.step_results.specs.Steps.{◌>>=◌}
 use Rattle.dump_file.specs.Heading.{is_way}

@@ -2,7 +2,7 @@
 
 ghost use Rattle.std.specs.Prelude.{◌≡◌, ◌++◌, None, true, IfOk, OnErr, OnOk, [], ◌∷◌};
 ghost use Rattle.step_results.specs.Gives.{LineGives};
-ghost use Rattle.mft_file.specs.Mfts.{are_counted, count_reported, heading_of, heading_reported, new_heading, nothing, row_reported, with_rows};
+ghost use Rattle.mft_file.specs.Mfts.{are_counted, broken_off, count_reported, heading_of, heading_reported, new_heading, nothing, row_reported, with_rows};
 ghost use Rattle.mft_file.specs.Row.{may_follow};
 ghost use Rattle.mft_file.specs.Sound.{may_take};
 ghost use Rattle.mft_file.specs.Table.{place_of};
@@ -96,6 +96,14 @@ impl Draft {
         self.rows.reserve(1)?;
         self.rows.push(row)?;
         Ok(())
+    }
+
+    /// Breaks off the table that is open, if one is.
+    pub(crate) fn break_off(&mut self, alloc: Global)
+        ensures { self.new ≡ broken_off self.old }
+    {
+        self.rows = Vec::new(alloc);
+        self.stage = Stage::Between;
     }
 }
 

@@ -4,7 +4,7 @@ ghost use Rattle.std.specs.Prelude.{◌≡◌, Some, None, IfOk};
 ghost use Rattle.step_results.specs.Gives.{LineGives};
 ghost use Rattle.step_results.specs.TextGives.{TextGives};
 ghost use Rattle.dump_file.specs.Dump.{is_heading as is_unicast_heading, is_multicast_heading, is_passed_over};
-ghost use Rattle.mft_file.specs.Mfts.{after_between, after_line, after_rows, after_text, after_titles, after_unicast, are_lids_counted, count_reported, heading_of, heading_reported};
+ghost use Rattle.mft_file.specs.Mfts.{after_between, after_line, after_rows, after_text, after_titles, after_unicast, after_words, are_lids_counted, count_reported, heading_of, heading_reported};
 ghost use Rattle.mft_file.specs.Mfts.{if_title, is_unicast_end, mfts_of, row_reported, whole, with_columns, with_heading, with_row, with_table};
 ghost use Rattle.mft_file.specs.Heading.{columns_in};
 ghost use Rattle.mft_file.specs.Sound.{IsSound};
@@ -17,7 +17,7 @@ use crate::parts::trimmed;
 use crate::stage::Stage;
 use std::alloc::Global;
 use step_results::LineError;
-use text_words::{LineReader, cut_at, number_in, read_lines};
+use text_words::{LineReader, cut_at, is_failure, number_in, read_lines};
 
 impl Draft {
     fn take_heading(&mut self, number: usize, text: &[u8]) -> Result<(), LineError<MftCause>>
@@ -150,6 +150,22 @@ impl Draft {
         }
     }
 
+    /// Takes a line that has something on it and is no comment.
+    fn take_words(
+        &mut self,
+        alloc: Global,
+        number: usize,
+        text: &[u8],
+    ) -> Result<(), LineError<MftCause>>
+        ensures { LineGives (λ _. self.new) result (after_words number self.old text.now) }
+    {
+        if is_failure(text) {
+            self.break_off(alloc);
+            return Ok(());
+        }
+        self.take_text(alloc, number, text)
+    }
+
     /// The tables, if the last one has ended and there is one.
     #[tactic(auto, unfolding(crate::specs::Mfts::whole))]
     fn finish(self) -> Result<Mfts, MftFault>
@@ -183,7 +199,7 @@ impl LineReader for Draft {
         if is_passed_over(text) {
             return Ok(());
         }
-        self.take_text(alloc, number, text)
+        self.take_words(alloc, number, text)
     }
 }
 
@@ -230,6 +246,9 @@ fn is_passed_over(text: &[u8]) -> bool
 /// Read are the tables that `dump_fts -M` and `dump_mfts` print, with their option `-a` or without, and those of
 /// `fabric tables`. Passed over are lines with nothing on them, lines that begin with `#`, unicast tables, and the
 /// warning that ends what `dump_mfts` prints. If a line ends in blanks, or in CR LF, these do not count.
+///
+/// A program that fails prints `ibroute: iberror: failed: ..`. Between tables that line is passed over. A table that is open there is
+/// broken off: neither it nor its rows count.
 #[tactic(auto, unfolding(crate::specs::Mfts::mfts_of))]
 pub fn read(alloc: Global, text: &[u8]) -> Result<Mfts, MftFault>
     // What the text reports, or its first fault.

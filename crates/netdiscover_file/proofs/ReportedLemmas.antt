@@ -22,13 +22,14 @@ use Rattle.netdiscover_file.specs.declared.node.Node.{Node}
 use Rattle.netdiscover_file.specs.declared.port.PortLine.{PortLine}
 use Rattle.netdiscover_file.specs.Assignment.{assignment_in, switch_guids_in}
 use Rattle.netdiscover_file.specs.Comment.{comment_of}
-use Rattle.netdiscover_file.specs.Discovery.{DraftState, after_assignment, after_line, after_words, are_nodes, has_taken_guid, header_of, heads_chassis, is_of_another, new_port, node_reported, nothing, port_reported, with_comment, with_node, with_port, with_value}
+use Rattle.netdiscover_file.specs.Discovery.{DraftState, after_assignment, after_line, after_words, are_nodes, has_taken_guid, header_of, heads_chassis, is_of_another, new_node, new_port, node_reported, nothing, place_again, place_here, port_reported}
+use Rattle.netdiscover_file.specs.Discovery.{with_comment, with_header, with_line, with_place, with_port_line, with_value}
 use Rattle.netdiscover_file.specs.Ends.{behind_own, far_end_of, own_end_in, without_external}
 use Rattle.netdiscover_file.specs.Kind.{kind_headed}
 use Rattle.netdiscover_file.specs.Laws.{IsReportedSoFar, LinesSaySo}
 use Rattle.netdiscover_file.specs.Lids.{own_lid, own_lid_in, owns}
-use Rattle.netdiscover_file.specs.Node.{is_switch_at, last_place, place_of, port_at, ports_at}
-use Rattle.netdiscover_file.specs.Port.{is_reported, is_reported_already, place_of_line}
+use Rattle.netdiscover_file.specs.Node.{is_switch_at, place_of, port_at, ports_at}
+use Rattle.netdiscover_file.specs.Port.{is_reported, is_reported_already, is_said_already, place_of_line}
 use Rattle.netdiscover_file.specs.Sound.{has_own, is_port, port_guids}
 use Rattle.netdiscover_file.proofs.SoundLemmas.{guids_with_line, guids_with_node, is_none, nothing_sound, sound_with_line, sound_with_node}
 
@@ -55,16 +56,17 @@ alone_with (Some guid) noted xs ys all =
 
 -- ---- one more node
 with_one_node : DraftState → Node → DraftState
-with_one_node so_far node = record so_far { nodes = so_far.nodes ++ node ∷ []; port_guids = so_far.port_guids ++ option_to_list node.port_guid; switch_guids = None }
+with_one_node so_far node = record so_far {
+  nodes = so_far.nodes ++ node ∷ [];
+  port_guids = so_far.port_guids ++ option_to_list node.port_guid;
+  switch_guids = None;
+  again = None;
+}
 
-new_guids : (so_far : DraftState) (line : ℕ) (kind : NodeKind) (words : List (List ℕ)) (comment : List ℕ) (node : Node)
-    → node_reported so_far line kind words comment ≡ Ok node → has_taken_guid so_far node ≡ false
-unfolding node_reported
-new_guids so_far line kind words comment node h =
-    let judge : Node → Result Node DiscoveryCause = λ other. if has_taken_guid so_far other then Err DuplicateGuid else Ok other in
-    let it = bind_ok (header_of line kind (option_map (λ guids. guids.port) so_far.switch_guids) words comment) judge node h in
-    let free = not_stopped (has_taken_guid so_far it.0) DuplicateGuid (Ok it.0) node it.2 in
-    ap (has_taken_guid so_far) (sym (same_ok it.0 node free.1)) ∙ free.0
+new_guids : (so_far : DraftState) (made node : Node) → new_node so_far made ≡ Ok node → has_taken_guid so_far node ≡ false
+new_guids so_far made node h =
+    let free = not_stopped (has_taken_guid so_far made) DuplicateGuid (Ok made) node h in
+    ap (has_taken_guid so_far) (sym (same_ok made node free.1)) ∙ free.0
 
 reported_with_node : (so_far : DraftState) (node : Node) → IsReportedSoFar so_far → has_taken_guid so_far node ≡ false → IsReportedSoFar (with_one_node so_far node)
 unfolding with_one_node
@@ -78,12 +80,22 @@ reported_with_node so_far node reported free =
       noted_alone = rw (guids_with_node so_far.nodes node so_far.ports) (alone_with node.port_guid so_far.port_guids front back reported.noted_alone);
     }
 
-after_node : (so_far next : DraftState) (line : ℕ) (kind : NodeKind) (words : List (List ℕ)) (comment : List ℕ) → IsReportedSoFar so_far
-    → with_node so_far (node_reported so_far line kind words comment) ≡ Ok next → IsReportedSoFar next
+-- it is new, or printed again
+after_place : (so_far next : DraftState) (node : Node) (place : Option ℕ) → IsReportedSoFar so_far → with_place so_far node place ≡ Ok next → IsReportedSoFar next
 unfolding with_one_node
+after_place so_far next node None reported h =
+    let it = bind_done (new_node so_far node) (with_one_node so_far) next h in
+    rw it.2 at (reported_with_node so_far it.0 reported (new_guids so_far node it.0 it.1))
+after_place so_far next node (Some place) reported h =
+    let passed : DraftState = record so_far { switch_guids = None; again = Some place } in
+    let kept : IsReportedSoFar passed = record { sound = reported.sound; noted_alone = reported.noted_alone } in
+    rw (same_ok passed next h) at kept
+
+after_node : (so_far next : DraftState) (line : ℕ) (kind : NodeKind) (words : List (List ℕ)) (comment : List ℕ) → IsReportedSoFar so_far
+    → with_header so_far (node_reported so_far line kind words comment) ≡ Ok next → IsReportedSoFar next
 after_node so_far next line kind words comment reported h =
-    let it = bind_done (node_reported so_far line kind words comment) (with_one_node so_far) next h in
-    rw it.2 at (reported_with_node so_far it.0 reported (new_guids so_far line kind words comment it.0 it.1))
+    let it = bind_ok (node_reported so_far line kind words comment) (λ node. with_place so_far node (place_again so_far node)) next h in
+    after_place so_far next it.0 (place_again so_far it.0) reported it.2
 
 -- ---- one more line of a port
 port_is : (nodes : List Node) (place number : ℕ) (port : PortRef) → ok_or (port_at nodes place number) NoSuchPort ≡ Ok port
@@ -128,38 +140,46 @@ record IsNewLine (so_far : DraftState) (line : PortLine) : Type 0 where
   pub is : is_port so_far.nodes line.port ≡ true
   pub has : has_own so_far.nodes line ≡ true
 
+-- ---- a line is of a port of its node
+record IsLine (so_far : DraftState) (line : PortLine) : Type 0 where
+  pub is : is_port so_far.nodes line.port ≡ true
+  pub has : has_own so_far.nodes line ≡ true
+
 abbrev line_with : ℕ → OwnEnd → FarEnd → Option ℕ → PortRef → PortLine
 line_with line own far lid port = record { port = port; guid = own.guid; lid = lid; far = far; line = line }
 
 abbrev with_lid : DraftState → ℕ → OwnEnd → FarEnd → ℕ → Option ℕ → Result PortLine DiscoveryCause
-with_lid so_far line own far place lid = ok_or (port_at so_far.nodes place own.number) NoSuchPort >>= λ port. new_port so_far (line_with line own far lid port)
+with_lid so_far line own far place lid = ok_or (port_at so_far.nodes place own.number) NoSuchPort >>= λ port. Ok (line_with line own far lid port)
 
-abbrev with_place : DraftState → ℕ → List ℕ → OwnEnd → FarEnd → ℕ → Result PortLine DiscoveryCause
-with_place so_far line comment own far place = own_lid (is_switch_at so_far.nodes place) own.guid comment >>= λ lid. with_lid so_far line own far place lid
+abbrev at_place : DraftState → ℕ → List ℕ → OwnEnd → FarEnd → ℕ → Result PortLine DiscoveryCause
+at_place so_far line comment own far place = own_lid (is_switch_at so_far.nodes place) own.guid comment >>= λ lid. with_lid so_far line own far place lid
 
 abbrev with_far : DraftState → ℕ → List ℕ → OwnEnd → FarEnd → Result PortLine DiscoveryCause
-with_far so_far line comment own far = ok_or (last_place so_far.nodes) NoSuchPort >>= λ place. with_place so_far line comment own far place
+with_far so_far line comment own far = ok_or (place_here so_far) NoSuchPort >>= λ place. at_place so_far line comment own far place
 
-new_line : (so_far : DraftState) (line : ℕ) (first : List ℕ) (words : List (List ℕ)) (comment : List ℕ) (reported : PortLine)
-    → port_reported so_far line first words comment ≡ Ok reported → IsNewLine so_far reported
+is_line : (so_far : DraftState) (line : ℕ) (first : List ℕ) (words : List (List ℕ)) (comment : List ℕ) (reported : PortLine)
+    → port_reported so_far line first words comment ≡ Ok reported → IsLine so_far reported
 unfolding port_reported
-new_line so_far line first words comment reported h =
+is_line so_far line first words comment reported h =
     let own = bind_ok (own_end_in (without_external first))
     (λ own. behind_own first words >>= λ rest. far_end_of rest >>= λ far. with_far so_far line comment own far) reported h in
     let rest = bind_ok (behind_own first words) (λ rest. far_end_of rest >>= λ far. with_far so_far line comment own.0 far) reported own.2 in
     let far = bind_ok (far_end_of rest.0) (λ far. with_far so_far line comment own.0 far) reported rest.2 in
-    let place = bind_ok (ok_or (last_place so_far.nodes) NoSuchPort) (λ place. with_place so_far line comment own.0 far.0 place) reported far.2 in
+    let place = bind_ok (ok_or (place_here so_far) NoSuchPort) (λ place. at_place so_far line comment own.0 far.0 place) reported far.2 in
     let lid = bind_ok (own_lid (is_switch_at so_far.nodes place.0) own.0.guid comment) (λ lid. with_lid so_far line own.0 far.0 place.0 lid) reported place.2 in
-    let port = bind_ok (ok_or (port_at so_far.nodes place.0 own.0.number) NoSuchPort) (λ port. new_port so_far (line_with line own.0 far.0 lid.0 port)) reported lid.2 in
+    let port = bind_done (ok_or (port_at so_far.nodes place.0 own.0.number) NoSuchPort) (line_with line own.0 far.0 lid.0) reported lid.2 in
     let made = line_with line own.0 far.0 lid.0 port.0 in
-    let taken = let_in so_far made reported port.2 in
     let is = port_is so_far.nodes place.0 own.0.number port.0 port.1 in
-    let new : IsNewLine so_far made = record {
-      new = is_none (place_of_line made.port so_far.ports) taken.0;
-      own = taken.1;
+    let it : IsLine so_far made = record {
       is = is.1;
       has = owns_there so_far.nodes made.port.node place.0 own.0.guid lid.0 is.0 (own_is (is_switch_at so_far.nodes place.0) own.0.guid lid.0 comment lid.1);
     } in
+    rw port.2 at it
+
+new_line : (so_far : DraftState) (made line : PortLine) → IsLine so_far made → new_port so_far made ≡ Ok line → IsNewLine so_far line
+new_line so_far made line it h =
+    let taken = let_in so_far made line h in
+    let new : IsNewLine so_far made = record { new = is_none (place_of_line made.port so_far.ports) taken.0; own = taken.1; is = it.is; has = it.has } in
     rw taken.2 at new
 
 reported_with_line : (so_far : DraftState) (line : PortLine) → IsReportedSoFar so_far → IsNewLine so_far line → IsReportedSoFar (with_one_line so_far line)
@@ -172,12 +192,24 @@ reported_with_line so_far line reported new =
       noted_alone = rw (guids_with_line so_far.nodes so_far.ports line) (alone_with line.guid so_far.port_guids all [] alone);
     }
 
-after_port : (so_far next : DraftState) (line : ℕ) (first : List ℕ) (words : List (List ℕ)) (comment : List ℕ) → IsReportedSoFar so_far
-    → with_port so_far (port_reported so_far line first words comment) ≡ Ok next → IsReportedSoFar next
+-- it is new, or of a node that is printed again
+after_again : (so_far next : DraftState) (again : Option ℕ) (line : PortLine) → IsReportedSoFar so_far → IsLine so_far line
+    → with_line so_far again line ≡ Ok next → IsReportedSoFar next
 unfolding with_one_line
+after_again so_far next None line reported is h =
+    let it = bind_done (new_port so_far line) (with_one_line so_far) next h in
+    rw it.2 at (reported_with_line so_far it.0 reported (new_line so_far line it.0 is it.1))
+after_again so_far next (Some place) line reported is h = by (is_said_already line so_far.ports) h
+  where
+    by : (b : Bool) → (if b then Ok so_far else Err DuplicateGuid) ≡ Ok next → IsReportedSoFar next
+    by true same = rw (same_ok so_far next same) at reported
+    by false same = absurd cc
+
+after_port : (so_far next : DraftState) (line : ℕ) (first : List ℕ) (words : List (List ℕ)) (comment : List ℕ) → IsReportedSoFar so_far
+    → with_port_line so_far (port_reported so_far line first words comment) ≡ Ok next → IsReportedSoFar next
 after_port so_far next line first words comment reported h =
-    let it = bind_done (port_reported so_far line first words comment) (with_one_line so_far) next h in
-    rw it.2 at (reported_with_line so_far it.0 reported (new_line so_far line first words comment it.0 it.1))
+    let it = bind_ok (port_reported so_far line first words comment) (with_line so_far so_far.again) next h in
+    after_again so_far next so_far.again it.0 reported (is_line so_far line first words comment it.0 it.1) it.2
 
 -- ---- other lines
 unchanged : (so_far next : DraftState) → IsReportedSoFar so_far → ◌≡◌ {A = Result DraftState DiscoveryCause} (Ok so_far) (Ok next) → IsReportedSoFar next
@@ -207,14 +239,14 @@ after_these so_far next number [] comment reported h = unchanged (with_comment s
 after_these so_far next number (first ∷ rest) comment reported h = by (starts_with nat_eq first (codes "[")) (bytes_eq first (codes "Non-Chassis")) (are_nodes rest) h
   where
     by : (port heading nodes : Bool)
-        → (if port then with_port so_far (port_reported so_far number first rest comment)
+        → (if port then with_port_line so_far (port_reported so_far number first rest comment)
         else (if heading then (if nodes then Ok so_far else Err Malformed)
-        else (kind_headed first >>= λ kind. with_node so_far (node_reported so_far number kind rest comment)))) ≡ Ok next → IsReportedSoFar next
+        else (kind_headed first >>= λ kind. with_header so_far (node_reported so_far number kind rest comment)))) ≡ Ok next → IsReportedSoFar next
     by true heading nodes is = after_port so_far next number first rest comment reported is
     by false true true is = unchanged so_far next reported is
     by false true false is = absurd cc
     by false false nodes is =
-        let kind = bind_ok (kind_headed first) (λ kind. with_node so_far (node_reported so_far number kind rest comment)) next is in
+        let kind = bind_ok (kind_headed first) (λ kind. with_header so_far (node_reported so_far number kind rest comment)) next is in
         after_node so_far next number kind.0 rest comment reported kind.2
 
 after_text : (so_far next : DraftState) (number : ℕ) (line : List ℕ) (parts : Option (List ℕ × List ℕ)) → IsReportedSoFar so_far

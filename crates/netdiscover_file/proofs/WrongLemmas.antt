@@ -30,7 +30,7 @@ far_ends_alone_are_not_enough law =
 
 -- one switch stands already
 abbrev one_switch : Option SwitchGuids → DraftState
-one_switch reported = record { nodes = switch 1 1 ∷ []; ports = []; port_guids = 1 ∷ []; switch_guids = reported; initiator = None }
+one_switch reported = record { nodes = switch 1 1 ∷ []; ports = []; port_guids = 1 ∷ []; switch_guids = reported; again = None; initiator = None }
 
 one_reported : (reported : Option SwitchGuids) → IsReportedSoFar (one_switch reported)
 one_reported reported = record {

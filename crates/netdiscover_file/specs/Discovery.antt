@@ -2,7 +2,7 @@
 use Rattle.std.specs.Prelude.{ℕ, Bool, true, false, not, ◌==◌, ◌&&◌, ◌||◌, nat_eq, List, [], ◌∷◌, ◌++◌, codes, bytes_eq, option_to_list}
 use Rattle.std.specs.Prelude.{Option, Some, None, is_some, option_map, Result, Ok, Err, if◌then◌else◌}
 use Rattle.std.specs.List.{list_any, starts_with}
-use Rattle.std.specs.Option.{ok_or, option_map_or}
+use Rattle.std.specs.Option.{ok_or, option_and_then, option_map_or, option_or}
 use Rattle.step_results.specs.AtLine.{AtLine, after_lines}
 use Rattle.step_results.specs.Steps.{◌>>=◌}
 use Rattle.text_words.specs.Lines.{lines, words_of}
@@ -19,8 +19,8 @@ use Rattle.netdiscover_file.specs.Comment.{comment_of, initiator_in, quoted_name
 use Rattle.netdiscover_file.specs.Ends.{behind_own, far_end_of, node_id_in, own_end_in, without_external}
 use Rattle.netdiscover_file.specs.Kind.{is_same_kind, is_switch, kind_headed}
 use Rattle.netdiscover_file.specs.Lids.{node_lid, own_lid}
-use Rattle.netdiscover_file.specs.Node.{is_switch_at, last_place, place_of, port_at}
-use Rattle.netdiscover_file.specs.Port.{is_reported_already, place_of_line}
+use Rattle.netdiscover_file.specs.Node.{is_switch_at, last_place, place_of, port_at, says_same_at}
+use Rattle.netdiscover_file.specs.Port.{is_reported_already, is_said_already, place_of_line}
 use Rattle.netdiscover_file.specs.Spelling.{only_if, port_count_in}
 
 -- what was discovered: nodes and lines of ports in the order of the text, and the GUID of the port at which it was printed
@@ -29,13 +29,14 @@ pub record DiscoveryState : Type 0 where
   pub ports : List PortLine
   pub initiator : Option ℕ
 
--- what the lines so far report; `port_guids` are those of ports, in the order in which they were reported, and `switch_guids`
--- those of the switch whose header is to come
+-- what the lines so far report; `port_guids` are those of ports, in the order in which they were reported, `switch_guids`
+-- those of the switch whose header is to come, and `again` is where the node stands that is printed again, if one is
 pub record DraftState : Type 0 where
   pub nodes : List Node
   pub ports : List PortLine
   pub port_guids : List ℕ
   pub switch_guids : Option SwitchGuids
+  pub again : Option ℕ
   pub initiator : Option ℕ
 
 -- ---- a header: `Switch 36 "S-0002c902004085a0" # "leaf-1" base port 0 lid 4 lmc 0`
@@ -62,12 +63,26 @@ has_taken_guid so_far node =
     is_of_another so_far.switch_guids node.id
     || (is_some (place_of node.id.guid so_far.nodes) || is_reported_already node.port_guid so_far.port_guids)
 
-unfoldable pub node_reported : DraftState → ℕ → NodeKind → List (List ℕ) → List ℕ → Result Node DiscoveryCause
-node_reported so_far line kind words comment = do
-  node ← header_of line kind (option_map (λ guids. guids.port) so_far.switch_guids) words comment
-  if has_taken_guid so_far node then Err DuplicateGuid else Ok node
+abbrev pub new_node : DraftState → Node → Result Node DiscoveryCause
+new_node so_far node = if has_taken_guid so_far node then Err DuplicateGuid else Ok node
 
--- ---- the line of a port: `[1](2c90300a1b201) "S-0002c902004085a0"[1] # lid 1 lmc 0 ..`, which is one of the last node
+abbrev pub node_reported : DraftState → ℕ → NodeKind → List (List ℕ) → List ℕ → Result Node DiscoveryCause
+node_reported so_far line kind words comment = header_of line kind (option_map (λ guids. guids.port) so_far.switch_guids) words comment
+
+-- ---- a node may be printed again in the same words, as one of two chassis is: where it stands
+abbrev pub if_same : List Node → Node → ℕ → Option ℕ
+if_same nodes node place = if says_same_at nodes place node then Some place else None
+
+abbrev pub place_again : DraftState → Node → Option ℕ
+place_again so_far node =
+    if is_of_another so_far.switch_guids node.id then None
+    else option_and_then (if_same so_far.nodes node) (place_of node.id.guid so_far.nodes)
+
+-- the node of which lines of ports are to come: that which is printed again, or the last one
+abbrev pub place_here : DraftState → Option ℕ
+place_here so_far = option_or so_far.again (last_place so_far.nodes)
+
+-- ---- the line of a port: `[1](2c90300a1b201) "S-0002c902004085a0"[1] # lid 1 lmc 0 ..`, which is one of this node
 abbrev pub new_port : DraftState → PortLine → Result PortLine DiscoveryCause
 new_port so_far line =
     if is_some (place_of_line line.port so_far.ports) then Err NoSuchPort
@@ -79,10 +94,10 @@ port_reported so_far line first words comment = do
   own ← own_end_in (without_external first)
   rest ← behind_own first words
   far ← far_end_of rest
-  place ← ok_or (last_place so_far.nodes) NoSuchPort
+  place ← ok_or (place_here so_far) NoSuchPort
   lid ← own_lid (is_switch_at so_far.nodes place) own.guid comment
   port ← ok_or (port_at so_far.nodes place own.number) NoSuchPort
-  new_port so_far (record { port = port; guid = own.guid; lid = lid; far = far; line = line })
+  Ok (record { port = port; guid = own.guid; lid = lid; far = far; line = line })
 
 -- ---- a line after those before it: what is reported with what the line reports
 abbrev pub with_node : DraftState → Result Node DiscoveryCause → Result DraftState DiscoveryCause
@@ -90,13 +105,29 @@ with_node so_far reported = reported >>= λ node. Ok (record so_far {
   nodes = so_far.nodes ++ node ∷ [];
   port_guids = so_far.port_guids ++ option_to_list node.port_guid;
   switch_guids = None;
+  again = None;
 })
+
+abbrev pub with_place : DraftState → Node → Option ℕ → Result DraftState DiscoveryCause
+with_place so_far node (Some place) = Ok (record so_far { switch_guids = None; again = Some place })
+with_place so_far node None = with_node so_far (new_node so_far node)
+
+abbrev pub with_header : DraftState → Result Node DiscoveryCause → Result DraftState DiscoveryCause
+with_header so_far reported = reported >>= λ node. with_place so_far node (place_again so_far node)
 
 abbrev pub with_port : DraftState → Result PortLine DiscoveryCause → Result DraftState DiscoveryCause
 with_port so_far reported = reported >>= λ line. Ok (record so_far {
   ports = so_far.ports ++ line ∷ [];
   port_guids = so_far.port_guids ++ option_to_list line.guid;
 })
+
+-- of a node that is printed again each line says what was said before
+abbrev pub with_line : DraftState → Option ℕ → PortLine → Result DraftState DiscoveryCause
+with_line so_far (Some place) line = if is_said_already line so_far.ports then Ok so_far else Err DuplicateGuid
+with_line so_far None line = with_port so_far (new_port so_far line)
+
+abbrev pub with_port_line : DraftState → Result PortLine DiscoveryCause → Result DraftState DiscoveryCause
+with_port_line so_far reported = reported >>= with_line so_far so_far.again
 
 -- `switchguid=..` is of the next header; what other words are reported so is passed over
 abbrev pub with_value : DraftState → List ℕ → List ℕ → Result DraftState DiscoveryCause
@@ -121,9 +152,9 @@ are_nodes _ = false
 unfoldable pub after_words : ℕ → DraftState → List (List ℕ) → List ℕ → Result DraftState DiscoveryCause
 after_words number so_far [] comment = Ok (with_comment so_far comment)
 after_words number so_far (first ∷ rest) comment =
-    if starts_with nat_eq first (codes "[") then with_port so_far (port_reported so_far number first rest comment)
+    if starts_with nat_eq first (codes "[") then with_port_line so_far (port_reported so_far number first rest comment)
     else (if bytes_eq first (codes "Non-Chassis") then (if are_nodes rest then Ok so_far else Err Malformed)
-    else (kind_headed first >>= λ kind. with_node so_far (node_reported so_far number kind rest comment)))
+    else (kind_headed first >>= λ kind. with_header so_far (node_reported so_far number kind rest comment)))
 
 -- a line that assigns nothing is one of words
 abbrev pub after_assignment : ℕ → DraftState → List ℕ → Option (List ℕ × List ℕ) → Result DraftState DiscoveryCause
@@ -164,7 +195,7 @@ whole all = if_agreed all (first_wrong all.nodes all.ports)
 
 -- before the first line nothing is reported
 abbrev pub nothing : DraftState
-nothing = record { nodes = []; ports = []; port_guids = []; switch_guids = None; initiator = None }
+nothing = record { nodes = []; ports = []; port_guids = []; switch_guids = None; again = None; initiator = None }
 
 -- what all lines report
 abbrev pub reported_by : List ℕ → Result DraftState (AtLine DiscoveryCause)

@@ -1,7 +1,7 @@
 -- Lines and texts as they are printed, and what they say.
 use Rattle.std.specs.Prelude.{ℕ, ◌≡◌, true, false, List, [], ◌∷◌, ◌++◌, codes, Option, Some, None, Ok, Err}
 use Rattle.fabric_parts.specs.Cable.{port}
-use Rattle.netdiscover_file.specs.declared.fault.DiscoveryCause.TheVariants.{Malformed, NoSuchPort, WrongFarEnd}
+use Rattle.netdiscover_file.specs.declared.fault.DiscoveryCause.TheVariants.{DuplicateGuid, Malformed, NoSuchPort, WrongFarEnd}
 use Rattle.netdiscover_file.specs.declared.kind.NodeKind.{NodeKind}
 use Rattle.netdiscover_file.specs.declared.ends.FarEnd.{FarEnd}
 use Rattle.netdiscover_file.specs.declared.node.Node.{Node}
@@ -74,18 +74,32 @@ router_text = codes "\nRt\t1 \"R-ffffffffffffff00\"\t\t# \"r\"\n[1](ffffffffffff
 abbrev far : NodeKind → ℕ → ℕ → Option ℕ → FarEnd
 far kind guid number port_guid = record { node = record { kind = kind; guid = guid }; port = number; guid = port_guid }
 
-abbrev found_nodes : List Node
-found_nodes =
+-- the switch again, as under a second chassis
+abbrev header_again : List ℕ
+header_again = codes "Chassis 13 (guid 0x21)\nswitchguid=0x20(21)\nSwitch\t255 \"S-0000000000000020\"\t\t# \"A\" enhanced port 0 lid 65535 lmc 7\n"
+
+abbrev switch_again : List ℕ
+switch_again = header_again ++ codes "[255]\t\"H-0000000000000100\"[1](101) \t\t# \"h\"\n"
+
+-- the nodes and lines of ports, if the router's header is on this line
+abbrev found_at : (line : ℕ) → List Node
+found_at line =
     (record { id = record { kind = Switch; guid = 32 }; ports = 255; name = codes "A"; lid = Some 65535; port_guid = Some 33; line = 9 })
     ∷ (record { id = record { kind = ChannelAdapter; guid = 256 }; ports = 2; name = codes "h"; lid = None; port_guid = None; line = 14 })
-    ∷ (record { id = record { kind = Router; guid = 0xffffffffffffff00 }; ports = 1; name = codes "r"; lid = None; port_guid = None; line = 18 }) ∷ []
+    ∷ (record { id = record { kind = Router; guid = 0xffffffffffffff00 }; ports = 1; name = codes "r"; lid = None; port_guid = None; line = line }) ∷ []
 
-abbrev found_ports : List PortLine
-found_ports =
+abbrev ports_at : (line : ℕ) → List PortLine
+ports_at line =
     (record { port = port 0 255; guid = None; lid = None; far = far ChannelAdapter 256 1 (Some 257); line = 10 })
     ∷ (record { port = port 1 1; guid = Some 257; lid = Some 49151; far = far Switch 32 255 None; line = 15 })
     ∷ (record { port = port 1 2; guid = Some 258; lid = Some 5; far = far Router 0xffffffffffffff00 1 (Some 0xffffffffffffff01); line = 16 })
-    ∷ (record { port = port 2 1; guid = Some 0xffffffffffffff01; lid = Some 6; far = far ChannelAdapter 256 2 (Some 258); line = 19 }) ∷ []
+    ∷ (record { port = port 2 1; guid = Some 0xffffffffffffff01; lid = Some 6; far = far ChannelAdapter 256 2 (Some 258); line = line }) ∷ []
+
+abbrev found_nodes : List Node
+found_nodes = found_at 18
+
+abbrev found_ports : List PortLine
+found_ports = ports_at 19
 
 pub record TextsAreRead : Type 0 where
   pub whole : discovery_of (switch_text ++ adapter_text ++ router_text) ≡ Ok (record { nodes = found_nodes; ports = found_ports; initiator = Some 257 })
@@ -93,6 +107,18 @@ pub record TextsAreRead : Type 0 where
   pub of_one_end : discovery_of (switch_text ++ adapter_text) ≡ Err (record { line = 16; cause = WrongFarEnd })
   pub of_no_node : discovery_of (codes "\n[1]\t\"S-0000000000000020\"[1]\n") ≡ Err (record { line = 2; cause = NoSuchPort })
   pub of_no_heading : discovery_of (codes "Non-Chassis Node\n") ≡ Err (record { line = 1; cause = Malformed })
+  -- nodes that are printed again in the same words, behind all and before another node
+  pub again : discovery_of (switch_text ++ adapter_text ++ router_text ++ switch_again ++ adapter_text)
+      ≡ Ok (record { nodes = found_nodes; ports = found_ports; initiator = Some 257 })
+  pub again_before_another : discovery_of (switch_text ++ adapter_text ++ switch_again ++ router_text)
+      ≡ Ok (record { nodes = found_at 22; ports = ports_at 23; initiator = Some 257 })
+  -- in others: of another name, with the line of a port that had none, with another far end, and behind the GUID of another switch
+  pub of_another_name : discovery_of (switch_text ++ codes "switchguid=0x20(21)\nSwitch\t255 \"S-0000000000000020\"\t\t# \"B\" enhanced port 0 lid 65535 lmc 7\n")
+      ≡ Err (record { line = 12; cause = DuplicateGuid })
+  pub of_another_port : discovery_of (switch_text ++ header_again ++ codes "[254]\t\"H-0000000000000100\"[1](101)\n") ≡ Err (record { line = 14; cause = DuplicateGuid })
+  pub of_another_far_end : discovery_of (switch_text ++ header_again ++ codes "[255]\t\"H-0000000000000100\"[2](102)\n") ≡ Err (record { line = 14; cause = DuplicateGuid })
+  pub of_another_guid : discovery_of (switch_text ++ codes "switchguid=0x22(21)\nSwitch\t255 \"S-0000000000000020\"\t\t# \"A\" enhanced port 0 lid 65535 lmc 7\n")
+      ≡ Err (record { line = 12; cause = DuplicateGuid })
 
 -- ---- ports that are none, and lines that lack what is their own or have what is not
 pub record UnsoundAreReported : Type 0 where

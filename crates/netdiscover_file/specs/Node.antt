@@ -1,5 +1,5 @@
 -- Nodes, in the order of their headers.
-use Rattle.std.specs.Prelude.{ℕ, Bool, false, ◌-◌, ◌==◌, ◌&&◌, nat_le, nat_lt, List, length, position, slice_get, Option, Some, None, if◌then◌else◌}
+use Rattle.std.specs.Prelude.{ℕ, Bool, bytes_eq, false, ◌-◌, ◌==◌, ◌&&◌, nat_le, nat_lt, List, length, position, slice_get, Option, Some, None, if◌then◌else◌}
 use Rattle.std.specs.Option.{option_map_or}
 use Rattle.fabric_parts.specs.declared.cable.PortRef.{PortRef}
 use Rattle.netdiscover_file.specs.declared.node.Node.{Node}
@@ -7,6 +7,7 @@ use Rattle.netdiscover_file.specs.declared.node.NewNode.{NewNode}
 use Rattle.netdiscover_file.specs.declared.ends.NodeId.{NodeId}
 use Rattle.netdiscover_file.specs.Kind.{is_switch}
 use Rattle.netdiscover_file.specs.Ends.{is_same_node}
+use Rattle.netdiscover_file.specs.Port.{is_same_guid}
 
 -- the node that a header becomes
 abbrev pub node_seen : NewNode → Node
@@ -37,3 +38,14 @@ ports_at nodes place = option_map_or (λ node. node.ports) (slice_get nodes plac
 abbrev pub port_at : List Node → ℕ → ℕ → Option PortRef
 port_at nodes place number =
     if nat_le 1 number && nat_le number (ports_at nodes place) then Some (record { node = place; port = number }) else None
+
+-- ---- both headers say the same, on whatever lines
+abbrev pub has_same_port_0 : Node → Node → Bool
+has_same_port_0 a b = is_same_guid a.lid b.lid && is_same_guid a.port_guid b.port_guid
+
+abbrev pub says_same : Node → Node → Bool
+says_same a b = is_same_node a.id b.id && ((a.ports == b.ports) && (bytes_eq a.name b.name && has_same_port_0 a b))
+
+-- the header of the node there says the same
+abbrev pub says_same_at : List Node → ℕ → Node → Bool
+says_same_at nodes place node = option_map_or (λ other. says_same other node) (slice_get nodes place) false

@@ -2,7 +2,7 @@
 
 ghost use Rattle.std.specs.Prelude.{◌≡◌, None, false, true, IfOk, option_map};
 ghost use Rattle.step_results.specs.Gives.{seen_by};
-ghost use Rattle.netdiscover_file.specs.Discovery.{has_taken_guid, header_of, header_encoded, is_of_another, new_port, node_reported, nothing, port_reported};
+ghost use Rattle.netdiscover_file.specs.Discovery.{has_taken_guid, header_of, header_encoded, is_of_another, new_node, new_port, node_reported, nothing, place_again, place_here, port_reported};
 ghost use Rattle.netdiscover_file.specs.Node.{node_seen, place_of};
 ghost use Rattle.netdiscover_file.specs.Port.{is_reported_already, place_of_line};
 ghost use Rattle.netdiscover_file.specs.Sound.{has_own, is_port};
@@ -13,7 +13,7 @@ use crate::ends::{NodeId, behind_own, far_end_of, node_id_in, own_end_in, withou
 use crate::fault::DiscoveryCause;
 use crate::kind::NodeKind;
 use crate::lids::{node_lid, own_lid};
-use crate::node::{NewNode, NodeList, is_switch_at, last_place, port_at};
+use crate::node::{NewNode, NodeList, is_switch_at, last_place, port_at, says_same_at};
 use crate::port::{GuidList, PortLine, PortList};
 use crate::spelling::port_count_in;
 use std::alloc::Global;
@@ -29,6 +29,8 @@ pub(crate) struct Draft {
     pub(crate) port_guids: GuidList,
     // Of the switch whose header is to come.
     pub(crate) switch_guids: Option<SwitchGuids>,
+    // Where the node stands that is printed again, if one is.
+    pub(crate) again: Option<usize>,
     pub(crate) initiator: Option<u64>,
 }
 
@@ -43,6 +45,7 @@ impl Model for Draft {
       ports = draft.ports;
       port_guids = draft.port_guids;
       switch_guids = draft.switch_guids;
+      again = draft.again;
       initiator = draft.initiator;
     } };
 
@@ -59,6 +62,7 @@ impl Draft {
             ports: PortList::new(alloc),
             port_guids: GuidList::new(alloc),
             switch_guids: None,
+            again: None,
             initiator: None,
         }
     }
@@ -83,7 +87,6 @@ impl Draft {
     }
 
     /// The node that a header reports, by the words after the first and the comment.
-    #[tactic(auto, unfolding(crate::specs::Discovery::node_reported))]
     pub(crate) fn node_reported<'a>(
         &self,
         line: usize,
@@ -91,19 +94,48 @@ impl Draft {
         words: Words<'_>,
         comment: &'a [u8],
     ) -> Result<NewNode<'a>, DiscoveryCause>
-        ensures value { seen_by node_seen result ≡ node_reported self.now line kind words.entry comment.now }
-        ensures new { IfOk result (λ node. place_of node.id.guid self.now.nodes ≡ None) }
-        ensures own { IfOk result (λ node. is_reported_already node.port_guid self.now.port_guids ≡ false) }
+        ensures { seen_by node_seen result ≡ node_reported self.now line kind words.entry comment.now }
     {
-        let node = header_of(line, kind, self.coming_port_guid(), words, comment)?;
+        header_of(line, kind, self.coming_port_guid(), words, comment)
+    }
+
+    /// Judges a node against those before it.
+    pub(crate) fn new_node<'a>(&self, node: NewNode<'a>) -> Result<NewNode<'a>, DiscoveryCause>
+        ensures value { seen_by node_seen result ≡ new_node self.now (node_seen node.entry) }
+        ensures new { IfOk result (λ reported. place_of reported.id.guid self.now.nodes ≡ None) }
+        ensures own { IfOk result (λ reported. is_reported_already reported.port_guid self.now.port_guids ≡ false) }
+    {
         if self.has_taken_guid(&node) {
             return Err(DiscoveryCause::DuplicateGuid);
         }
         Ok(node)
     }
 
+    /// Where the node stands, if it is printed again in the same words.
+    pub(crate) fn place_again(&self, node: &NewNode) -> Option<usize>
+        ensures { result ≡ place_again self.now (node_seen node.now) }
+    {
+        if is_of_another(self.switch_guids, node.id) {
+            return None;
+        }
+        match self.nodes.place_of(node.id.guid) {
+            Some(place) if says_same_at(self.nodes.as_slice(), place, node) => Some(place),
+            _ => None,
+        }
+    }
+
+    /// The node of which lines of ports are to come.
+    fn place_here(&self) -> Option<usize>
+        ensures { result ≡ place_here self.now }
+    {
+        match self.again {
+            Some(place) => Some(place),
+            None => last_place(self.nodes.as_slice()),
+        }
+    }
+
     /// Judges the line of a port against those before it.
-    fn new_port(&self, line: PortLine) -> Result<PortLine, DiscoveryCause>
+    pub(crate) fn new_port(&self, line: PortLine) -> Result<PortLine, DiscoveryCause>
         ensures value { result ≡ new_port self.now line }
         ensures same { IfOk result (λ reported. reported ≡ line) }
         ensures new { IfOk result (λ reported. place_of_line reported.port self.now.ports ≡ None) }
@@ -128,8 +160,6 @@ impl Draft {
         comment: &[u8],
     ) -> Result<PortLine, DiscoveryCause>
         ensures value { result ≡ port_reported self.now line first.now words.entry comment.now }
-        ensures new { IfOk result (λ reported. place_of_line reported.port self.now.ports ≡ None) }
-        ensures own { IfOk result (λ reported. is_reported_already reported.guid self.now.port_guids ≡ false) }
         ensures is_port { IfOk result (λ reported. is_port self.now.nodes reported.port ≡ true) }
         ensures has_own { IfOk result (λ reported. has_own self.now.nodes reported ≡ true) }
     {
@@ -137,10 +167,10 @@ impl Draft {
         let rest = behind_own(first, words)?;
         let far = far_end_of(rest)?;
         let nodes = self.nodes.as_slice();
-        let place = last_place(nodes).ok_or(DiscoveryCause::NoSuchPort)?;
+        let place = self.place_here().ok_or(DiscoveryCause::NoSuchPort)?;
         let lid = own_lid(is_switch_at(nodes, place), own.guid, comment)?;
         let port = port_at(nodes, place, own.number).ok_or(DiscoveryCause::NoSuchPort)?;
-        self.new_port(PortLine {
+        Ok(PortLine {
             port,
             guid: own.guid,
             lid,

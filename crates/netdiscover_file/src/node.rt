@@ -1,10 +1,11 @@
 //! The nodes of a discovery.
 
 ghost use Rattle.std.specs.Prelude.{◌≡◌, [], ◌∷◌, ◌++◌, true, None, IfOk, IfSome, OnErr, OnOk};
-ghost use Rattle.netdiscover_file.specs.Node.{is_node_at, is_switch_at, last_place, node_seen, place_of, port_at, ports_at};
+ghost use Rattle.netdiscover_file.specs.Node.{is_node_at, is_switch_at, last_place, node_seen, place_of, port_at, ports_at, says_same, says_same_at};
 ghost use Rattle.netdiscover_file.specs.Sound.{is_port};
 
 use crate::ends::NodeId;
+use crate::port::{is_same_guid, is_same_lid};
 use fabric_parts::PortRef;
 use indexmap::IndexSet;
 use std::alloc::{AllocError, Global};
@@ -158,6 +159,27 @@ pub(crate) fn is_node_at(nodes: &[Node], place: usize, id: NodeId) -> bool
 {
     match nodes.get(place) {
         Some(node) => node.id.is_same(id),
+        None => false,
+    }
+}
+
+/// Whether both headers say the same, on whatever lines.
+fn says_same(node: &Node, other: &NewNode) -> bool
+    ensures { result ≡ says_same node.now (node_seen other.now) }
+{
+    node.id.is_same(other.id)
+        && (node.ports == other.ports
+            && (node.name.as_bytes() == other.name
+                && (is_same_lid(node.lid, other.lid)
+                    && is_same_guid(node.port_guid, other.port_guid))))
+}
+
+/// Whether the header of the node there says the same.
+pub(crate) fn says_same_at(nodes: &[Node], place: usize, node: &NewNode) -> bool
+    ensures { result ≡ says_same_at nodes.now place (node_seen node.now) }
+{
+    match nodes.get(place) {
+        Some(other) => says_same(other, node),
         None => false,
     }
 }

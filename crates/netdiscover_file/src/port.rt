@@ -2,7 +2,7 @@
 
 ghost use Rattle.std.specs.Prelude.{◌≡◌, [], ◌∷◌, ◌++◌, false, None, option_to_list, OnErr, OnOk};
 ghost use Rattle.std.specs.Option.{option_copied};
-ghost use Rattle.netdiscover_file.specs.Port.{is_same_guid, is_reported, is_reported_already, line_of, place_of_line};
+ghost use Rattle.netdiscover_file.specs.Port.{is_same_far_end, is_same_guid, is_reported, is_reported_already, is_said_already, line_of, place_of_line, says_same};
 
 use crate::ends::FarEnd;
 use fabric_parts::PortRef;
@@ -75,6 +75,16 @@ impl PortList {
         match self.place_of_line(port) {
             Some(place) => self.as_slice().get(place),
             None => None,
+        }
+    }
+
+    /// Whether the line of this port says the same.
+    pub(crate) fn is_said_already(&self, line: PortLine) -> bool
+        ensures { result ≡ is_said_already line self.now }
+    {
+        match self.line_of(line.port) {
+            Some(other) => says_same(*other, line),
+            None => false,
         }
     }
 
@@ -151,6 +161,31 @@ impl GuidList {
         }
         Ok(())
     }
+}
+
+/// Whether both are the same LID, or both are none.
+pub(crate) fn is_same_lid(a: Option<u16>, b: Option<u16>) -> bool
+    ensures { result ≡ is_same_guid a b }
+{
+    match (a, b) {
+        (Some(a), Some(b)) => a == b,
+        (None, None) => true,
+        _ => false,
+    }
+}
+
+/// Whether both ends are the same.
+fn is_same_far_end(a: FarEnd, b: FarEnd) -> bool
+    ensures { result ≡ is_same_far_end a b }
+{
+    a.node.is_same(b.node) && (a.port == b.port && is_same_guid(a.guid, b.guid))
+}
+
+/// Whether both lines say the same of one port.
+fn says_same(a: PortLine, b: PortLine) -> bool
+    ensures { result ≡ says_same a b }
+{
+    is_same_guid(a.guid, b.guid) && (is_same_lid(a.lid, b.lid) && is_same_far_end(a.far, b.far))
 }
 
 /// Whether both are the same GUID, or both are none.

@@ -1,10 +1,12 @@
 //! The reader of a whole text.
 
-ghost use Rattle.std.specs.Prelude.{◌≡◌, IfOk};
+ghost use Rattle.std.specs.Prelude.{◌≡◌, true, IfOk};
 ghost use Rattle.step_results.specs.Gives.{LineGives};
 ghost use Rattle.step_results.specs.TextGives.{TextGives};
-ghost use Rattle.netdiscover_file.specs.Discovery.{after_line, after_words, are_nodes, discovery_of, heads_chassis, heads_node, is_discovery, node_reported, port_reported, whole, with_comment, with_node, with_port, with_value};
-ghost use Rattle.netdiscover_file.specs.Sound.{IsSound};
+ghost use Rattle.netdiscover_file.specs.Discovery.{after_line, after_words, are_nodes, discovery_of, heads_chassis, heads_node, is_discovery, new_node, new_port, node_reported, port_reported, whole, with_comment};
+ghost use Rattle.netdiscover_file.specs.Discovery.{with_header, with_line, with_node, with_port, with_port_line, with_value};
+ghost use Rattle.netdiscover_file.specs.Node.{node_seen};
+ghost use Rattle.netdiscover_file.specs.Sound.{has_own, is_port, IsSound};
 
 use crate::agreement::first_wrong;
 use crate::assignment::{assignment_in, switch_guids_in};
@@ -13,6 +15,8 @@ use crate::discovery::Discovery;
 use crate::draft::Draft;
 use crate::fault::{DiscoveryCause, DiscoveryFault};
 use crate::kind::{NodeKind, kind_headed};
+use crate::node::NewNode;
+use crate::port::PortLine;
 use std::alloc::Global;
 use step_results::LineError;
 use text_words::{LineReader, Lines, Words, read_lines};
@@ -26,12 +30,61 @@ impl Draft {
         words: Words<'_>,
         comment: &[u8],
     ) -> Result<(), LineError<DiscoveryCause>>
-        ensures { LineGives (λ _. self.new) result (with_node self.old (node_reported self.old number kind words.entry comment.now)) }
+        ensures { LineGives (λ _. self.new) result (with_header self.old (node_reported self.old number kind words.entry comment.now)) }
     {
         let node = self.node_reported(number, kind, words, comment)?;
+        let Some(place) = self.place_again(&node) else {
+            return self.take_new_node(alloc, node);
+        };
+        self.switch_guids = None;
+        self.again = Some(place);
+        Ok(())
+    }
+
+    /// Takes a node that is not printed again.
+    fn take_new_node(
+        &mut self,
+        alloc: Global,
+        node: NewNode<'_>,
+    ) -> Result<(), LineError<DiscoveryCause>>
+        ensures { LineGives (λ _. self.new) result (with_node self.old (new_node self.old (node_seen node.entry))) }
+    {
+        let node = self.new_node(node)?;
         self.port_guids.push(node.port_guid)?;
         self.nodes.push(alloc, &node)?;
         self.switch_guids = None;
+        self.again = None;
+        Ok(())
+    }
+
+    /// Takes the line of a port of a node that is not printed again.
+    fn take_new_port(&mut self, line: PortLine) -> Result<(), LineError<DiscoveryCause>>
+        requires is_port { is_port self.old.nodes line.port ≡ true }
+        requires has_own { has_own self.old.nodes line ≡ true }
+        ensures { LineGives (λ _. self.new) result (with_port self.old (new_port self.old line)) }
+    {
+        let line = self.new_port(line)?;
+        self.port_guids.push(line.guid)?;
+        self.ports.push(line)?;
+        Ok(())
+    }
+
+    /// Takes the line of a port of this node, if it is printed again, or else of the last one.
+    fn take_line_of(
+        &mut self,
+        again: Option<usize>,
+        line: PortLine,
+    ) -> Result<(), LineError<DiscoveryCause>>
+        requires is_port { is_port self.old.nodes line.port ≡ true }
+        requires has_own { has_own self.old.nodes line ≡ true }
+        ensures { LineGives (λ _. self.new) result (with_line self.old again line) }
+    {
+        if again.is_none() {
+            return self.take_new_port(line);
+        }
+        if !self.ports.is_said_already(line) {
+            return Err(LineError::Fault(DiscoveryCause::DuplicateGuid));
+        }
         Ok(())
     }
 
@@ -42,12 +95,10 @@ impl Draft {
         words: Words<'_>,
         comment: &[u8],
     ) -> Result<(), LineError<DiscoveryCause>>
-        ensures { LineGives (λ _. self.new) result (with_port self.old (port_reported self.old number first.now words.entry comment.now)) }
+        ensures { LineGives (λ _. self.new) result (with_port_line self.old (port_reported self.old number first.now words.entry comment.now)) }
     {
         let line = self.port_reported(number, first, words, comment)?;
-        self.port_guids.push(line.guid)?;
-        self.ports.push(line)?;
-        Ok(())
+        self.take_line_of(self.again, line)
     }
 
     fn take_value(&mut self, key: &[u8], value: &[u8]) -> Result<(), LineError<DiscoveryCause>>
@@ -189,6 +240,9 @@ pub fn is_discovery(text: &[u8]) -> bool
 ///
 /// Lines are judged in turn, each after those before it; `specs/Discovery.antt` says how. Time is linear
 /// in the length of the text, and only names are copied.
+///
+/// With its option -g `ibnetdiscover` may print a node twice, under two chassis. A node that is printed again in the same words is
+/// passed over, with its ports.
 #[tactic(auto, unfolding(crate::specs::Discovery::discovery_of))]
 pub fn read(alloc: Global, text: &[u8]) -> Result<Discovery, DiscoveryFault>
     // What the text reports, or its first fault.

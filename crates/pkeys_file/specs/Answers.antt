@@ -1,11 +1,14 @@
 -- What a text of `smpquery` reports, or the first line that is at fault.
-use Rattle.std.specs.Prelude.{ℕ, ◌≡◌, Bool, ◌==◌, nat_eq, List, [], ◌∷◌, ◌++◌, length, codes, position, slice_get, if◌then◌else◌, Option, Some, None, is_some, Result, Ok, Err}
+use Rattle.std.specs.Prelude.{ℕ, ◌≡◌, Bool, true, false, ◌==◌, ◌||◌, nat_eq, List, [], ◌∷◌, ◌++◌, length, codes, position, slice_get, if◌then◌else◌, Option, Some, None, is_some, Result, Ok, Err}
 use Rattle.std.specs.List.{list_any, starts_with}
 use Rattle.std.specs.Option.{option_and_then}
 use Rattle.step_results.specs.AtLine.{AtLine, after_lines}
 use Rattle.step_results.specs.Steps.{◌>>=◌}
+use Rattle.text_words.specs.Failure.{is_failure}
 use Rattle.text_words.specs.Lines.{lines}
 use Rattle.pkeys_file.specs.declared.answer.Answer.{Answer}
+use Rattle.pkeys_file.specs.declared.answer.Reply.{Reply}
+use Rattle.pkeys_file.specs.declared.answer.Reply.TheVariants.{Unread}
 use Rattle.pkeys_file.specs.declared.draft.Asked.{Asked}
 use Rattle.pkeys_file.specs.declared.fault.KeysCause.{KeysCause}
 use Rattle.pkeys_file.specs.declared.fault.KeysCause.TheVariants.{Malformed, DuplicateQuery, NoQuery}
@@ -32,9 +35,12 @@ pub record DraftState : Type 0 where
   pub asked : Option Asked
   pub words : List ℕ
 
--- ---- a query ends the answer before it
+-- ---- a query ends the answer before it; one that failed brought nothing, whatever was printed of it
+abbrev pub reply_of : Asked → List ℕ → Reply
+reply_of asked words = if asked.failed then Unread else reply_by asked.query.kind asked.fields words
+
 abbrev pub answer_of : Asked → List ℕ → Answer
-answer_of asked words = record { line = asked.line; query = asked.query; reply = reply_by asked.query.kind asked.fields words }
+answer_of asked words = record { line = asked.line; query = asked.query; reply = reply_of asked words }
 
 abbrev pub closed_by : List Answer → Option Asked → List ℕ → List Answer
 closed_by answers None words = answers
@@ -45,7 +51,7 @@ abbrev pub closed : DraftState → List Answer
 closed so_far = closed_by so_far.answers so_far.asked so_far.words
 
 abbrev pub asking : ℕ → Query → Asked
-asking number query = record { line = number; query = query; fields = no_fields }
+asking number query = record { line = number; query = query; fields = no_fields; failed = false }
 
 abbrev pub with_query : ℕ → List Answer → Query → Result DraftState KeysCause
 with_query number answers query =
@@ -99,11 +105,20 @@ by_kind _ so_far asked text = after_field_line so_far asked text
 abbrev pub is_title : List ℕ → Bool
 is_title text = starts_with nat_eq text (codes "#")
 
-abbrev pub in_answer : DraftState → Option Asked → List ℕ → Result DraftState KeysCause
-in_answer so_far None text = Err Malformed
-in_answer so_far (Some asked) text =
+abbrev pub after_answer_line : DraftState → Asked → List ℕ → Result DraftState KeysCause
+after_answer_line so_far asked text =
     if is_title text then (judged_by asked.query text >>= λ query. Ok so_far)
     else by_kind asked.query.kind so_far asked text
+
+-- ---- `smpquery: iberror: failed: operation pkeys: node info query failed`: the query failed. The lines behind it, up to the next
+-- query, are passed over; so is such a line before the first query
+abbrev pub with_failure : DraftState → Asked → DraftState
+with_failure so_far asked = record so_far { asked = Some (record asked { failed = true }) }
+
+abbrev pub in_answer : DraftState → Option Asked → List ℕ → Result DraftState KeysCause
+in_answer so_far None text = if is_failure text then Ok so_far else Err Malformed
+in_answer so_far (Some asked) text =
+    if asked.failed || is_failure text then Ok (with_failure so_far asked) else after_answer_line so_far asked text
 
 -- ---- a line after those before it: one with nothing on it is passed over
 abbrev pub is_query : List ℕ → Bool

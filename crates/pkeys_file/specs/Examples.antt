@@ -65,6 +65,30 @@ pub record TextsAreRead : Type 0 where
       ∷ answered 13 (record query { kind = PortInfo; lid = 3 }) replies.Unread
       ∷ answered 14 (record query { kind = PortInfo; lid = 3; port = 2 }) (replies.Port true false) ∷ [])
 
+-- ---- a query that failed is unread, whatever of its answer was printed before and behind; the next one counts
+abbrev failure : List ℕ
+failure = codes "/usr/sbin/smpquery: iberror: failed: operation pkeys: node info query failed\n"
+
+abbrev failed_node : List ℕ
+failed_node = codes "# smpquery nodeinfo 5\n# Node info: Lid 5\nGuid:....0x10\nPortGuid:....0x11\nPartCap:....8\n" ++ failure
+
+abbrev broken_table : List ℕ
+broken_table =
+    codes "# smpquery pkeys 5 2\n   0: 0x7fff 0x8001 0x0000 0x8102 0x0000 0x0000 0x0000 0x0000\n" ++ failure
+    ++ codes "8 pkeys capacity for this port\nbroken off\n"
+
+pub record FailuresAreUnread : Type 0 where
+  pub alone : answers_of (codes "# smpquery pkeys 5 1\n" ++ failure) ≡ Ok (answered 1 query replies.Unread ∷ [])
+  pub behind_an_answer : answers_of (table_text ++ failure) ≡ Ok (answered 1 query replies.Unread ∷ [])
+  pub between : answers_of (failed_node ++ broken_table ++ table_text) ≡ Ok (
+      answered 1 (record query { kind = NodeInfo; port = 0 }) replies.Unread
+      ∷ answered 7 (record query { port = 2 }) replies.Unread
+      ∷ answered 12 query (replies.Keys eight) ∷ [])
+  -- before the first query it is passed over
+  pub in_front : answers_of (failure ++ table_text) ≡ Ok (answered 2 query (replies.Keys eight) ∷ [])
+  -- other words are at fault
+  pub other_words : answers_of (codes "# smpquery pkeys 5 1\nibwarn: [7] _do_madrpc failed\n") ≡ Err (record { line = 2; cause = Malformed })
+
 -- ---- and whole inputs that are refused
 abbrev at : ℕ → KeysCause → AtLine KeysCause
 at line cause = record { line = line; cause = cause }

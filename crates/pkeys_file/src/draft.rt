@@ -1,7 +1,7 @@
 //! Answers of which lines are still to come.
 
 ghost use Rattle.std.specs.Prelude.{◌≡◌, [], None, OnOk};
-ghost use Rattle.pkeys_file.specs.Answers.{answer_of, closed, nothing, IsNew};
+ghost use Rattle.pkeys_file.specs.Answers.{answer_of, closed, nothing, reply_of, IsNew};
 ghost use Rattle.pkeys_file.specs.Reply.{reply_by};
 
 use crate::answer::{Answer, Reply, keys_reply, node_reply, port_reply, switch_reply};
@@ -18,6 +18,8 @@ pub(crate) struct Asked {
     pub(crate) line: usize,
     pub(crate) query: Query,
     pub(crate) fields: Fields,
+    // Whether a line says so.
+    pub(crate) failed: bool,
 }
 
 /// What the lines so far report.
@@ -51,13 +53,22 @@ fn reply_by(kind: QueryKind, fields: Fields, words: Vec<u16>) -> Reply
     }
 }
 
+fn reply_of(asked: Asked, words: Vec<u16>) -> Reply
+    ensures { result ≡ reply_of asked words.items }
+{
+    if asked.failed {
+        return Reply::Unread;
+    }
+    reply_by(asked.query.kind, asked.fields, words)
+}
+
 fn answer_of(asked: Asked, words: Vec<u16>) -> Answer
     ensures { result ≡ answer_of asked words.items }
 {
     Answer {
         line: asked.line,
         query: asked.query,
-        reply: reply_by(asked.query.kind, asked.fields, words),
+        reply: reply_of(asked, words),
     }
 }
 

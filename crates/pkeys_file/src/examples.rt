@@ -1,7 +1,7 @@
 //! What the definitions give for lines and texts as they are printed. Each function does nothing: its contract is the
 //! example.
 
-ghost use Rattle.pkeys_file.specs.Examples.{LinesAreRead, TextsAreRead, TextsAreRefused};
+ghost use Rattle.pkeys_file.specs.Examples.{FailuresAreUnread, LinesAreRead, TextsAreRead, TextsAreRefused};
 
 /// Lines of answers, and such as are refused.
 pub fn lines_are_read()
@@ -11,6 +11,11 @@ pub fn lines_are_read()
 /// A whole text.
 pub fn texts_are_read()
     ensures { TextsAreRead }
+{}
+
+/// Answers of queries that failed.
+pub fn failures_are_unread()
+    ensures { FailuresAreUnread }
 {}
 
 /// Inputs that are refused, with their lines.

@@ -19,7 +19,7 @@ mod rows;
 
 pub use crate::answer::{Answer, KeyList, NodeReply, Reply};
 pub use crate::answers::Answers;
-pub use crate::examples::{lines_are_read, texts_are_read, texts_are_refused};
+pub use crate::examples::{failures_are_unread, lines_are_read, texts_are_read, texts_are_refused};
 pub use crate::fault::{KeysCause, KeysFault};
 pub use crate::query::{Query, QueryKind};
 pub use crate::reader::read;

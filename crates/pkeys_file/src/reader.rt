@@ -4,7 +4,7 @@ ghost use Rattle.std.specs.Prelude.{◌≡◌, ◌==◌, [], None, Some};
 ghost use Rattle.std.specs.List.{list_any};
 ghost use Rattle.step_results.specs.Gives.{LineGives};
 ghost use Rattle.step_results.specs.TextGives.{TextGives};
-ghost use Rattle.pkeys_file.specs.Answers.{after_field_line, after_line, after_query, after_row, after_table_line, after_text, answers_of, by_kind};
+ghost use Rattle.pkeys_file.specs.Answers.{after_answer_line, after_field_line, after_line, after_query, after_row, after_table_line, after_text, answers_of, by_kind};
 ghost use Rattle.pkeys_file.specs.Answers.{closed, fields_after, in_answer, is_flag, is_query, is_row, is_title, judged_answers, whole, with_field, with_query};
 ghost use Rattle.pkeys_file.specs.Line.{trimmed};
 
@@ -16,7 +16,7 @@ use crate::query::{Query, QueryKind, query_in};
 use crate::rows::{capacity_after, push_row};
 use std::alloc::Global;
 use step_results::LineError;
-use text_words::{LineReader, cut_at, read_lines};
+use text_words::{LineReader, cut_at, is_failure, read_lines};
 
 fn is_row(text: &[u8]) -> bool
     ensures { result ≡ is_row text.now }
@@ -64,6 +64,7 @@ impl Draft {
             line: number,
             query,
             fields: Fields::none(),
+            failed: false,
         });
         Ok(())
     }
@@ -126,17 +127,34 @@ impl Draft {
         }
     }
 
-    fn take_in_answer(&mut self, text: &[u8]) -> Result<(), LineError<KeysCause>>
-        ensures { LineGives (λ _. self.new) result (in_answer self.old self.old.asked text.now) }
+    fn take_answer_line(&mut self, asked: Asked, text: &[u8]) -> Result<(), LineError<KeysCause>>
+        requires { self.old.asked ≡ Some asked }
+        ensures { LineGives (λ _. self.new) result (after_answer_line self.old asked text.now) }
     {
-        let Some(asked) = self.asked else {
-            return Err(LineError::Fault(KeysCause::Malformed));
-        };
         if text.starts_with(b"#") {
             asked.query.judged_by(text)?;
             return Ok(());
         }
         self.take_by_kind(asked, text)
+    }
+
+    fn take_in_answer(&mut self, text: &[u8]) -> Result<(), LineError<KeysCause>>
+        ensures { LineGives (λ _. self.new) result (in_answer self.old self.old.asked text.now) }
+    {
+        let fails = is_failure(text);
+        let Some(asked) = self.asked else {
+            if fails {
+                return Ok(());
+            }
+            return Err(LineError::Fault(KeysCause::Malformed));
+        };
+        if asked.failed || fails {
+            let mut next = asked;
+            next.failed = true;
+            self.asked = Some(next);
+            return Ok(());
+        }
+        self.take_answer_line(asked, text)
     }
 
     fn take_text(
@@ -201,9 +219,9 @@ fn trimmed(line: &[u8]) -> &[u8]
 /// What a text of `smpquery` reports, or its first fault with the line.
 ///
 /// Before what each query printed stands a line `# smpquery QUERY LID [PORT]`, with QUERY `nodeinfo`, `switchinfo`, `pkeys` or
-/// `portinfo`. If no whole answer follows, it is [`Reply::Unread`](crate::Reply::Unread). Lines with nothing on them are passed
-/// over, and so are fields that do not count. If a line ends in blanks, or in CR LF, these do not count. Time is linear in
-/// the length of the text.
+/// `portinfo`. If no whole answer follows, or a line of it says that the query failed, it is
+/// [`Reply::Unread`](crate::Reply::Unread). Lines with nothing on them are passed over, and so are fields that do not count. If a
+/// line ends in blanks, or in CR LF, these do not count. Time is linear in the length of the text.
 #[tactic(auto, unfolding(crate::specs::Answers::answers_of))]
 pub fn read(alloc: Global, text: &[u8]) -> Result<Answers, KeysFault>
     // What the text reports, or its first fault.

@@ -61,6 +61,10 @@ lane_texts_are_read = record {
   without_sl = refl;
   without_sl_first = refl;
   of_two_slids = refl;
+  failed_anywhere = refl;
+  failed_alone = refl;
+  failed_in_a_record = refl;
+  a_warning = refl;
   of_neither = refl;
 }
 

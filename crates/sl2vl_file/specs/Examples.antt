@@ -80,6 +80,9 @@ record_text =
     codes "PathRecord dump:\r\n\t\tdlid....................11\r\n\t\tslid....................12\n"
     ++ codes "\n\t\tsl......................0x2\n\t\tmtu.....................0x84\n"
 
+abbrev one_row_at : (line lid : ℕ) → LaneRow
+one_row_at line lid = record one_row { line = line; lid = lid }
+
 -- a record whose SL stands in no line
 abbrev record_without_sl : List ℕ
 record_without_sl = codes "PathRecord dump:\n\t\tslid....................12\n\t\tdlid....................11\n"
@@ -89,6 +92,10 @@ abbrev other_rows_text : List ℕ
 other_rows_text =
     codes "ports: in  1, out  1: | 0| 1| 2| 3| 4| 5| 6| 7| 0| 1| 2| 3| 4| 5| 6| 7|\n"
     ++ codes "ports: in  0, out  2: | 0| 1| 2| 3| 4| 5| 6| 7| 0| 1| 2| 3| 4| 5| 6| 7|\n# SL2VL table: Lid 19\n"
+
+-- what `smpquery sl2vl` prints of a port that the switch does not have
+abbrev failure_text : List ℕ
+failure_text = codes "smpquery: iberror: failed: operation sl2vl: invalid port number\n"
 
 pub record LaneTextsAreRead : Type 0 where
   pub whole : lanes_of (table_text ++ codes "# saquery PR\n" ++ record_text) ≡ Ok (record { rows = one_row ∷ []; paths = one_path ∷ [] })
@@ -111,6 +118,12 @@ pub record LaneTextsAreRead : Type 0 where
   pub without_sl : lanes_of (table_text ++ record_without_sl) ≡ Err (record { line = 4; cause = MissingField })
   pub without_sl_first : lanes_of (record_without_sl ++ table_text ++ codes "wrong\n") ≡ Err (record { line = 1; cause = MissingField })
   pub of_two_slids : lanes_of (record_without_sl ++ codes "\t\tslid....................12\n") ≡ Err (record { line = 4; cause = DuplicateField })
+  -- queries that failed before all tables, among the rows of one, behind a record, and alone; within a record that lacks its SL
+  pub failed_anywhere : lanes_of (failure_text ++ table_text ++ failure_text ++ codes "# SL2VL table: Lid 19\n" ++ failure_text ++ row_text ++ record_text ++ failure_text)
+      ≡ Ok (record { rows = one_row_at 4 18 ∷ one_row_at 8 19 ∷ []; paths = one_path ∷ [] })
+  pub failed_alone : lanes_of failure_text ≡ Err (record { line = 0; cause = Empty })
+  pub failed_in_a_record : lanes_of (record_without_sl ++ failure_text ++ codes "\t\tsl......................0x2\n") ≡ Err (record { line = 4; cause = Malformed })
+  pub a_warning : lanes_of (table_text ++ codes "ibwarn: [4711] mad_rpc: _do_madrpc failed; dport (Lid 9)\n") ≡ Err (record { line = 4; cause = Malformed })
   pub of_neither : lanes_of (codes "# SL2VL table: Lid 18\n\n") ≡ Err (record { line = 0; cause = Empty })
 
 -- ---- what is not sound

@@ -1,8 +1,9 @@
 -- What a text of `smpquery sl2vl` and `saquery PR` reports, or the first line that is at fault.
-use Rattle.std.specs.Prelude.{ℕ, Bool, true, false, ◌==◌, ◌&&◌, nat_eq, List, [], ◌∷◌, ◌++◌, length, codes, bytes_eq, if◌then◌else◌, Option, Some, None, is_some, Result, Ok, Err}
+use Rattle.std.specs.Prelude.{ℕ, Bool, true, false, ◌==◌, ◌&&◌, ◌||◌, nat_eq, List, [], ◌∷◌, ◌++◌, length, codes, bytes_eq, if◌then◌else◌, Option, Some, None, is_some, Result, Ok, Err}
 use Rattle.std.specs.List.{starts_with}
 use Rattle.step_results.specs.AtLine.{AtLine, after_lines}
 use Rattle.step_results.specs.Steps.{◌>>=◌}
+use Rattle.text_words.specs.Failure.{is_failure}
 use Rattle.text_words.specs.Lines.{lines}
 use Rattle.dump_file.specs.Dump.{is_passed_over}
 use Rattle.dump_file.specs.Parts.{trimmed}
@@ -87,12 +88,20 @@ after_text (Table lid) number so_far text = with_row so_far (row_reported number
 after_text (Record fields) number so_far text = with_fields so_far (fields_reported fields text)
 after_text _ number so_far text = Err Malformed
 
--- lines with nothing on them, and other lines that begin with `#`, are passed over
+-- a query that fails says so in place of its answer: that is passed over, except in a record that still lacks a field
+abbrev pub has_all : Stage → Bool
+has_all (Record fields) = is_some (path_of fields)
+has_all _ = true
+
+abbrev pub is_unanswered : Stage → List ℕ → Bool
+is_unanswered stage text = is_failure text && has_all stage
+
+-- so are lines with nothing on them, and other lines that begin with `#`
 unfoldable pub after_judged : ℕ → DraftState → List ℕ → Result DraftState LanesCause
 after_judged number so_far text =
     if is_table_heading text then opened (closed so_far) (table_in text)
     else (if is_record_heading text then opened (closed so_far) (Ok (Record (no_fields number)))
-    else (if is_passed_over text then Ok so_far
+    else (if is_passed_over text || is_unanswered so_far.stage text then Ok so_far
     else after_text so_far.stage number so_far text))
 
 unfoldable pub after_line : ℕ → DraftState → List ℕ → Result DraftState LanesCause

@@ -3,7 +3,7 @@
 ghost use Rattle.std.specs.Prelude.{◌≡◌, true, IfOk};
 ghost use Rattle.step_results.specs.Gives.{LineGives};
 ghost use Rattle.step_results.specs.TextGives.{TextGives};
-ghost use Rattle.sl2vl_file.specs.Lanes.{after_judged, after_line, after_text, closed, is_record_heading, is_table_heading, lanes_of, opened, row_reported, table_by_lid, table_in};
+ghost use Rattle.sl2vl_file.specs.Lanes.{after_judged, after_line, after_text, closed, is_record_heading, is_table_heading, is_unanswered, lanes_of, opened, row_reported, table_by_lid, table_in};
 ghost use Rattle.sl2vl_file.specs.Lanes.{whole, with_fields, with_row};
 ghost use Rattle.sl2vl_file.specs.Path.{fields_reported};
 ghost use Rattle.sl2vl_file.specs.Sound.{IsSound, has_low_sl, is_low_stage};
@@ -16,7 +16,7 @@ use crate::path::PathFields;
 use crate::stage::Stage;
 use std::alloc::Global;
 use step_results::LineError;
-use text_words::{LineReader, read_lines};
+use text_words::{LineReader, is_failure, read_lines};
 
 fn is_table_heading(text: &[u8]) -> bool
     ensures { result ≡ is_table_heading text.now }
@@ -107,6 +107,13 @@ impl Draft {
         }
     }
 
+    /// Whether a query failed here, and no record is open that still lacks a field.
+    fn is_unanswered(&self, text: &[u8]) -> bool
+        ensures { result ≡ is_unanswered self.now.stage text.now }
+    {
+        is_failure(text) && self.stage.has_all()
+    }
+
     #[tactic(auto, unfolding(crate::specs::Lanes::after_judged))]
     fn take_judged(
         &mut self,
@@ -122,7 +129,7 @@ impl Draft {
         if is_record_heading(text) {
             return self.take_heading(Ok(Stage::Record(PathFields::new(number))));
         }
-        if is_passed_over(text) {
+        if is_passed_over(text) || self.is_unanswered(text) {
             return Ok(());
         }
         self.take_text(alloc, number, text)
@@ -180,6 +187,9 @@ impl LineReader for Draft {
 /// Tables and path records may come in any order. A table goes on up to the next heading, so that rows of one LID may
 /// stand under several headings. Passed over are lines with nothing on them, and lines that begin with `#` and are no
 /// heading. If a line ends in blanks, or in CR LF, these do not count.
+///
+/// A query that fails prints `smpquery: iberror: failed: ..`, which is passed over too, except in a path record that still lacks its
+/// SLID, DLID or SL.
 #[tactic(auto, unfolding(crate::specs::Lanes::lanes_of))]
 pub fn read(alloc: Global, text: &[u8]) -> Result<Lanes, LanesFault>
     // What the text reports, or its first fault.

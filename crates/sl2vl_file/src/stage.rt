@@ -1,7 +1,8 @@
 //! Where in the text a line stands.
 
-ghost use Rattle.std.specs.Prelude.{◌≡◌};
-ghost use Rattle.sl2vl_file.specs.Lanes.{is_lacking};
+ghost use Rattle.std.specs.Prelude.{◌≡◌, true};
+ghost use Rattle.sl2vl_file.specs.Lanes.{has_all, is_lacking};
+ghost use Rattle.sl2vl_file.specs.Sound.{is_low_stage};
 
 use crate::path::PathFields;
 
@@ -24,5 +25,16 @@ impl Stage {
         ensures { result ≡ is_lacking self }
     {
         matches!(self, Stage::Lacking(_))
+    }
+
+    /// Whether no record is open that still lacks a field.
+    pub(crate) fn has_all(self) -> bool
+        requires low { is_low_stage self ≡ true }
+        ensures { result ≡ has_all self }
+    {
+        match self {
+            Stage::Record(fields) => fields.path().is_some(),
+            _ => true,
+        }
     }
 }

@@ -1,9 +1,13 @@
-use Rattle.std.proofs.Common.{◌≡◌, ◌∙◌, ap, sym, Some}
+use Rattle.std.proofs.Common.{◌≡◌, ◌∙◌, ap, List, Some}
+use Rattle.std.specs.Option.{option_or}
+use Rattle.dump_file.specs.declared.row.Row.{Row}
 use Rattle.dump_file.specs.Dump.{DraftState, heading_of}
+use Rattle.dump_file.specs.Index.{end_known}
 use Rattle.dump_file.specs.Row.{end_of}
 use Rattle.dump_file.specs.Table.{table_of}
 use Rattle.dump_file.proofs.LatestLemmas.{switches_more}
-use Rattle.dump_file.proofs.SoundLemmas.{rows_closed, sound_closed}
+use Rattle.dump_file.proofs.EndLemmas.{knows_closed}
+use Rattle.dump_file.proofs.SoundLemmas.{sound_closed}
 use Rattle.dump_file.proofs.draft.Draft.close.Goals as goal
 
 pub invariant_of-self-2 : goal.invariant_of-self-2
@@ -20,11 +24,12 @@ invariant_of-self-2 c =
       c.of-rows.ensures,
       c.replace.ensures.value,
       c.replace.ensures.after,
-      c.new.ensures.items,
+      c.new-2.ensures.items,
     ) (
       sound_closed before c.args.heading c.self.invariant.0 under,
       (
         switches_more inside.known.keys inside.tables.items (table_of c.args.heading inside.rows.items) c.self.invariant.1.0,
-        λ lid. c.self.invariant.1.1 lid ∙ ap (end_of lid) (sym (rows_closed inside.tables.items c.args.heading inside.rows.items)),
+        knows_closed inside.ends c.add_rows.new.self inside.tables.items c.args.heading inside.rows.items c.self.invariant.1.1
+            (λ lid. c.in_default.ensures lid ∙ ap (λ (rows : List Row). option_or (end_known inside.ends lid) (end_of lid rows)) c.as_slice.ensures.value),
       ),
     )

@@ -1,4 +1,3 @@
-use Rattle.std.proofs.Common.{refl}
 use Rattle.mft_file.proofs.MaskSoundLemmas.{no_masks_sound}
 use Rattle.mft_file.proofs.draft.Draft.new.Goals as goal
 

@@ -2,7 +2,7 @@ use Rattle.std.proofs.Common.{◌≡◌, false, None, ap, option_to_list, ◌∙
 use Rattle.netdiscover_file.specs.Node.{node_seen, place_of}
 use Rattle.netdiscover_file.specs.Port.{is_reported_already}
 use Rattle.netdiscover_file.proofs.SoundLemmas.{sound_noted, sound_with_node}
-use Rattle.netdiscover_file.proofs.draft.Draft.take_node.Goals as goal
+use Rattle.netdiscover_file.proofs.draft.Draft.take_new_node.Goals as goal
 
 pub invariant_of-self-in_err-push-2 : goal.invariant_of-self-in_err-push-2
 invariant_of-self-in_err-push-2 c =
