@@ -1,5 +1,5 @@
--- Each end port of the discovery that the topology has is audited once.
-use Rattle.std.proofs.Common.{◌≡◌, ◌∙◌, inl, inr, ap, refl, sym, subst, ℕ, suc, ◌+◌, Bool, true, false, cond, ◌==◌, ◌&&◌, if◌then◌else◌, List, [], ◌∷◌, ◌++◌, find, flat_map, fold, length, nat_lt, position, slice_get, Option, Some, None, is_some, option_map, arith}
+-- Each end port of the discovery that the topology has is audited once, and read if it answers.
+use Rattle.std.proofs.Common.{◌≡◌, ◌∙◌, inl, inr, ap, refl, sym, subst, ℕ, suc, ◌+◌, Bool, true, false, cond, ◌==◌, ◌&&◌, ◌||◌, if◌then◌else◌, List, [], ◌∷◌, ◌++◌, find, flat_map, fold, length, nat_lt, position, slice_get, Option, Some, None, is_some, option_map, arith}
 use Rattle.std.specs.List.{count_by, list_any, position_or_len}
 use Rattle.std.specs.Option.{option_and_then, option_map_or, option_or}
 use Rattle.std.proofs.lemmas.Bool.{cases_Bool, eqb-true, lt-ltb}
@@ -11,12 +11,14 @@ use Rattle.audit_plan.specs.declared.ends.EndGuid.{EndGuid}
 use Rattle.audit_plan.specs.Plan.{ends_of as port_ends, port_of}
 use Rattle.audited_ports.specs.declared.ends.End.{End}
 use Rattle.audited_ports.specs.Ends.{ends_of, index_of, line_end, line_with, named, node_guid_at, place_of, switch_end, switch_guid, switch_with, with_port}
-use Rattle.audited_ports.specs.Gathered.{FilesState, files_of, gathered, gathered_end, gathered_if_named, ports_of_files}
-use Rattle.audited_ports.specs.Laws.{EachPortIsAudited, PortTest, line_passes, passes, passes_in, switch_passes}
+use Rattle.audited_ports.specs.declared.port.HeldKeys.{HeldKeys}
+use Rattle.audited_ports.specs.Gathered.{FilesState, files_of, gathered, gathered_end, gathered_if_named, is_there as end_is_there, or_table, own_table, ports_of_files, table_at}
+use Rattle.audited_ports.specs.Laws.{EachPortIsAudited, PortTest, PortsThatAnswerAreRead, answers_as_node, answers_as_port, has_table, is_read_and_passes, line_passes, line_reads, passes, passes_in, switch_passes, switch_reads}
 use Rattle.fabric_parts.specs.declared.cable.PortRef.{PortRef}
 use Rattle.netdiscover_file.specs.declared.node.Node.{Node as FoundNode}
 use Rattle.netdiscover_file.specs.declared.port.PortLine.{PortLine}
 use Rattle.netdiscover_file.specs.Kind.{is_switch}
+use Rattle.pkeys_file.specs.declared.answer.Answer.{Answer}
 use Rattle.topo_file.specs.Topology.{TopologyState}
 
 -- ---- of each element one passes, or none does
@@ -169,3 +171,69 @@ each_port_is_audited plan discovery answers partitions test =
     (count_each (end_passes plan test) switch_end (switch_passes plan test) discovery.nodes (switch_once plan test))
     ∙ ap (λ (n : ℕ). count_by (switch_passes plan test) discovery.nodes + n)
     (count_each (end_passes plan test) (line_end discovery.nodes) (line_passes plan test) discovery.ports (line_once plan test discovery.nodes))
+
+-- ---- which ports are read
+own_read : (answers : List Answer) (end : End)
+    → is_some (own_table answers end) ≡ (end_is_there answers end && has_table answers (Some end.lid) end.number)
+own_read answers end = by (end_is_there answers end) (table_at answers end.lid end.number) (table_at answers end.lid 0)
+  where
+    by : (there : Bool) (first second : Option HeldKeys)
+        → is_some (if there then or_table first second else None) ≡ (there && (is_some first || is_some second))
+    by false first second = refl
+    by true (Some table) second = refl
+    by true None second = refl
+
+abbrev end_reads : TopologyState → List Answer → PortTest → End → Bool
+end_reads plan answers test end = end_passes plan test end && (end_is_there answers end && has_table answers (Some end.lid) end.number)
+
+module _ (plan : TopologyState) (test : PortTest) where
+  read_once : (files : FilesState) (end : End) → files.index ≡ index_of plan.nodes
+      → count_by (is_read_and_passes test) (gathered_end files end) ≡ cond (end_reads plan files.answers test end) 1 0
+  unfolding gathered_end gathered
+  read_once files end index =
+      ap (λ (o : Option PortRef). count_by (is_read_and_passes test) (gathered_if_named files end o))
+      (ap (named end.guid) index ∙ index_names end.guid plan)
+      ∙ by (port_of (port_ends plan.nodes) end.guid)
+    where
+      by : (o : Option PortRef) → count_by (is_read_and_passes test) (gathered_if_named files end o)
+          ≡ cond (option_map_or (test end.guid end.lid) o false && (end_is_there files.answers end && has_table files.answers (Some end.lid) end.number)) 1 0
+      by None = refl
+      by (Some port) =
+          count_one (is_read_and_passes test) (gathered files end port)
+          ∙ ap (λ (read : Bool). cond (test end.guid end.lid port && read) 1 0) (own_read files.answers end)
+
+module _ (plan : TopologyState) (answers : List Answer) (test : PortTest) where
+  switch_read_once : (node : FoundNode) → count_by (end_reads plan answers test) (switch_end node) ≡ cond (switch_reads plan answers test node) 1 0
+  switch_read_once node = by (is_switch node.id.kind) node.lid
+    where
+      by : (b : Bool) (lid : Option ℕ) → count_by (end_reads plan answers test) (if b then switch_with node lid else [])
+          ≡ cond ((b && passes_in plan test (Some (switch_guid node)) lid) && (answers_as_node answers node.id.guid lid && has_table answers lid 0)) 1 0
+      by false lid = refl
+      by true None = refl
+      by true (Some lid) =
+          count_one (end_reads plan answers test)
+          (record { guid = switch_guid node; node_guid = node.id.guid; lid = lid; is_switch = true; number = 0; far = None })
+
+  line_read_once : (nodes : List FoundNode) (line : PortLine)
+      → count_by (end_reads plan answers test) (line_end nodes line) ≡ cond (line_reads plan answers test line) 1 0
+  line_read_once nodes line = by line.guid line.lid
+    where
+      by : (guid lid : Option ℕ) → count_by (end_reads plan answers test) (line_with (node_guid_at nodes line.port.node) line guid lid)
+          ≡ cond (passes_in plan test guid lid && (answers_as_port answers guid lid && has_table answers lid line.port.port)) 1 0
+      by None None = refl
+      by None (Some lid) = refl
+      by (Some guid) None = refl
+      by (Some guid) (Some lid) =
+          count_one (end_reads plan answers test)
+          (record { guid = guid; node_guid = node_guid_at nodes line.port.node; lid = lid; is_switch = false; number = line.port.port; far = Some line.far })
+
+pub ports_that_answer_are_read : PortsThatAnswerAreRead
+ports_that_answer_are_read plan discovery answers partitions test =
+    let files = files_of plan discovery answers partitions in
+    let reads = end_reads plan answers test in
+    count_each (is_read_and_passes test) (gathered_end files) reads (ends_of discovery) (λ end. read_once plan test files end refl)
+    ∙ sum_by-append (λ end. cond (reads end) 1 0) (flat_map switch_end discovery.nodes) (flat_map (line_end discovery.nodes) discovery.ports)
+    ∙ ap (λ (n : ℕ). n + count_by reads (flat_map (line_end discovery.nodes) discovery.ports))
+    (count_each reads switch_end (switch_reads plan answers test) discovery.nodes (switch_read_once plan answers test))
+    ∙ ap (λ (n : ℕ). count_by (switch_reads plan answers test) discovery.nodes + n)
+    (count_each reads (line_end discovery.nodes) (line_reads plan answers test) discovery.ports (line_read_once plan answers test discovery.nodes))

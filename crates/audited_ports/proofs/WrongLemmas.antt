@@ -1,9 +1,9 @@
 -- What is wrong with the wrong rules, by the ports of `Examples.antt`: two are audited.
-use Rattle.std.proofs.Common.{ℕ, ◌≡◌, true, [], arith}
+use Rattle.std.proofs.Common.{ℕ, ◌≡◌, true, [], ◌∷◌, ◌++◌, arith}
 use Rattle.audited_ports.specs.Ends.{with_port}
-use Rattle.audited_ports.specs.Examples.{discovery, plan, tables}
+use Rattle.audited_ports.specs.Examples.{at_home, discovery, node_answered, plan, tables}
 use Rattle.audited_ports.specs.Gathered.{gathered, gathered_end}
-use Rattle.audited_ports.specs.WrongRules.{LaterPortsAreAudited, OtherPortsAreAudited, PortsAreAuditedOnce, UnreadPortsAreAudited}
+use Rattle.audited_ports.specs.WrongRules.{LaterPortsAreAudited, MovedPortsAreUnread, OtherPortsAreAudited, PortsAreAuditedOnce, PortsAreRead, SilentPortsAreUnread, UnreadPortsAreAudited}
 
 pub later_ports_are_audited : LaterPortsAreAudited
 unfolding gathered gathered_end with_port
@@ -22,3 +22,19 @@ other_ports_are_audited law = let none : 0 ≡ 2 = law plan discovery tables [] 
 pub ports_are_audited_once : PortsAreAuditedOnce
 unfolding gathered gathered_end with_port
 ports_are_audited_once law = let none : 4 ≡ 2 = law plan discovery tables [] (λ guid lid port. true) in absurd (omega (arith, none))
+
+-- no node was asked
+pub silent_ports_are_unread : SilentPortsAreUnread
+unfolding gathered gathered_end with_port
+silent_ports_are_unread law = let two : 2 ≡ 0 = law plan discovery tables [] (λ guid lid port. true) in absurd (omega (arith, two))
+
+-- another switch answers at the LID of the switch
+pub moved_ports_are_unread : MovedPortsAreUnread
+unfolding gathered gathered_end with_port
+moved_ports_are_unread law =
+    let two : 2 ≡ 1 = law plan discovery (node_answered 3 17 17 ∷ node_answered 1 99 33 ∷ tables) [] (λ guid lid port. true) in
+    absurd (omega (arith, two))
+
+pub ports_are_read : PortsAreRead
+unfolding gathered gathered_end with_port
+ports_are_read law = let none : 0 ≡ 2 = law plan discovery (at_home ++ tables) [] (λ guid lid port. true) in absurd (omega (arith, none))

@@ -23,7 +23,9 @@ use Rattle.topo_file.specs.declared.node.Node.{Node}
 use Rattle.topo_file.specs.Topology.{TopologyState}
 use Rattle.audited_ports.specs.declared.port.AuditedPort.{AuditedPort}
 use Rattle.audited_ports.specs.declared.port.FacingPort.{FacingPort}
-use Rattle.audited_ports.specs.Gathered.{ports_of_files}
+use Rattle.audited_ports.specs.declared.port.TrunkLack.{TrunkLack}
+use Rattle.audited_ports.specs.Gathered.{FilesState, files_with, own_lacks, ports_of_files, trunk_lacks}
+use Rattle.audited_ports.specs.Held.{held}
 use Rattle.audited_ports.specs.OpenSm.{items_in_turn}
 use Rattle.audited_ports.specs.Strangers.{listed_guids, lone_lines, stranger_lines}
 
@@ -73,7 +75,7 @@ partition base items = record { base = base; name = codes "P"; group = None; ite
 
 -- the adapter port is listed twice, the second time as limited; the other GUIDs are the adapter's and nobody's
 abbrev pub partitions : List Partition
-partitions = partition 0x7fff (all_limited ∷ manager_full ∷ [])
+partitions = partition 0x7fff (manager_full ∷ all_limited ∷ [])
     ∷ partition 1 (item 33 ∷ item 32 ∷ record (item 33) { full = false } ∷ item 0x98 ∷ item 32 ∷ []) ∷ []
 
 -- ---- the ports
@@ -89,6 +91,7 @@ leaf_port = record {
   file = 0x7fff ∷ [];
   opensms = 0x7fff ∷ [];
   facing = None;
+  lacks = [];
 }
 
 abbrev pub facing : FacingPort
@@ -110,26 +113,80 @@ host_port = record {
   file = 0xffff ∷ 0x8001 ∷ [];
   opensms = 0xffff ∷ 1 ∷ [];
   facing = Some facing;
+  lacks = [];
 }
 
 abbrev pub unread_facing : FacingPort
 unread_facing = record { port = port 0 2; enforcement = None; table = None }
 
+-- the nodes answer with the GUIDs of the discovery: a switch with its node's, an adapter port with its own
+abbrev pub at_home : List Answer
+at_home = node_answered 3 16 17 ∷ node_answered 1 99 33 ∷ []
+
+abbrev pub unread_host : AuditedPort
+unread_host = record host_port { table = None }
+
 pub record PortsAreGathered : Type 0 where
-  -- the nodes answer with the GUIDs of the discovery: a switch with its node's, an adapter port with its own
-  pub in_place : ports_of_files plan discovery (node_answered 3 16 17 ∷ node_answered 1 99 33 ∷ tables) partitions
-      ≡ leaf_port ∷ host_port ∷ []
-  -- they were not asked
-  pub unasked : ports_of_files plan discovery tables partitions ≡ leaf_port ∷ host_port ∷ []
+  pub in_place : ports_of_files plan discovery (at_home ++ tables) partitions ≡ leaf_port ∷ host_port ∷ []
+  -- nodes that were not asked, or did not answer: nobody knows whose tables these are. The switch's ports are unread with it
+  pub unasked : ports_of_files plan discovery tables partitions
+      ≡ record leaf_port { table = None } ∷ record unread_host { facing = Some unread_facing } ∷ []
+  pub switch_unasked : ports_of_files plan discovery (node_answered 1 99 33 ∷ tables) partitions
+      ≡ record leaf_port { table = None } ∷ record host_port { facing = Some unread_facing } ∷ []
+  pub adapter_unread : ports_of_files plan discovery (node_answered 3 16 17 ∷ answered NodeInfo 1 0 replies.Unread ∷ tables) partitions
+      ≡ leaf_port ∷ unread_host ∷ []
   -- another switch answers at the LID of the switch
-  pub switch_moved : ports_of_files plan discovery (node_answered 3 17 17 ∷ tables) partitions
+  pub switch_moved : ports_of_files plan discovery (node_answered 3 17 17 ∷ node_answered 1 99 33 ∷ tables) partitions
       ≡ record leaf_port { moved = Some 17; table = None } ∷ record host_port { facing = Some unread_facing } ∷ []
   -- another port answers at the LID of the adapter port
-  pub adapter_moved : ports_of_files plan discovery (node_answered 1 32 34 ∷ tables) partitions
-      ≡ leaf_port ∷ record host_port { moved = Some 34; table = None } ∷ []
+  pub adapter_moved : ports_of_files plan discovery (node_answered 3 16 17 ∷ node_answered 1 32 34 ∷ tables) partitions
+      ≡ leaf_port ∷ record unread_host { moved = Some 34 } ∷ []
   -- a table that was read under the number of the port counts first
-  pub by_number : ports_of_files plan discovery (answered Keys 1 1 (replies.Keys (0x8002 ∷ [])) ∷ tables) partitions
+  pub by_number : ports_of_files plan discovery (answered Keys 1 1 (replies.Keys (0x8002 ∷ [])) ∷ at_home ++ tables) partitions
       ≡ leaf_port ∷ record host_port { table = Some (record { keys = 0x8002 ∷ []; is_full = true }) } ∷ []
+
+-- ---- two switches, each with a port to the other that drops packets. The file gives 0x7fff and 1 to the adapter port, and 2 to nobody
+abbrev pub plan_of_two : TopologyState
+plan_of_two = record plan { nodes = nodes ++ (record { name = codes "spine"; node_type = node_type.Switch; guid = 48; ports = 4 }) ∷ [] }
+
+abbrev pub trunk : ℕ → ℕ → ℕ → ℕ → PortLine
+trunk place number guid far = record { port = port place number; guid = None; lid = None; far = far_end Switch guid far; line = 9 }
+
+abbrev pub discovery_of_two : DiscoveryState
+discovery_of_two = record discovery {
+  nodes = record (found Switch 16) { lid = Some 3; port_guid = Some 17 } ∷ found ChannelAdapter 32 ∷ record (found Switch 48) { lid = Some 5 } ∷ [];
+  ports = trunk 0 3 48 1 ∷ line_up 1 33 1 2 ∷ trunk 2 1 16 3 ∷ [];
+}
+
+abbrev pub files_of_two : List Answer → FilesState
+files_of_two answers =
+    files_with plan_of_two discovery_of_two (at_home ++ node_answered 5 48 48 ∷ answers)
+    (partition 0x7fff (manager_full ∷ all_limited ∷ []) ∷ partition 1 (item 33 ∷ []) ∷ partition 2 (item 0x98 ∷ []) ∷ []) []
+
+abbrev pub trunk_table : ℕ → ℕ → List ℕ → Answer
+trunk_table lid number keys = answered Keys lid number (replies.Keys keys)
+
+abbrev pub lack : ℕ → ℕ → ℕ → TrunkLack
+lack node number base = record { port = port node number; base = base }
+
+pub record TrunksAreGathered : Type 0 where
+  -- one drops what comes in, and lacks 1; the other what goes out, and has both bases
+  pub dropped : trunk_lacks (files_of_two (trunk_table 3 3 (0xffff ∷ 2 ∷ []) ∷ answered PortInfo 3 3 (replies.Port true false)
+      ∷ trunk_table 5 1 (0xffff ∷ 1 ∷ []) ∷ answered PortInfo 5 1 (replies.Port false true) ∷ [])) ≡ lack 0 3 1 ∷ []
+  pub of_the_other : trunk_lacks (files_of_two (trunk_table 5 1 (1 ∷ []) ∷ answered PortInfo 5 1 (replies.Port false true) ∷ [])) ≡ lack 2 1 0x7fff ∷ []
+  -- it drops nothing, or its table was not read, or what it enforces, or its switch did not answer
+  pub off : trunk_lacks (files_of_two (trunk_table 3 3 (0xffff ∷ []) ∷ answered PortInfo 3 3 (replies.Port false false) ∷ [])) ≡ []
+  pub without_a_table : trunk_lacks (files_of_two (answered PortInfo 3 3 (replies.Port true true) ∷ [])) ≡ []
+  pub without_enforcement : trunk_lacks (files_of_two (trunk_table 3 3 (0xffff ∷ []) ∷ [])) ≡ []
+  pub silent : trunk_lacks (record (files_of_two []) { answers = trunk_table 3 3 [] ∷ answered PortInfo 3 3 (replies.Port true true) ∷ [] }) ≡ []
+  -- those of a switch are its port 0's
+  pub own : own_lacks (record { guid = 48; node_guid = 48; lid = 5; is_switch = true; number = 0; far = None }) (port 2 0) (lack 0 3 1 ∷ lack 2 1 1 ∷ [])
+      ≡ lack 2 1 1 ∷ []
+
+-- ---- a key that stands twice counts once, and is no other than the same with the other membership
+pub record KeysAreHeldOnce : Type 0 where
+  pub once : held (0xffff ∷ 0 ∷ 1 ∷ 0xffff ∷ 0x8000 ∷ 0x8001 ∷ 1 ∷ []) ≡ record { keys = 0xffff ∷ 1 ∷ 0x8001 ∷ []; is_full = false }
+  pub full : held (1 ∷ 1 ∷ []) ≡ record { keys = 1 ∷ []; is_full = true }
 
 -- ---- GUIDs that no port has, each once, and ports in no partition
 abbrev pub audited : List AuditedPort
@@ -147,7 +204,9 @@ abbrev pub all_full : Item
 all_full = record all_limited { full = true }
 
 pub record DefaultsAreTakenInTurn : Type 0 where
-  pub none : items_in_turn (partition 0x7fff (all_limited ∷ manager_full ∷ [])) ≡ all_limited ∷ manager_full ∷ []
+  pub none : items_in_turn (partition 0x7fff (manager_full ∷ all_limited ∷ [])) ≡ all_limited ∷ manager_full ∷ []
+  -- `ALL=limited` behind them takes the SM port with it
+  pub limited : items_in_turn (partition 0x7fff (all_limited ∷ manager_full ∷ [])) ≡ all_limited ∷ manager_full ∷ all_limited ∷ []
   pub listed : items_in_turn (partition 0x7fff (all_full ∷ manager_full ∷ [])) ≡ all_limited ∷ manager_full ∷ all_full ∷ []
   pub two : items_in_turn (partition 0x7fff (all_limited ∷ item 33 ∷ manager_full ∷ []))
       ≡ all_limited ∷ manager_full ∷ all_limited ∷ item 33 ∷ []

@@ -1,16 +1,19 @@
 -- What is known of each end port: its table, the keys that the file gives it, and the switch port that faces it.
-use Rattle.std.specs.Prelude.{ℕ, ◌==◌, List, [], ◌∷◌, flat_map, slice_get, if◌then◌else◌, Option, Some, None, option_map}
+use Rattle.std.specs.Prelude.{ℕ, Bool, false, ◌==◌, ◌||◌, List, [], ◌∷◌, filter, flat_map, slice_get, if◌then◌else◌, Option, Some, None, option_map}
+use Rattle.std.specs.List.{list_any}
 use Rattle.std.specs.Option.{option_and_then, option_map_or}
 use Rattle.fabric_parts.specs.Cable.{is_same_port}
 use Rattle.fabric_parts.specs.declared.cable.PortRef.{PortRef}
 use Rattle.netdiscover_file.specs.declared.ends.FarEnd.{FarEnd}
 use Rattle.netdiscover_file.specs.declared.node.Node.{Node as FoundNode}
+use Rattle.netdiscover_file.specs.declared.port.PortLine.{PortLine}
 use Rattle.netdiscover_file.specs.Discovery.{DiscoveryState}
 use Rattle.netdiscover_file.specs.Kind.{is_switch}
 use Rattle.netdiscover_file.specs.Node.{place_of as place_of_node}
 use Rattle.partition_file.specs.declared.partition.Partition.{Partition}
-use Rattle.partition_file.specs.Members.{keys_in}
+use Rattle.partition_file.specs.Members.{is_member, keys_in}
 use Rattle.pkey_rules.specs.declared.end_port.EndPort.{EndPort}
+use Rattle.pkey_rules.specs.KeyTable.{has_base}
 use Rattle.pkeys_file.specs.declared.answer.Answer.{Answer}
 use Rattle.pkeys_file.specs.declared.answer.NodeReply.{NodeReply}
 use Rattle.pkeys_file.specs.declared.answer.Reply.{Reply}
@@ -25,17 +28,19 @@ use Rattle.audited_ports.specs.declared.port.AuditedPort.{AuditedPort}
 use Rattle.audited_ports.specs.declared.port.Enforcement.{Enforcement}
 use Rattle.audited_ports.specs.declared.port.FacingPort.{FacingPort}
 use Rattle.audited_ports.specs.declared.port.HeldKeys.{HeldKeys}
+use Rattle.audited_ports.specs.declared.port.TrunkLack.{TrunkLack}
 use Rattle.audited_ports.specs.Ends.{ends_of, index_of, named, switch_guid}
 use Rattle.audited_ports.specs.Held.{held}
 use Rattle.audited_ports.specs.OpenSm.{keys_by_opensm}
 
--- the files: ports of the topology by GUID, the SM port among them, the discovery, and the answers
+-- the files: ports of the topology by GUID, the SM port among them, the discovery, and the answers; and what ports between switches lack
 pub record FilesState : Type 0 where
   pub index : List EndGuid
   pub manager : PortRef
   pub discovery : DiscoveryState
   pub answers : List Answer
   pub partitions : List Partition
+  pub lacks : List TrunkLack
 
 -- ---- answers, by LID and port
 abbrev pub reply_to : List Answer → QueryKind → ℕ → ℕ → Option Reply
@@ -65,10 +70,20 @@ abbrev pub moved_by : End → Option NodeReply → Option ℕ
 moved_by end (Some reply) = if end.is_switch then moved_switch end.node_guid reply else moved_port end.guid reply
 moved_by end None = None
 
-abbrev pub moved_to : List Answer → End → Option ℕ
-moved_to answers end = moved_by end (node_in (reply_to answers NodeInfo end.lid 0))
+abbrev pub node_at : List Answer → (lid : ℕ) → Option NodeReply
+node_at answers lid = node_in (reply_to answers NodeInfo lid 0)
 
--- ---- the table of an end port; that of a port whose LID moved is another's. Of an adapter the query may name no port
+abbrev pub moved_to : List Answer → End → Option ℕ
+moved_to answers end = moved_by end (node_at answers end.lid)
+
+-- ---- the end itself answers at its LID. If nothing answers, nobody knows whose table was read there
+abbrev pub is_own : End → NodeReply → Bool
+is_own end reply = if end.is_switch then reply.guid == end.node_guid else reply.port_guid == end.guid
+
+abbrev pub is_there : List Answer → End → Bool
+is_there answers end = option_map_or (is_own end) (node_at answers end.lid) false
+
+-- ---- the table of an end port, if it is there. Of an adapter the query may name no port
 abbrev pub or_table : Option HeldKeys → Option HeldKeys → Option HeldKeys
 or_table (Some table) other = Some table
 or_table None other = other
@@ -79,9 +94,8 @@ table_at answers lid port = table_in (reply_to answers Keys lid port)
 abbrev pub end_table : List Answer → End → Option HeldKeys
 end_table answers end = or_table (table_at answers end.lid end.number) (table_at answers end.lid 0)
 
-abbrev pub unless_moved : Option ℕ → Option HeldKeys → Option HeldKeys
-unless_moved (Some guid) table = None
-unless_moved None table = table
+abbrev pub own_table : List Answer → End → Option HeldKeys
+own_table answers end = if is_there answers end then end_table answers end else None
 
 -- ---- the switch port that faces an adapter port, by the LID of its switch
 abbrev pub facing_at : List Answer → PortRef → ℕ → FacingPort
@@ -94,10 +108,10 @@ facing_at answers port lid = record {
 abbrev pub unread_port : PortRef → FacingPort
 unread_port port = record { port = port; enforcement = None; table = None }
 
--- the LID of a switch, unless another node answers at it
+-- the LID of a switch, if the switch itself answers at it
 abbrev pub lid_if_same : List Answer → FoundNode → ℕ → Option ℕ
 lid_if_same answers node lid =
-    option_map_or (λ reply. if reply.guid == node.id.guid then Some lid else None) (node_in (reply_to answers NodeInfo lid 0)) (Some lid)
+    option_map_or (λ reply. if reply.guid == node.id.guid then Some lid else None) (node_at answers lid) None
 
 abbrev pub switch_lid : List Answer → FoundNode → Option ℕ
 switch_lid answers node = option_and_then (lid_if_same answers node) node.lid
@@ -128,6 +142,45 @@ facing_of files end = option_and_then (facing_far files) end.far
 abbrev pub end_port : FilesState → PortRef → End → EndPort
 end_port files port end = record { guid = end.guid; is_switch = end.is_switch; is_sm = is_same_port port files.manager }
 
+-- ---- a port between two switches that drops packets: any path may cross it, so it has to have each base that the file gives an end port.
+-- One whose table was not read, or what it enforces, is not judged
+abbrev pub is_member_at : FilesState → Partition → End → Bool
+is_member_at files partition end = option_map_or (λ port. is_member (end_port files port end) partition) (named end.guid files.index) false
+
+unfoldable pub used_base : FilesState → List End → Partition → List ℕ
+used_base files ends partition = if list_any (is_member_at files partition) ends then partition.base ∷ [] else []
+
+abbrev pub used_bases : FilesState → List End → List ℕ
+used_bases files ends = flat_map (used_base files ends) files.partitions
+
+abbrev pub trunk_of : FilesState → PortLine → Option FacingPort
+trunk_of files line =
+    if is_switch line.far.node.kind then option_and_then (facing_of_node files line.port.port) (slice_get files.discovery.nodes line.port.node) else None
+
+abbrev pub drops : Enforcement → Bool
+drops enforcement = enforcement.inbound || enforcement.outbound
+
+unfoldable pub lack_of : PortRef → (keys : List ℕ) → (base : ℕ) → List TrunkLack
+lack_of port keys base = if has_base base keys then [] else record { port = port; base = base } ∷ []
+
+abbrev pub lacks_if : PortRef → Option Enforcement → Option HeldKeys → (bases : List ℕ) → List TrunkLack
+lacks_if port (Some enforcement) (Some table) bases = if drops enforcement then flat_map (lack_of port table.keys) bases else []
+lacks_if port _ _ bases = []
+
+abbrev pub lacks_by : (bases : List ℕ) → Option FacingPort → List TrunkLack
+lacks_by bases (Some trunk) = lacks_if trunk.port trunk.enforcement trunk.table bases
+lacks_by bases None = []
+
+unfoldable pub line_lacks : FilesState → (bases : List ℕ) → PortLine → List TrunkLack
+line_lacks files bases line = lacks_by bases (trunk_of files line)
+
+abbrev pub trunk_lacks : FilesState → List TrunkLack
+trunk_lacks files = flat_map (line_lacks files (used_bases files (ends_of files.discovery))) files.discovery.ports
+
+-- those of a switch are its port 0's
+abbrev pub own_lacks : End → PortRef → List TrunkLack → List TrunkLack
+own_lacks end port lacks = if end.is_switch then filter (λ lack. lack.port.node == port.node) lacks else []
+
 -- ---- all of it
 unfoldable pub gathered : FilesState → End → PortRef → AuditedPort
 gathered files end port = record {
@@ -137,10 +190,11 @@ gathered files end port = record {
   lid = end.lid;
   is_manager = is_same_port port files.manager;
   moved = moved_to files.answers end;
-  table = unless_moved (moved_to files.answers end) (end_table files.answers end);
+  table = own_table files.answers end;
   file = keys_in files.partitions (end_port files port end);
   opensms = keys_by_opensm files.partitions (end_port files port end);
   facing = facing_of files end;
+  lacks = own_lacks end port files.lacks;
 }
 
 abbrev pub gathered_if_named : FilesState → End → Option PortRef → List AuditedPort
@@ -154,14 +208,19 @@ gathered_end files end = gathered_if_named files end (named end.guid files.index
 abbrev pub ports_with : FilesState → List AuditedPort
 ports_with files = flat_map (gathered_end files) (ends_of files.discovery)
 
-abbrev pub files_of : TopologyState → DiscoveryState → List Answer → List Partition → FilesState
-files_of plan discovery answers partitions = record {
+abbrev pub files_with : TopologyState → DiscoveryState → List Answer → List Partition → List TrunkLack → FilesState
+files_with plan discovery answers partitions lacks = record {
   index = index_of plan.nodes;
   manager = plan.sm;
   discovery = discovery;
   answers = answers;
   partitions = partitions;
+  lacks = lacks;
 }
+
+abbrev pub files_of : TopologyState → DiscoveryState → List Answer → List Partition → FilesState
+files_of plan discovery answers partitions =
+    files_with plan discovery answers partitions (trunk_lacks (files_with plan discovery answers partitions []))
 
 -- the end ports, in the order of the discovery: those of switches first
 abbrev pub ports_of_files : TopologyState → DiscoveryState → List Answer → List Partition → List AuditedPort

@@ -1,5 +1,5 @@
 -- The keys that stand in a table, and how they differ from others.
-use Rattle.std.specs.Prelude.{ℕ, Bool, not, ◌==◌, ◌&&◌, List, filter}
+use Rattle.std.specs.Prelude.{ℕ, Bool, not, ◌==◌, ◌&&◌, if◌then◌else◌, List, [], ◌∷◌, ◌++◌, filter, fold}
 use Rattle.std.specs.List.{list_all}
 use Rattle.pkey_rules.specs.KeyTable.{has_base, holds}
 use Rattle.pkey_rules.specs.PKey.{base_of}
@@ -9,8 +9,12 @@ use Rattle.audited_ports.specs.declared.port.HeldKeys.{HeldKeys}
 abbrev pub is_key : ℕ → Bool
 is_key word = not (base_of word == 0)
 
+-- a key that stands twice counts once, at its first place
+abbrev pub with_key : List ℕ → ℕ → List ℕ
+with_key keys word = if is_key word && not (holds word keys) then keys ++ word ∷ [] else keys
+
 abbrev pub held : List ℕ → HeldKeys
-held words = record { keys = filter is_key words; is_full = list_all is_key words }
+held words = record { keys = fold with_key [] words; is_full = list_all is_key words }
 
 -- the keys of the first list of whose bases the second has none
 abbrev pub of_other_bases : List ℕ → List ℕ → List ℕ

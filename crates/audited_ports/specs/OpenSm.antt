@@ -1,6 +1,6 @@
 -- How OpenSM 3.3.23 reads a partition file: if several words of a partition name a port, the last one counts. It is what was seen
 -- of OpenSM, and not of a standard.
-use Rattle.std.specs.Prelude.{ℕ, ◌-◌, Bool, true, false, not, ◌==◌, ◌&&◌, if◌then◌else◌, List, [], ◌∷◌, flat_map, fold, length, take, Option, Some, None, option_map}
+use Rattle.std.specs.Prelude.{ℕ, ◌-◌, Bool, true, false, ◌==◌, if◌then◌else◌, List, [], ◌∷◌, flat_map, fold, length, take, Option, Some, None, option_map}
 use Rattle.std.specs.Option.{option_to_list}
 use Rattle.partition_file.specs.declared.item.Item.{Item}
 use Rattle.partition_file.specs.declared.item.Ports.{Ports}
@@ -20,10 +20,9 @@ is_all Routers = false
 is_all Manager = false
 is_all (Guid guid) = false
 
--- as it is read if the file has no definition of it. One that says `ALL=limited` alone makes the same items, so it is taken for none.
--- OpenSM then leaves the SM port limited, and of that port nothing here is noted as OpenSM's reading
+-- as it is read if the file has no definition of it: then the SM port comes first, and behind the words of a definition it comes last
 abbrev pub is_built_in : List Item → Bool
-is_built_in (first ∷ second ∷ []) = is_all first.ports && not first.full
+is_built_in (first ∷ second ∷ []) = is_all second.ports
 is_built_in items = false
 
 -- what the file lists: all but the last item, by which the SM port is full

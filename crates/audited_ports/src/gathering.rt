@@ -5,14 +5,14 @@ ghost use Rattle.std.specs.List.{flat_map};
 ghost use Rattle.std.specs.Option.{option_copied};
 ghost use Rattle.partition_file.specs.Members.{keys_in};
 ghost use Rattle.audited_ports.specs.Gathered.{end_port, end_table, enforcement_in, facing_at, facing_by_lid, facing_far, facing_of, facing_of_node, facing_on, far_node};
-ghost use Rattle.audited_ports.specs.Gathered.{gathered, gathered_end, lid_if_same, moved_by, moved_port, moved_switch, moved_to, node_in};
-ghost use Rattle.audited_ports.specs.Gathered.{or_table, ports_of_files, ports_with, reply_to, switch_lid, table_at, table_in, unless_moved, unread_port};
+ghost use Rattle.audited_ports.specs.Gathered.{gathered, gathered_end, is_own, is_there, lid_if_same, moved_by, moved_port, moved_switch, moved_to, node_at, node_in};
+ghost use Rattle.audited_ports.specs.Gathered.{or_table, own_table, ports_of_files, ports_with, reply_to, switch_lid, table_at, table_in, unread_port};
 
 use crate::ends::{End, ends_of, switch_guid};
 use crate::held::held;
 use crate::names::PortIndex;
 use crate::opensm::keys_by_opensm;
-use crate::port::{AuditedPort, Enforcement, FacingPort, HeldKeys};
+use crate::port::{AuditedPort, Enforcement, FacingPort, HeldKeys, TrunkLack};
 use fabric_parts::PortRef;
 use netdiscover_file::{Discovery, FarEnd, Node};
 use partition_file::{Partitions, members};
@@ -24,13 +24,15 @@ use topo_file::LargeTopology;
 
 /// The files.
 #[derive(Drop)]
-struct Files<'a> {
-    index: &'a PortIndex,
+pub(crate) struct Files<'a> {
+    pub(crate) index: &'a PortIndex,
     /// The SM port.
-    manager: PortRef,
-    discovery: &'a Discovery,
-    answers: &'a Answers,
-    partitions: &'a Partitions,
+    pub(crate) manager: PortRef,
+    pub(crate) discovery: &'a Discovery,
+    pub(crate) answers: &'a Answers,
+    pub(crate) partitions: &'a Partitions,
+    /// What ports between switches lack.
+    pub(crate) lacks: &'a [TrunkLack],
 }
 
 impl<'a> Model for Files<'a> {
@@ -44,6 +46,7 @@ impl<'a> Model for Files<'a> {
       discovery = files.discovery.now;
       answers = files.answers.now;
       partitions = files.partitions.now;
+      lacks = files.lacks.now;
     } };
 }
 
@@ -112,6 +115,16 @@ fn moved_by(end: &End, reply: Option<NodeReply>) -> Option<u64>
     }
 }
 
+fn is_own(end: &End, reply: NodeReply) -> bool
+    ensures { result ≡ is_own end.now reply }
+{
+    if end.is_switch {
+        reply.guid == end.node_guid
+    } else {
+        reply.port_guid == end.guid
+    }
+}
+
 fn unread_port(port: PortRef) -> FacingPort
     ensures { result ≡ unread_port port }
 {
@@ -135,10 +148,25 @@ impl<'a> Files<'a> {
             .map(|answer| &answer.reply)
     }
 
+    fn node_at(&self, lid: u16) -> Option<NodeReply>
+        ensures { result ≡ node_at self.now.answers lid }
+    {
+        node_in(self.reply_to(QueryKind::NodeInfo, lid, 0))
+    }
+
     fn moved_to(&self, end: &End) -> Option<u64>
         ensures { result ≡ moved_to self.now.answers end.now }
     {
-        moved_by(end, node_in(self.reply_to(QueryKind::NodeInfo, end.lid, 0)))
+        moved_by(end, self.node_at(end.lid))
+    }
+
+    fn is_there(&self, end: &End) -> bool
+        ensures { result ≡ is_there self.now.answers end.now }
+    {
+        match self.node_at(end.lid) {
+            Some(reply) => is_own(end, reply),
+            None => false,
+        }
     }
 
     fn table_at(&self, alloc: Global, lid: u16, port: u8) -> Result<Option<HeldKeys>, AllocError>
@@ -156,18 +184,13 @@ impl<'a> Files<'a> {
         }
     }
 
-    fn table_unless_moved(
-        &self,
-        alloc: Global,
-        end: &End,
-        moved: Option<u64>,
-    ) -> Result<Option<HeldKeys>, AllocError>
-        ensures { IfOk result (λ table. table ≡ unless_moved moved (end_table self.now.answers end.now)) }
+    fn own_table(&self, alloc: Global, end: &End) -> Result<Option<HeldKeys>, AllocError>
+        ensures { IfOk result (λ table. table ≡ own_table self.now.answers end.now) }
     {
-        match moved {
-            Some(_) => Ok(None),
-            None => self.end_table(alloc, end),
+        if !self.is_there(end) {
+            return Ok(None);
         }
+        self.end_table(alloc, end)
     }
 
     fn facing_at(&self, alloc: Global, port: PortRef, lid: u16) -> Result<FacingPort, AllocError>
@@ -185,15 +208,11 @@ impl<'a> Files<'a> {
     fn lid_if_same(&self, node: &Node, lid: u16) -> Option<u16>
         ensures { result ≡ lid_if_same self.now.answers node.now lid }
     {
-        match node_in(self.reply_to(QueryKind::NodeInfo, lid, 0)) {
-            Some(reply) => {
-                if reply.guid == node.id.guid {
-                    Some(lid)
-                } else {
-                    None
-                }
-            }
-            None => Some(lid),
+        let reply = self.node_at(lid)?;
+        if reply.guid == node.id.guid {
+            Some(lid)
+        } else {
+            None
         }
     }
 
@@ -225,7 +244,7 @@ impl<'a> Files<'a> {
         }
     }
 
-    fn facing_of_node(
+    pub(crate) fn facing_of_node(
         &self,
         alloc: Global,
         number: u8,
@@ -267,7 +286,7 @@ impl<'a> Files<'a> {
         }
     }
 
-    fn end_port(&self, port: PortRef, end: &End) -> EndPort
+    pub(crate) fn end_port(&self, port: PortRef, end: &End) -> EndPort
         ensures { result ≡ end_port self.now port end.now }
     {
         EndPort {
@@ -282,11 +301,12 @@ impl<'a> Files<'a> {
         ensures { IfOk result (λ known. known ≡ gathered self.now end.now port) }
     {
         let moved = self.moved_to(end);
-        let table = self.table_unless_moved(alloc, end, moved)?;
+        let table = self.own_table(alloc, end)?;
         let end_port = self.end_port(port, end);
         let file = keys_in(alloc, self.partitions, end_port)?;
         let opensms = keys_by_opensm(alloc, self.partitions, &end_port)?;
         let facing = self.facing_of(alloc, end)?;
+        let lacks = self.own_lacks(alloc, end, port)?;
         Ok(AuditedPort {
             port,
             guid: end.guid,
@@ -298,6 +318,7 @@ impl<'a> Files<'a> {
             file,
             opensms,
             facing,
+            lacks,
         })
     }
 
@@ -367,12 +388,22 @@ pub fn ports_of_files(
     ensures { IfOk result (λ ports. ports.items ≡ ports_of_files plan.now discovery.now answers.now partitions.now) }
 {
     let index = PortIndex::of(alloc, plan.nodes())?;
+    let lacks = Files {
+        index: &index,
+        manager: plan.sm(),
+        discovery,
+        answers,
+        partitions,
+        lacks: &[],
+    }
+    .trunk_lacks(alloc)?;
     let files = Files {
         index: &index,
         manager: plan.sm(),
         discovery,
         answers,
         partitions,
+        lacks: &lacks,
     };
     files.ports(alloc)
 }

@@ -1,9 +1,9 @@
 //! Lists of keys, compared.
 
-ghost use Rattle.std.specs.Prelude.{◌≡◌, filter, IfOk};
+ghost use Rattle.std.specs.Prelude.{◌≡◌, [], fold, IfOk, OnOk};
 ghost use Rattle.std.specs.List.{list_all};
 ghost use Rattle.pkey_rules.specs.KeyTable.{has_base, holds};
-ghost use Rattle.audited_ports.specs.Held.{all_bases_held, all_held, have_same_bases, have_same_keys, held, is_key, of_other_bases, of_other_membership};
+ghost use Rattle.audited_ports.specs.Held.{all_bases_held, all_held, have_same_bases, have_same_keys, held, is_key, of_other_bases, of_other_membership, with_key};
 
 use crate::port::HeldKeys;
 use pkey_rules::base_of;
@@ -22,14 +22,23 @@ fn are_keys(words: &[u16]) -> bool
     words.iter().all(|word| is_key(*word))
 }
 
-fn keys_of(alloc: Global, words: &[u16]) -> Result<Vec<u16>, AllocError>
-    ensures { IfOk result (λ keys. keys.items ≡ filter is_key words.now) }
+fn push_new(keys: &mut Vec<u16>, word: u16) -> Result<(), AllocError>
+    ensures { OnOk result (keys.new.items ≡ with_key keys.old.items word) }
 {
-    words
-        .iter()
-        .copied()
-        .filter(|word| is_key(*word))
-        .collect(alloc)
+    if is_key(word) && !holds(word, keys.as_slice()) {
+        keys.push(word)?;
+    }
+    Ok(())
+}
+
+fn keys_of(alloc: Global, words: &[u16]) -> Result<Vec<u16>, AllocError>
+    ensures { IfOk result (λ keys. keys.items ≡ fold with_key [] words.now) }
+{
+    let mut keys = Vec::new(alloc);
+    for word in words {
+        push_new(&mut keys, *word)?;
+    }
+    Ok(keys)
 }
 
 /// The keys in a table of these words.

@@ -16,13 +16,14 @@ mod opensm;
 mod parts;
 mod port;
 mod strangers;
+mod trunks;
 mod wrong_rules;
 
 pub use crate::gathering::ports_of_files;
 pub use crate::held::{
     has_base, have_same_bases, have_same_keys, holds, of_other_bases, of_other_membership,
 };
-pub use crate::laws::each_port_is_audited;
+pub use crate::laws::{each_port_is_audited, ports_that_answer_are_read};
 pub use crate::parts::{push_key, push_port};
-pub use crate::port::{AuditedPort, Enforcement, FacingPort, HeldKeys};
+pub use crate::port::{AuditedPort, Enforcement, FacingPort, HeldKeys, TrunkLack, TrunkLacks};
 pub use crate::strangers::push_strangers;

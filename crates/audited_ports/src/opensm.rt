@@ -10,7 +10,7 @@ use pkey_rules::{EndPort, base_of, key_of};
 use pkeys_file::KeyList;
 use std::alloc::{AllocError, Global};
 
-fn are_named(port: &EndPort, ports: Ports) -> bool
+pub(crate) fn are_named(port: &EndPort, ports: Ports) -> bool
     ensures { result ≡ are_named port.now ports }
 {
     match ports {
@@ -33,7 +33,7 @@ fn is_built_in(items: &[Item]) -> bool
     ensures { result ≡ is_built_in items.now }
 {
     match items {
-        [first, _] => is_all(first.ports) && !first.full,
+        [_, second] => is_all(second.ports),
         _ => false,
     }
 }

@@ -1,7 +1,10 @@
 //! What is known of an end port of a fabric.
 
+ghost use Rattle.std.specs.Prelude.{◌≡◌};
+
 use fabric_parts::PortRef;
 use pkeys_file::KeyList;
+use std::marker::Model;
 
 /// The P_Keys that stand in a table.
 #[derive(Debug, Drop)]
@@ -32,6 +35,45 @@ pub struct FacingPort {
     pub table: Option<HeldKeys>,
 }
 
+/// A port between two switches that drops packets, and a base that its table lacks.
+#[derive(Clone, Copy, Debug, PartialEq, Eq)]
+pub struct TrunkLack {
+    /// The port, by the place of its switch among the nodes of the topology.
+    pub port: PortRef,
+    /// The base.
+    pub base: u16,
+}
+
+/// What the ports of a switch to other switches lack.
+#[derive(Debug, Drop)]
+pub struct TrunkLacks {
+    lacks: Vec<TrunkLack>,
+}
+
+impl Model for TrunkLacks {
+    ghost use Rattle.std.specs.Prelude.{List};
+    ghost use Rattle.audited_ports.specs.declared.port.TrunkLack.{TrunkLack};
+
+    ghost Value = { List TrunkLack };
+
+    ghost view = { λ list. list.lacks.items };
+}
+
+impl TrunkLacks {
+    pub(crate) fn of(lacks: Vec<TrunkLack>) -> TrunkLacks
+        ensures { result ≡ lacks.items }
+    {
+        TrunkLacks { lacks }
+    }
+
+    /// The ports and bases.
+    pub fn as_slice(&self) -> &[TrunkLack]
+        ensures { result.now ≡ self.now }
+    {
+        self.lacks.as_slice()
+    }
+}
+
 /// An end port: a port of an adapter, or port 0 of a switch.
 #[derive(Debug, Drop)]
 pub struct AuditedPort {
@@ -55,4 +97,6 @@ pub struct AuditedPort {
     pub opensms: KeyList,
     /// The switch port that faces it, if one does.
     pub facing: Option<FacingPort>,
+    /// Of port 0 of a switch what ports of this switch lack that lead to other switches and drop packets; else nothing.
+    pub lacks: TrunkLacks,
 }

@@ -17,6 +17,7 @@ use Rattle.port_shares.proofs.SumLemmas.{full_is_member, nothing_added}
 use Rattle.topo_file.specs.declared.node.Node.{Node}
 use Rattle.audited_ports.specs.declared.port.AuditedPort.{AuditedPort}
 use Rattle.audited_ports.specs.declared.port.HeldKeys.{HeldKeys}
+use Rattle.keys_audit.specs.Apart.{by_file, wide_at}
 use Rattle.keys_audit.specs.Standing.{AreBasesOf, bases_of_keys, bases_of_port, bases_there, is_given, only_by_file, only_by_tables, pairs_at, pairs_text, port_bases, standing, standing_by, stands, stray_at, turned}
 
 abbrev among : ℕ → List ℕ → Bool
@@ -140,6 +141,10 @@ module _ (base : ℕ) (some : (base == 0) ≡ false) where
         no_text nodes all (codes "- "),
         no_text nodes all (codes "+ "),
       ) refl
+
+  pub no_wide_at : (ports : List AuditedPort) → among base (bases_there ports) ≡ false → wide_at ports base ≡ []
+  unfolding wide_at
+  no_wide_at ports not_there = rw (no_pairs (by_file base) (λ port is. ap (λ (member : Member). is_member member.before) is) ports not_there) refl
 
 -- ---- what is said of all bases is said of those that are there
 skip_range : (f : ℕ → List ℕ) (p : ℕ → Bool) (a n : ℕ) → 1 ≤ a → ((m : ℕ) → 1 ≤ m → p m ≡ false → f m ≡ [])

@@ -1,7 +1,7 @@
 -- Edges of what is said of tables, computed.
 use Rattle.std.proofs.Common.{refl}
 use Rattle.std.specs.Fmt.{digits}
-use Rattle.keys_audit.specs.Examples.{DirectionsAreRead, DroppedFilesAreSeen, ManyPairsAreCounted, StraysAreReported}
+use Rattle.keys_audit.specs.Examples.{DirectionsAreRead, DroppedFilesAreSeen, ManyPairsAreCounted, StraysAreReported, WidePartitionsAreReported}
 use Rattle.keys_audit.specs.Standing.{pairs_text}
 
 pub many_pairs_are_counted : ManyPairsAreCounted
@@ -39,4 +39,17 @@ strays_are_reported = record {
   no_default_key = refl;
   full_key = refl;
   unread = refl;
+}
+
+pub wide_partitions_are_reported : WidePartitionsAreReported
+wide_partitions_are_reported = record {
+  half = refl;
+  fewer = refl;
+  none = refl;
+  two = refl;
+  four = refl;
+  alone = refl;
+  line = refl;
+  no_line = refl;
+  pairs = refl;
 }

@@ -1,5 +1,5 @@
 -- What the status means.
-use Rattle.std.proofs.Common.{◌≡◌, ◌∙◌, arith, ℕ, zero, suc, Bool, true, false, not, ◌==◌, ◌&&◌, ◌||◌, List, [], ◌∷◌, ◌++◌, Option, Some, None, refl, sym, subst, filter, replicate, slice_get, IfSome, inl, inr}
+use Rattle.std.proofs.Common.{◌≡◌, ◌∙◌, arith, ℕ, zero, suc, Bool, true, false, not, ◌==◌, ◌&&◌, ◌||◌, List, [], ◌∷◌, ◌++◌, Option, Some, None, refl, sym, subst, ap, fold, length, replicate, slice_get, IfSome, inl, inr}
 use Rattle.std.specs.List.{list_all, list_any}
 use Rattle.std.proofs.lemmas.Bool.{and_parts, cases_Bool, eqb-true, false≢true, or_cases}
 use Rattle.std.proofs.lemmas.Option.{same_Some}
@@ -9,8 +9,10 @@ use Rattle.audited_ports.specs.declared.port.AuditedPort.{AuditedPort}
 use Rattle.audited_ports.specs.declared.port.Enforcement.{Enforcement}
 use Rattle.audited_ports.specs.declared.port.FacingPort.{FacingPort}
 use Rattle.audited_ports.specs.declared.port.HeldKeys.{HeldKeys}
-use Rattle.keys_audit.specs.Differences.{are_clean, enforces, facing_fits_by, fits_if_enforced, is_clean, keys_follow, tables_fit}
-use Rattle.audited_ports.specs.Held.{is_key}
+use Rattle.audited_ports.specs.declared.port.TrunkLack.{TrunkLack}
+use Rattle.keys_audit.specs.Differences.{are_clean, carries_all, enforces, facing_fits_by, fits_if_enforced, is_clean, keys_follow, tables_fit}
+use Rattle.pkey_rules.specs.KeyTable.{holds}
+use Rattle.audited_ports.specs.Held.{is_key, with_key}
 use Rattle.keys_audit.specs.Laws.{FitsIfEnforced, HasKeys, HaveBases, HaveSameBases, HaveSameKeys, IsRight, OfEach, PassesTheRight, TablesThatFollowAreClean, TheStatusIsThatOfEachPort}
 
 equal : (n : ℕ) → (n == n) ≡ true
@@ -110,13 +112,26 @@ means_facing : (facing : Option FacingPort) (adapter : Option HeldKeys) → IfSo
 means_facing None adapter is = refl
 means_facing (Some facing) adapter is = means_fits facing adapter is
 
+pub none_lacking : (lacks : List TrunkLack) → (length lacks == 0) ≡ true → lacks ≡ []
+none_lacking [] is = refl
+none_lacking (lack ∷ lacks) is = let none : suc (length lacks) ≡ 0 = eqb-true (suc (length lacks)) 0 is in absurd (omega (arith, none))
+
+pub lacking_none : (port : AuditedPort) → port.lacks ≡ [] → carries_all port ≡ true
+lacking_none port none = ap (λ (lacks : List TrunkLack). length lacks == 0) none
+
 pub port_means : (port : AuditedPort) → is_clean port ≡ true → IsRight port
 port_means port is =
-    let parts = and_parts (keys_follow port.table port.file) (facing_fits_by port.facing port.table) is in
-    record { keys = keys_mean port.table port.file parts.0; bases = facing_means port.facing port.table parts.1 }
+    let parts = and_parts (keys_follow port.table port.file) (facing_fits_by port.facing port.table && carries_all port) is in
+    let others = and_parts (facing_fits_by port.facing port.table) (carries_all port) parts.1 in
+    record {
+      keys = keys_mean port.table port.file parts.0;
+      bases = facing_means port.facing port.table others.0;
+      trunks = none_lacking port.lacks others.1;
+    }
 
 pub means_port : (port : AuditedPort) → IsRight port → is_clean port ≡ true
-means_port port is = rw (means_keys port.table port.file is.keys, means_facing port.facing port.table is.bases) refl
+means_port port is =
+    rw (means_keys port.table port.file is.keys, means_facing port.facing port.table is.bases) (lacking_none port is.trunks)
 
 pub the_right_ports_pass : PassesTheRight is_clean
 the_right_ports_pass port = (port_means port, means_port port)
@@ -139,21 +154,54 @@ pub the_status_is_that_of_each_port : TheStatusIsThatOfEachPort
 the_status_is_that_of_each_port ports =
     (all_mean is_clean IsRight port_means means_port ports, mean_all is_clean IsRight port_means means_port ports)
 
--- ---- tables that follow
-none_kept : (n : ℕ) → filter is_key (replicate n 0) ≡ []
-none_kept zero = refl
-none_kept (suc n) = none_kept n
+-- ---- tables that follow: empty places add nothing, and each key of the file is there
+nothing_added : (n : ℕ) (so_far : List ℕ) → fold with_key so_far (replicate n 0) ≡ so_far
+nothing_added zero so_far = refl
+nothing_added (suc n) so_far = nothing_added n so_far
 
-all_kept : (file : List ℕ) (behind : ℕ) → list_all is_key file ≡ true → filter is_key (file ++ replicate behind 0) ≡ file
-all_kept [] behind all = none_kept behind
-all_kept (key ∷ file) behind all =
-    let parts = and_parts (is_key key) (list_all is_key file) all in
-    rw (parts.0, all_kept file behind parts.1) refl
+begun_later : (before : ℕ) (file : List ℕ) (behind : ℕ)
+    → fold with_key [] (replicate before 0 ++ file ++ replicate behind 0) ≡ fold with_key [] (file ++ replicate behind 0)
+begun_later zero file behind = refl
+begun_later (suc before) file behind = begun_later before file behind
 
-held_again : (file : List ℕ) (before behind : ℕ) → list_all is_key file ≡ true → filter is_key (replicate before 0 ++ file ++ replicate behind 0) ≡ file
-held_again file zero behind all = all_kept file behind all
-held_again file (suc before) behind all = held_again file before behind all
+or_nothing : (b : Bool) → b ≡ (b || false)
+or_nothing true = refl
+or_nothing false = refl
+
+or_later : (a b c : Bool) → ((a || b) || c) ≡ (a || (b || c))
+or_later true b c = refl
+or_later false b c = refl
+
+held_of_both : (key : ℕ) (xs ys : List ℕ) → holds key (xs ++ ys) ≡ (holds key xs || holds key ys)
+held_of_both key [] ys = refl
+held_of_both key (x ∷ xs) ys = elim (cases_Bool (x == key)) [
+  | inl is ↦ rw is refl
+  | inr other ↦ rw other (held_of_both key xs ys)
+]
+
+-- a key that is there is not added again
+one_more : (x : ℕ) (so_far : List ℕ) (key : ℕ) → is_key x ≡ true → holds key (with_key so_far x) ≡ (holds key so_far || (x == key))
+one_more x so_far key is = elim (cases_Bool (holds x so_far)) [
+  | inl there ↦ rw (is, there) (again there)
+  | inr new ↦ rw (is, new) (held_of_both key so_far (x ∷ []) ∙ ap (λ (b : Bool). holds key so_far || b) (sym (or_nothing (x == key))))
+]
+  where
+    again : holds x so_far ≡ true → holds key so_far ≡ (holds key so_far || (x == key))
+    again there = elim (cases_Bool (x == key)) [
+      | inl same ↦ let found : holds key so_far ≡ true = subst (λ (k : ℕ). holds k so_far ≡ true) (eqb-true x key same) there in rw found refl
+      | inr other ↦ rw other (or_nothing (holds key so_far))
+    ]
+
+all_there : (file so_far : List ℕ) (behind key : ℕ) → list_all is_key file ≡ true
+    → holds key (fold with_key so_far (file ++ replicate behind 0)) ≡ (holds key so_far || holds key file)
+all_there [] so_far behind key all = ap (holds key) (nothing_added behind so_far) ∙ or_nothing (holds key so_far)
+all_there (x ∷ file) so_far behind key all =
+    let parts = and_parts (is_key x) (list_all is_key file) all in
+    all_there file (with_key so_far x) behind key parts.1
+    ∙ ap (λ (b : Bool). b || holds key file) (one_more x so_far key parts.0)
+    ∙ or_later (holds key so_far) (x == key) (holds key file)
 
 pub tables_that_follow_are_clean : TablesThatFollowAreClean
 tables_that_follow_are_clean file before behind all =
-    rw (held_again file before behind all) (means_same (λ key. key) file file (λ n. refl))
+    rw (begun_later before file behind)
+    (means_same (λ key. key) (fold with_key [] (file ++ replicate behind 0)) file (λ key. all_there file [] behind key all))

@@ -3,8 +3,10 @@ use Rattle.std.proofs.Common.{◌≡◌, ◌∙◌, ap, refl, sym, subst, ℕ, z
 use Rattle.std.specs.Str.Iter.{HasSubslice}
 use Rattle.audit_plan.proofs.SubsliceLemmas.{stands_behind, stands_itself, stands_longer, stands_of_all, stands_of_lists}
 use Rattle.audited_ports.specs.declared.port.AuditedPort.{AuditedPort}
+use Rattle.audited_ports.specs.declared.port.TrunkLack.{TrunkLack}
 use Rattle.audited_ports.specs.Strangers.{strangers}
 use Rattle.keys_audit.specs.declared.differences.Difference.{Difference}
+use Rattle.keys_audit.specs.Apart.{wide_lines}
 use Rattle.keys_audit.specs.Cuts.{cut_lines}
 use Rattle.keys_audit.specs.Diagnosis.{diagnosis, is_another}
 use Rattle.keys_audit.specs.Differences.{facing_differences, port_differences}
@@ -12,7 +14,7 @@ use Rattle.keys_audit.specs.Laws.{AllDifferencesArePrinted}
 use Rattle.partition_file.specs.declared.partition.Partition.{Partition}
 use Rattle.topo_file.specs.declared.node.Node.{Node}
 use Rattle.keys_audit.specs.declared.differences.DifferenceKind.TheVariants.{Off}
-use Rattle.keys_audit.specs.Text.{are_off, audit_of, count_of, counts_of, difference_line, first_lines, is_faced, is_unread, later_lines, moved_by_guid, moved_line, moved_lines, switch_lines, text_by, unread_line, unread_lines, verdict}
+use Rattle.keys_audit.specs.Text.{are_off, audit_of, count_of, counts_of, difference_line, first_lines, is_faced, is_unread, later_lines, moved_by_guid, moved_line, moved_lines, switch_lines, text_by, trunk_line, trunk_lines, unread_line, unread_lines, verdict}
 
 -- ---- the parts of the text
 module _ (nodes : List Node) (all : Bool) (ports : List AuditedPort) (partitions : List Partition) where
@@ -60,7 +62,19 @@ module _ (nodes : List Node) (all : Bool) (ports : List AuditedPort) (partitions
         lines = rw some (of_port facing_differences number difference is)
 
         later : HasSubslice (later_lines nodes ports partitions switches) (difference_line nodes difference)
-        later = stands_longer _ _ (stands_longer _ _ (stands_longer _ _ (stands_longer _ _ lines)))
+        later = stands_longer _ _ (stands_longer _ _ (stands_longer _ _ (stands_longer _ _ (stands_longer _ _ (stands_longer _ _ lines)))))
+
+    trunk_printed : (number : ℕ) (lack : TrunkLack) → slice_get port.lacks number ≡ Some lack → HasSubslice text (trunk_line nodes lack)
+    unfolding trunk_lines later_lines
+    trunk_printed number lack is =
+        let line = trunk_line nodes lack in
+        in_later line
+        (stands_longer line (wide_lines ports)
+        (stands_longer line (strangers nodes ports partitions)
+        (stands_longer line (flat_map (unread_lines nodes) ports)
+        (stands_longer line (flat_map (moved_lines nodes) ports)
+        (stands_behind line (switch_lines nodes ports switches ++ flat_map (cut_lines nodes ports) ports)
+        (stands_of_all (trunk_lines nodes) line ports place port there (stands_of_all (trunk_line nodes) line port.lacks number lack is (stands_itself line))))))))
 
     unread_printed : is_unread port ≡ true → HasSubslice text (unread_line nodes port.port)
     unfolding unread_lines later_lines
@@ -68,9 +82,11 @@ module _ (nodes : List Node) (all : Bool) (ports : List AuditedPort) (partitions
         let line = unread_line nodes port.port in
         let lines : unread_lines nodes port ≡ line = rw is refl in
         in_later line
+        (stands_longer line (wide_lines ports)
         (stands_longer line (strangers nodes ports partitions)
-        (stands_behind line (switch_lines nodes ports switches ++ flat_map (cut_lines nodes ports) ports ++ flat_map (moved_lines nodes) ports)
-        (stands_of_all (unread_lines nodes) line ports place port there (subst (λ t. HasSubslice t line) (sym lines) (stands_itself line)))))
+        (stands_behind line
+        (switch_lines nodes ports switches ++ flat_map (cut_lines nodes ports) ports ++ flat_map (trunk_lines nodes) ports ++ flat_map (moved_lines nodes) ports)
+        (stands_of_all (unread_lines nodes) line ports place port there (subst (λ t. HasSubslice t line) (sym lines) (stands_itself line))))))
 
     moved_printed : (guid : ℕ) → port.moved ≡ Some guid → HasSubslice text (moved_line nodes port guid)
     unfolding moved_lines later_lines
@@ -78,15 +94,17 @@ module _ (nodes : List Node) (all : Bool) (ports : List AuditedPort) (partitions
         let line = moved_line nodes port guid in
         let lines : moved_lines nodes port ≡ line = ap (moved_by_guid nodes port) is in
         in_later line
+        (stands_longer line (wide_lines ports)
         (stands_longer line (strangers nodes ports partitions)
         (stands_longer line (flat_map (unread_lines nodes) ports)
-        (stands_behind line (switch_lines nodes ports switches ++ flat_map (cut_lines nodes ports) ports)
-        (stands_of_all (moved_lines nodes) line ports place port there (subst (λ t. HasSubslice t line) (sym lines) (stands_itself line))))))
+        (stands_behind line (switch_lines nodes ports switches ++ flat_map (cut_lines nodes ports) ports ++ flat_map (trunk_lines nodes) ports)
+        (stands_of_all (moved_lines nodes) line ports place port there (subst (λ t. HasSubslice t line) (sym lines) (stands_itself line)))))))
 
 pub all_differences_are_printed : AllDifferencesArePrinted
 all_differences_are_printed nodes all ports partitions place port there = record {
   keys = key_printed nodes all ports partitions place port there;
   switch_port = switch_printed nodes all ports partitions place port there;
+  trunks = trunk_printed nodes all ports partitions place port there;
   unread = unread_printed nodes all ports partitions place port there;
   moved = moved_printed nodes all ports partitions place port there;
 }

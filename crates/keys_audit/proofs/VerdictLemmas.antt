@@ -9,11 +9,11 @@ use Rattle.audited_ports.specs.declared.port.AuditedPort.{AuditedPort}
 use Rattle.audited_ports.specs.declared.port.Enforcement.{Enforcement}
 use Rattle.audited_ports.specs.declared.port.FacingPort.{FacingPort}
 use Rattle.audited_ports.specs.declared.port.HeldKeys.{HeldKeys}
-use Rattle.keys_audit.specs.Differences.{agrees, all_agree, are_clean, enforces, facing_fits_by, facing_fits_if_read, facing_differences, fits_if_enforced, fits_if_read, is_clean, keys_follow, keys_follow_if_read, port_differences, tables_fit, tables_fit_if_read}
+use Rattle.keys_audit.specs.Differences.{agrees, all_agree, are_clean, carries_all, enforces, facing_fits_by, facing_fits_if_read, facing_differences, fits_if_enforced, fits_if_read, is_clean, keys_follow, keys_follow_if_read, port_differences, tables_fit, tables_fit_if_read}
 use Rattle.audited_ports.specs.Held.{have_same_bases, have_same_keys}
 use Rattle.keys_audit.specs.Laws.{FacingWasRead, FitsAsRead, FitsIfEnforced, HasKeys, HaveBases, HaveSameBases, HaveSameKeys, IsRight, IsRightAsRead, OfEach, TheVerdictIsTrue, WasRead}
 use Rattle.keys_audit.specs.Text.{audit_of, counts_of, first_lines, later_lines, text_by, verdict, verdict_line}
-use Rattle.keys_audit.proofs.LawLemmas.{all_mean, by_fits, fits_by, mean_all, means_port, means_same, port_means, same_means, the_status_is_that_of_each_port}
+use Rattle.keys_audit.proofs.LawLemmas.{all_mean, by_fits, fits_by, lacking_none, mean_all, means_port, means_same, none_lacking, port_means, same_means, the_status_is_that_of_each_port}
 use Rattle.std.specs.List.{flat_map}
 
 -- ---- what was read of a port
@@ -50,11 +50,17 @@ means_facing (Some facing) adapter is = means_fits_by facing adapter facing.enfo
 
 read_means : (port : AuditedPort) → agrees port ≡ true → IsRightAsRead port
 read_means port is =
-    let parts = and_parts (keys_follow_if_read port.table port.file) (facing_fits_if_read port.facing port.table) is in
-    record { keys = keys_mean port.table port.file parts.0; bases = facing_mean port.facing port.table parts.1 }
+    let parts = and_parts (keys_follow_if_read port.table port.file) (facing_fits_if_read port.facing port.table && carries_all port) is in
+    let others = and_parts (facing_fits_if_read port.facing port.table) (carries_all port) parts.1 in
+    record {
+      keys = keys_mean port.table port.file parts.0;
+      bases = facing_mean port.facing port.table others.0;
+      trunks = none_lacking port.lacks others.1;
+    }
 
 means_read : (port : AuditedPort) → IsRightAsRead port → agrees port ≡ true
-means_read port is = rw (means_keys port.table port.file is.keys, means_facing port.facing port.table is.bases) refl
+means_read port is =
+    rw (means_keys port.table port.file is.keys, means_facing port.facing port.table is.bases) (lacking_none port is.trunks)
 
 -- ---- a port that is right was read, and what was read is right
 facing_was_read : (facing : Option FacingPort) (adapter : Option HeldKeys) → IfSome facing (λ (f : FacingPort). FitsIfEnforced f adapter)
@@ -94,10 +100,11 @@ facing_too (Some facing) adapter is = fits_too facing.enforcement facing.table a
 
 right_as_read : (port : AuditedPort) → IsRight port → IsRightAsRead port
 right_as_read port right =
-    let parts = and_parts (keys_follow port.table port.file) (facing_fits_by port.facing port.table) (means_port port right) in
+    let parts = and_parts (keys_follow port.table port.file) (facing_fits_by port.facing port.table && carries_all port) (means_port port right) in
+    let others = and_parts (facing_fits_by port.facing port.table) (carries_all port) parts.1 in
     let one = follow_too port.table port.file parts.0 in
-    let other = facing_too port.facing port.table parts.1 in
-    read_means port (rw (one, other) refl)
+    let other = facing_too port.facing port.table others.0 in
+    read_means port (rw (one, other) others.1)
 
 -- ---- and a port that was read, and of which what was read is right, is right
 keys_right : (table : Option HeldKeys) (file : List ℕ) → is_some table ≡ true → IfSome table (λ (held : HeldKeys). HaveSameKeys held.keys file) → HasKeys table file
@@ -124,6 +131,7 @@ all_right : (port : AuditedPort) → WasRead port → IsRightAsRead port → IsR
 all_right port was right = record {
   keys = keys_right port.table port.file was.table right.keys;
   bases = facing_right port.facing port.table was.table was.facing right.bases;
+  trunks = right.trunks;
 }
 
 -- ---- the three lines differ, in the letter at 9 or at 20

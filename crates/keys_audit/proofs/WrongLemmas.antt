@@ -1,5 +1,5 @@
 -- What wrong rules let pass, and what they refuse.
-use Rattle.std.proofs.Common.{◌≡◌, ◌∙◌, ap, ℕ, length, Bool, true, false, List, [], ◌∷◌, Option, Some, None, refl, sym}
+use Rattle.std.proofs.Common.{◌≡◌, ◌∙◌, ap, ℕ, ◌==◌, length, Bool, true, false, List, [], ◌∷◌, Option, Some, None, refl, sym}
 use Rattle.std.proofs.lemmas.Bool.{false≢true}
 use Rattle.std.proofs.lemmas.Option.{same_Some}
 use Rattle.pair_changes.specs.declared.pairs.Pair.{Pair}
@@ -10,10 +10,11 @@ use Rattle.audited_ports.specs.declared.port.AuditedPort.{AuditedPort}
 use Rattle.audited_ports.specs.declared.port.Enforcement.{Enforcement}
 use Rattle.audited_ports.specs.declared.port.FacingPort.{FacingPort}
 use Rattle.audited_ports.specs.declared.port.HeldKeys.{HeldKeys}
+use Rattle.audited_ports.specs.declared.port.TrunkLack.{TrunkLack}
 use Rattle.keys_audit.specs.Differences.{enforces}
 use Rattle.keys_audit.specs.Laws.{FitsIfEnforced, HasKeys, HasThoseAlone, HaveBases, IsRight, talk_by_file, talk_by_tables}
 use Rattle.keys_audit.specs.Standing.{only_by_file, only_by_tables}
-use Rattle.keys_audit.specs.WrongRules.{BasesAreNotEnough, BothMayTalk, EmptyPlacesAreNoKeys, GapsDoNotEndTheTable, LimitedMembersDoNotTalk, MissingKeysCount, OneDirectionCounts, OwnTablesAreNotEnough, SwitchPortsCount, UnreadPortsDoNotPass, UnreadSwitchPortsDoNotPass, UnreadTablesDoNotFollow, all_by_file, all_by_tables, members_by_file, members_by_tables}
+use Rattle.keys_audit.specs.WrongRules.{BasesAreNotEnough, BothMayTalk, EmptyPlacesAreNoKeys, GapsDoNotEndTheTable, LimitedMembersDoNotTalk, MissingKeysCount, OneDirectionCounts, OwnTablesAreNotEnough, SwitchPortsCount, TrunksCount, UnreadPortsDoNotPass, UnreadSwitchPortsDoNotPass, UnreadTablesDoNotFollow, all_by_file, all_by_tables, members_by_file, members_by_tables}
 use Rattle.keys_audit.proofs.PairLemmas.{pairs_of_tables_are_theirs, pairs_of_the_file_are_its}
 
 abbrev at : PortRef
@@ -34,6 +35,7 @@ port_with table file facing = record {
   file = file;
   opensms = file;
   facing = facing;
+  lacks = [];
 }
 
 abbrev nothing : {X : Type 0} → Option X
@@ -142,6 +144,19 @@ pub switch_ports_count : SwitchPortsCount
 switch_ports_count law =
     let on : Enforcement = record { inbound = true; outbound = true } in
     lacks_none on refl ((law (lacking on ∷ [])).follow.0 refl 0 (lacking on) refl)
+
+-- ---- a port between switches drops packets, and lacks a base
+abbrev trunk : AuditedPort
+trunk = record (port_with (Some (of (0x0001 ∷ []))) (0x0001 ∷ []) None) { lacks = (record { port = at; base = 1 }) ∷ [] }
+
+trunk_lacks : IsRight trunk → ⊥
+trunk_lacks right = false≢true (ap (λ (lacks : List TrunkLack). length lacks == 0) right.trunks)
+
+pub trunks_count : TrunksCount
+trunks_count = record {
+  status = λ law. trunk_lacks ((law trunk).0 refl);
+  line = λ law. trunk_lacks ((law (trunk ∷ [])).follow.0 refl 0 trunk refl);
+}
 
 -- ---- keys behind an empty place, and empty places
 pub gaps_do_not_end_the_table : GapsDoNotEndTheTable

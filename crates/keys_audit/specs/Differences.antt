@@ -93,7 +93,7 @@ abbrev pub facing_differences : AuditedPort → List Difference
 facing_differences port = facing_by port.facing port.table
 
 -- ---- the status: each end port was read and has the keys of the file, and each switch port that faces an adapter port was read and,
--- if it enforces, has the bases of the adapter port
+-- if it enforces, has the bases of the adapter port; and each port between switches that was read and enforces has the bases of the file
 abbrev pub keys_follow : Option HeldKeys → List ℕ → Bool
 keys_follow (Some table) file = have_same_keys table.keys file
 keys_follow None file = false
@@ -116,8 +116,12 @@ facing_fits_by None adapter = true
 abbrev pub facing_fits : AuditedPort → Bool
 facing_fits port = facing_fits_by port.facing port.table
 
+-- of port 0 of a switch: each port of the switch that leads to another switch and drops packets has every base that the file gives
+abbrev pub carries_all : AuditedPort → Bool
+carries_all port = length port.lacks == 0
+
 abbrev pub is_clean : AuditedPort → Bool
-is_clean port = follows_file port && facing_fits port
+is_clean port = follows_file port && (facing_fits port && carries_all port)
 
 abbrev pub are_clean : List AuditedPort → Bool
 are_clean ports = list_all is_clean ports
@@ -145,7 +149,7 @@ facing_fits_if_read (Some facing) adapter = fits_if_read facing.enforcement faci
 facing_fits_if_read None adapter = true
 
 abbrev pub agrees : AuditedPort → Bool
-agrees port = keys_follow_if_read port.table port.file && facing_fits_if_read port.facing port.table
+agrees port = keys_follow_if_read port.table port.file && (facing_fits_if_read port.facing port.table && carries_all port)
 
 abbrev pub all_agree : List AuditedPort → Bool
 all_agree ports = list_all agrees ports

@@ -5,6 +5,7 @@ use Rattle.pair_changes.specs.declared.pairs.Pair.{Pair}
 use Rattle.audited_ports.specs.declared.port.AuditedPort.{AuditedPort}
 use Rattle.audited_ports.specs.declared.port.HeldKeys.{HeldKeys}
 use Rattle.audited_ports.specs.Names.{key_word}
+use Rattle.keys_audit.specs.Apart.{are_many, pairs_by_file, pairs_of, wide_by, wide_line}
 use Rattle.keys_audit.specs.Diagnosis.{fell_open, is_another, is_limited}
 use Rattle.keys_audit.specs.Differences.{enforces, enforces_both, lacks_room}
 use Rattle.keys_audit.specs.Standing.{are_listed, pairs_text, stray_by}
@@ -33,6 +34,7 @@ with_table table = record {
   file = 0x8001 ∷ [];
   opensms = 0x8001 ∷ [];
   facing = None;
+  lacks = [];
 }
 
 abbrev pub holding : List ℕ → Option HeldKeys
@@ -78,3 +80,20 @@ pub record StraysAreReported : Type 0 where
   pub no_default_key : is_limited (holding (0x8001 ∷ [])) ≡ true
   pub full_key : is_limited (holding (0xffff ∷ [])) ≡ false
   pub unread : is_limited None ≡ false
+
+-- ---- partitions in which the file lets many pairs talk: at least half of all
+abbrev pub given : List ℕ → AuditedPort
+given file = record default { file = file }
+
+pub record WidePartitionsAreReported : Type 0 where
+  pub half : are_many 3 6 ≡ true
+  pub fewer : are_many 2 6 ≡ false
+  pub none : are_many 0 0 ≡ false
+  pub two : pairs_of 2 ≡ 1
+  pub four : pairs_of 4 ≡ 6
+  pub alone : pairs_of 1 ≡ 0
+  pub line : wide_by 0x7fff 6 6 ≡ wide_line 0x7fff 6 6
+  pub no_line : wide_by 0x7fff 2 6 ≡ []
+  -- by the file, whatever stands; two limited members may not talk, and a port that was not read is left out
+  pub pairs : pairs_by_file 1 (given (0x8001 ∷ []) ∷ given (1 ∷ []) ∷ given (1 ∷ []) ∷ given [] ∷ with_table None ∷ [])
+      ≡ record { first = port 0 1; second = port 0 1 } ∷ record { first = port 0 1; second = port 0 1 } ∷ []

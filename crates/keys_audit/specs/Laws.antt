@@ -1,5 +1,5 @@
 -- What the status of an audit means, its pairs and its last line.
-use Rattle.std.specs.Prelude.{ℕ, ◌≡◌, ◌↔◌, Bool, true, false, not, ◌&&◌, List, ◌++◌, codes, flat_map, replicate, slice_get, is_some, Some, IfSome, Option}
+use Rattle.std.specs.Prelude.{ℕ, ◌≡◌, ◌↔◌, Bool, true, false, not, ◌&&◌, List, [], ◌++◌, codes, flat_map, replicate, slice_get, is_some, Some, IfSome, Option}
 use Rattle.std.specs.List.{count_by, list_all}
 use Rattle.std.specs.Str.Iter.{HasSubslice}
 use Rattle.pair_changes.specs.declared.pairs.Pair.{Pair}
@@ -12,12 +12,13 @@ use Rattle.audited_ports.specs.declared.port.AuditedPort.{AuditedPort}
 use Rattle.audited_ports.specs.declared.port.Enforcement.{Enforcement}
 use Rattle.audited_ports.specs.declared.port.FacingPort.{FacingPort}
 use Rattle.audited_ports.specs.declared.port.HeldKeys.{HeldKeys}
+use Rattle.audited_ports.specs.declared.port.TrunkLack.{TrunkLack}
 use Rattle.keys_audit.specs.declared.differences.Difference.{Difference}
 use Rattle.keys_audit.specs.declared.differences.DifferenceKind.TheVariants.{Off}
 use Rattle.keys_audit.specs.Differences.{are_clean, enforces, facing_differences, port_differences}
 use Rattle.audited_ports.specs.Held.{have_same_keys, held, is_key}
 use Rattle.keys_audit.specs.Standing.{only_by_file, only_by_tables}
-use Rattle.keys_audit.specs.Text.{are_off, audit_of, count_of, difference_line, is_faced, is_unread, moved_line, unread_line, verdict}
+use Rattle.keys_audit.specs.Text.{are_off, audit_of, count_of, difference_line, is_faced, is_unread, moved_line, trunk_line, unread_line, verdict}
 
 -- every key is in both lists or in none
 abbrev pub HaveSameKeys : List ℕ → List ℕ → Type 0
@@ -47,10 +48,12 @@ pub record FitsIfEnforced (facing : FacingPort) (adapter : Option HeldKeys) : Ty
   pub read : facing.enforcement ≡ Some enforcement
   pub bases : enforces enforcement ≡ true → HaveBases facing.table adapter
 
--- the port was read and has exactly the keys of the file, and the switch port that faces it fits
+-- the port was read and has exactly the keys of the file, and the switch port that faces it fits; and if it is a switch's, its ports to other
+-- switches that drop packets lack nothing
 pub record IsRight (port : AuditedPort) : Type 0 where
   pub keys : HasKeys port.table port.file
   pub bases : IfSome port.facing (λ (facing : FacingPort). FitsIfEnforced facing port.table)
+  pub trunks : port.lacks ≡ []
 
 -- a rule passes the ports that are right, and no others
 abbrev pub PassesTheRight : (AuditedPort → Bool) → Type 0
@@ -115,6 +118,7 @@ FitsAsRead facing adapter =
 pub record IsRightAsRead (port : AuditedPort) : Type 0 where
   pub keys : IfSome port.table (λ (held : HeldKeys). HaveSameKeys held.keys port.file)
   pub bases : IfSome port.facing (λ (facing : FacingPort). FitsAsRead facing port.table)
+  pub trunks : port.lacks ≡ []
 
 -- each of the three lines is printed if and only if it is true
 pub record SaysWhatWasRead (line : List AuditedPort → List ℕ) (ports : List AuditedPort) : Type 0 where
@@ -138,12 +142,13 @@ pub record TheVerdictIsTrue : Type 0 where
 
 -- ---- the lines
 -- the text says all that is wrong of a port: by which keys it differs, how the switch port that faces it does, if any of these drops
--- packets, that it was not read, or that its LID moved
+-- packets, what its ports to other switches lack, that it was not read, or that its LID moved
 pub record SaysAllOf (text : List ℕ) (nodes : List Node) (ports : List AuditedPort) (port : AuditedPort) : Type 0 where
   pub keys : (number : ℕ) (difference : Difference) → slice_get (port_differences port) number ≡ Some difference
       → HasSubslice text (difference_line nodes difference)
   pub switch_port : (number : ℕ) (difference : Difference) → slice_get (facing_differences port) number ≡ Some difference
       → are_off (count_by is_faced ports) (count_of Off (flat_map facing_differences ports)) ≡ false → HasSubslice text (difference_line nodes difference)
+  pub trunks : (number : ℕ) (lack : TrunkLack) → slice_get port.lacks number ≡ Some lack → HasSubslice text (trunk_line nodes lack)
   pub unread : is_unread port ≡ true → HasSubslice text (unread_line nodes port.port)
   pub moved : (guid : ℕ) → port.moved ≡ Some guid → HasSubslice text (moved_line nodes port guid)
 

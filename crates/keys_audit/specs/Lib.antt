@@ -2,6 +2,7 @@ pub mod Differences
 pub mod Standing
 pub mod Cuts
 pub mod Diagnosis
+pub mod Apart
 pub mod Text
 pub mod Laws
 pub mod WrongRules

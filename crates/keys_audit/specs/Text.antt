@@ -13,6 +13,8 @@ use Rattle.keys_audit.specs.declared.differences.Difference.{Difference}
 use Rattle.keys_audit.specs.declared.differences.DifferenceKind.{DifferenceKind}
 use Rattle.keys_audit.specs.declared.differences.DifferenceKind.TheVariants.{Extra, Missing, Membership, Full, Off, Half, Lacks, More, UnreadSwitchPort}
 use Rattle.audited_ports.specs.declared.port.AuditedPort.{AuditedPort}
+use Rattle.audited_ports.specs.declared.port.TrunkLack.{TrunkLack}
+use Rattle.keys_audit.specs.Apart.{wide_lines}
 use Rattle.keys_audit.specs.Cuts.{cut_lines}
 use Rattle.keys_audit.specs.Diagnosis.{diagnosis, is_another, open_line}
 use Rattle.keys_audit.specs.Differences.{all_agree, are_clean, facing_differences, follows_file, is_of_key, port_differences}
@@ -47,6 +49,13 @@ unfoldable pub difference_line : List Node → Difference → List ℕ
 difference_line nodes difference =
     kind_word difference.kind ++ port_text nodes difference.port ++ (if difference.key == 0 then [] else key_word difference.key)
     ++ opensm_words difference.is_opensms ++ 10 ∷ []
+
+-- ---- ports between switches: `trunk spine/3 lacks 0x0103`
+unfoldable pub trunk_line : List Node → TrunkLack → List ℕ
+trunk_line nodes lack = codes "trunk " ++ port_text nodes lack.port ++ codes " lacks" ++ key_word lack.base ++ 10 ∷ []
+
+unfoldable pub trunk_lines : List Node → AuditedPort → List ℕ
+trunk_lines nodes port = flat_map (trunk_line nodes) port.lacks
 
 -- ---- ports that are not judged
 abbrev pub is_unread : AuditedPort → Bool
@@ -159,8 +168,9 @@ first_lines nodes all ports keys =
 
 unfoldable pub later_lines : List Node → List AuditedPort → List Partition → List Difference → List ℕ
 later_lines nodes ports partitions switches =
-    switch_lines nodes ports switches ++ flat_map (cut_lines nodes ports) ports ++ flat_map (moved_lines nodes) ports ++ flat_map (unread_lines nodes) ports
-    ++ strangers nodes ports partitions
+    switch_lines nodes ports switches ++ flat_map (cut_lines nodes ports) ports ++ flat_map (trunk_lines nodes) ports
+    ++ flat_map (moved_lines nodes) ports ++ flat_map (unread_lines nodes) ports ++ strangers nodes ports partitions
+    ++ wide_lines ports
 
 unfoldable pub counts_of : List AuditedPort → List Difference → List Difference → List ℕ
 counts_of ports keys switches = ports_line ports ++ keys_line keys ++ switch_ports_line ports switches ++ bases_line switches

@@ -11,11 +11,11 @@ use Rattle.audited_ports.specs.declared.port.AuditedPort.{AuditedPort}
 use Rattle.audited_ports.specs.declared.port.Enforcement.{Enforcement}
 use Rattle.audited_ports.specs.declared.port.FacingPort.{FacingPort}
 use Rattle.audited_ports.specs.declared.port.HeldKeys.{HeldKeys}
-use Rattle.keys_audit.specs.Differences.{all_agree, enforces_both, facing_differences, facing_fits, fits_if_enforced, follows_file, is_clean, keys_follow_if_read, port_differences, tables_fit}
+use Rattle.keys_audit.specs.Differences.{all_agree, carries_all, enforces_both, facing_differences, facing_fits, facing_fits_if_read, fits_if_enforced, follows_file, is_clean, keys_follow_if_read, port_differences, tables_fit}
 use Rattle.audited_ports.specs.Held.{all_held, have_same_bases, is_key}
 use Rattle.keys_audit.specs.Laws.{FindsTheKeys, HasThoseAlone, IsTrueVerdict, PassesTheRight, PrintsAll, talk_by_file, talk_by_tables}
 use Rattle.keys_audit.specs.Standing.{standing, turned}
-use Rattle.keys_audit.specs.Text.{counts_of, difference_line, verdict, verdict_line}
+use Rattle.keys_audit.specs.Text.{counts_of, difference_line, unread_lines, verdict, verdict_line}
 use Rattle.partition_file.specs.declared.partition.Partition.{Partition}
 use Rattle.topo_file.specs.declared.node.Node.{Node}
 
@@ -25,7 +25,7 @@ same_bases_stand (Some table) file = have_same_bases table.keys file
 same_bases_stand None file = false
 
 abbrev pub by_bases : AuditedPort → Bool
-by_bases port = same_bases_stand port.table port.file && facing_fits port
+by_bases port = same_bases_stand port.table port.file && (facing_fits port && carries_all port)
 
 abbrev pub BasesAreNotEnough : Type 0
 BasesAreNotEnough = PassesTheRight by_bases → ⊥
@@ -36,7 +36,7 @@ all_are_given (Some table) file = all_held table.keys file
 all_are_given None file = false
 
 abbrev pub without_missing : AuditedPort → Bool
-without_missing port = all_are_given port.table port.file && facing_fits port
+without_missing port = all_are_given port.table port.file && (facing_fits port && carries_all port)
 
 abbrev pub MissingKeysCount : Type 0
 MissingKeysCount = PassesTheRight without_missing → ⊥
@@ -54,7 +54,7 @@ fits_or_unread (Some facing) adapter = is_none facing.enforcement || fits_if_enf
 fits_or_unread None adapter = true
 
 abbrev pub with_unread_switch : AuditedPort → Bool
-with_unread_switch port = follows_file port && fits_or_unread port.facing port.table
+with_unread_switch port = follows_file port && (fits_or_unread port.facing port.table && carries_all port)
 
 abbrev pub UnreadSwitchPortsDoNotPass : Type 0
 UnreadSwitchPortsDoNotPass = PassesTheRight with_unread_switch → ⊥
@@ -69,14 +69,31 @@ facing_fits_both (Some facing) adapter = fits_if_both facing.enforcement facing.
 facing_fits_both None adapter = true
 
 abbrev pub with_both : AuditedPort → Bool
-with_both port = follows_file port && facing_fits_both port.facing port.table
+with_both port = follows_file port && (facing_fits_both port.facing port.table && carries_all port)
 
 abbrev pub OneDirectionCounts : Type 0
 OneDirectionCounts = PassesTheRight with_both → ⊥
 
--- ---- switch ports are not looked at
+-- ---- switch ports that face adapter ports are not looked at
+abbrev pub own_alone : AuditedPort → Bool
+own_alone port = follows_file port && carries_all port
+
 abbrev pub OwnTablesAreNotEnough : Type 0
-OwnTablesAreNotEnough = PassesTheRight follows_file → ⊥
+OwnTablesAreNotEnough = PassesTheRight own_alone → ⊥
+
+-- ---- ports between switches are not looked at, by the status or by the last line
+abbrev pub without_trunks : AuditedPort → Bool
+without_trunks port = follows_file port && facing_fits port
+
+abbrev pub agrees_without_trunks : AuditedPort → Bool
+agrees_without_trunks port = keys_follow_if_read port.table port.file && facing_fits_if_read port.facing port.table
+
+abbrev pub verdict_without_trunks : List AuditedPort → List ℕ
+verdict_without_trunks ports = verdict_line (list_all without_trunks ports) (list_all agrees_without_trunks ports)
+
+pub record TrunksCount : Type 0 where
+  pub status : PassesTheRight without_trunks → ⊥
+  pub line : IsTrueVerdict verdict_without_trunks → ⊥
 
 -- ---- two limited members may talk
 abbrev pub as_full : Membership → Membership
@@ -117,10 +134,10 @@ UnreadTablesDoNotFollow = IsTrueVerdict verdict_of_read → ⊥
 
 -- ---- a switch port that drops packets is left out of the last line
 abbrev pub end_agrees : AuditedPort → Bool
-end_agrees port = keys_follow_if_read port.table port.file
+end_agrees port = keys_follow_if_read port.table port.file && carries_all port
 
 abbrev pub verdict_of_ends : List AuditedPort → List ℕ
-verdict_of_ends ports = verdict_line (list_all follows_file ports) (list_all end_agrees ports)
+verdict_of_ends ports = verdict_line (list_all own_alone ports) (list_all end_agrees ports)
 
 abbrev pub SwitchPortsCount : Type 0
 SwitchPortsCount = IsTrueVerdict verdict_of_ends → ⊥
@@ -150,3 +167,10 @@ only_differences nodes all ports partitions = flat_map (difference_line nodes) (
 
 abbrev pub UnreadPortsArePrinted : Type 0
 UnreadPortsArePrinted = PrintsAll only_differences → ⊥
+
+-- ---- differences and ports that were not read are printed alone, and nothing of ports between switches
+abbrev pub only_ends : List Node → (all : Bool) → List AuditedPort → List Partition → List ℕ
+only_ends nodes all ports partitions = flat_map (unread_lines nodes) ports ++ only_differences nodes all ports partitions
+
+abbrev pub TrunksArePrinted : Type 0
+TrunksArePrinted = PrintsAll only_ends → ⊥

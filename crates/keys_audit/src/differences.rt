@@ -3,7 +3,7 @@
 ghost use Rattle.std.specs.Prelude.{◌≡◌, ◌++◌, Some, map, IfOk, OnOk};
 ghost use Rattle.pkey_rules.specs.PKey.{base_of};
 ghost use Rattle.std.specs.List.{flat_map, list_any};
-ghost use Rattle.keys_audit.specs.Differences.{agrees, all_agree, facing_fits_if_read, fits_if_read, keys_follow_if_read, tables_fit_if_read};
+ghost use Rattle.keys_audit.specs.Differences.{agrees, all_agree, carries_all, facing_fits_if_read, fits_if_read, keys_follow_if_read, tables_fit_if_read};
 ghost use Rattle.keys_audit.specs.Differences.{are_clean, bases_by, bases_with, differences_by, differences_with, each, enforced_by, enforces, enforces_both, is_by_opensm, is_of_key};
 ghost use Rattle.keys_audit.specs.Differences.{facing_differences, facing_fits, fits_if_enforced, follows_file, is_clean, lacks_room, noted, noted_if, port_differences, tables_fit};
 
@@ -338,10 +338,16 @@ fn facing_fits(port: &AuditedPort) -> bool
     }
 }
 
+fn carries_all(port: &AuditedPort) -> bool
+    ensures { result ≡ carries_all port.now }
+{
+    port.lacks.as_slice().is_empty()
+}
+
 fn is_clean(port: &AuditedPort) -> bool
     ensures { result ≡ is_clean port.now }
 {
-    follows_file(port) && facing_fits(port)
+    follows_file(port) && facing_fits(port) && carries_all(port)
 }
 
 /// Whether one of these differences is of a key or of a base.
@@ -399,7 +405,9 @@ fn facing_fits_if_read(port: &AuditedPort) -> bool
 fn agrees(port: &AuditedPort) -> bool
     ensures { result ≡ agrees port.now }
 {
-    keys_follow_if_read(&port.table, port.file.as_slice()) && facing_fits_if_read(port)
+    keys_follow_if_read(&port.table, port.file.as_slice())
+        && facing_fits_if_read(port)
+        && carries_all(port)
 }
 
 /// Whether all that was read is as the file, whatever was not read.

@@ -1,6 +1,6 @@
 //! Edges of what is said of tables, computed. Each function does nothing: its contract is the example.
 
-ghost use Rattle.keys_audit.specs.Examples.{DirectionsAreRead, DroppedFilesAreSeen, ManyPairsAreCounted, StraysAreReported};
+ghost use Rattle.keys_audit.specs.Examples.{DirectionsAreRead, DroppedFilesAreSeen, ManyPairsAreCounted, StraysAreReported, WidePartitionsAreReported};
 
 /// How many pairs of a partition are listed.
 pub fn many_pairs_are_counted()
@@ -20,4 +20,9 @@ pub fn directions_are_read()
 /// Partitions of the tables or the file alone, and tables without room.
 pub fn strays_are_reported()
     ensures { StraysAreReported }
+{}
+
+/// Partitions in which the file lets many pairs talk.
+pub fn wide_partitions_are_reported()
+    ensures { WidePartitionsAreReported }
 {}

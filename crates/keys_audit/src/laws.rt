@@ -3,8 +3,8 @@
 ghost use Rattle.keys_audit.specs.Differences.{is_clean};
 ghost use Rattle.keys_audit.specs.Laws.{AllDifferencesArePrinted, PairsOfTablesAreTheirs, PairsOfTheFileAreIts, PassesTheRight, TablesThatFollowAreClean, TheStatusIsThatOfEachPort, TheVerdictIsTrue};
 
-/// A port passes if and only if it was read and has exactly the keys of the file, and the switch port that faces it was read and,
-/// if it enforces, has exactly its bases.
+/// A port passes if and only if it was read and has exactly the keys of the file, the switch port that faces it was read and, if it
+/// enforces, has exactly its bases, and ports of its switch to other switches that enforce lack no base of the file.
 pub fn the_right_ports_pass()
     ensures { PassesTheRight is_clean }
 {}
@@ -38,7 +38,7 @@ pub fn tables_that_follow_are_clean()
 {}
 
 /// The text has a line for each key by which a port differs from the file; for each difference of a switch port, unless none of these
-/// drops packets; for each port that was not read; and for each whose LID moved.
+/// drops packets; for each base that a port between switches lacks; for each port that was not read; and for each whose LID moved.
 pub fn all_differences_are_printed()
     ensures { AllDifferencesArePrinted }
 {}

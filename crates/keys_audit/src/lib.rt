@@ -1,6 +1,7 @@
 //! P_Key tables that stand in a live fabric, compared with the partition file that they should follow.
 #![tactic(auto)]
 
+mod apart;
 mod cuts;
 mod diagnosis;
 mod differences;
@@ -9,6 +10,7 @@ mod laws;
 mod outcome;
 mod standing;
 mod text;
+mod trunks;
 mod wrong_rules;
 
 pub use crate::differences::{Difference, DifferenceKind};

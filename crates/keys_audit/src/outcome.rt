@@ -28,7 +28,8 @@ impl KeysAudit {
     }
 
     /// Whether each end port was read and holds exactly the keys of the file, and each switch port that faces an adapter port was
-    /// read and, if it enforces, has exactly the bases of that port.
+    /// read and, if it enforces, has exactly the bases of that port; and each port between switches that was read and enforces has every
+    /// base that the file gives an end port.
     pub fn is_clean(&self) -> bool
         ensures { result ≡ self.now.is_clean }
     {

@@ -120,7 +120,7 @@ fn given_count(base: u16, ports: &[AuditedPort]) -> usize
 }
 
 /// Adds a number in decimal digits.
-fn push_count(text: &mut Vec<u8>, count: u128) -> Result<(), AllocError>
+pub(crate) fn push_count(text: &mut Vec<u8>, count: u128) -> Result<(), AllocError>
     ensures { OnOk result (text.new.items ≡ text.old.items ++ decimal count) }
 {
     let mut buffer = Buffer::new();

@@ -8,6 +8,7 @@ ghost use Rattle.keys_audit.specs.Text.{first_lines, half_part, keys_audit, keys
 ghost use Rattle.keys_audit.specs.Text.{switch_lines, switch_ports_line, unread_lines, unread_part, verdict_line};
 ghost use Rattle.keys_audit.specs.declared.differences.DifferenceKind.TheVariants.{Full};
 
+use crate::apart::push_wide_lines;
 use crate::cuts::push_cuts;
 use crate::diagnosis::{is_another, push_diagnosis, push_open_line};
 use crate::differences::{
@@ -16,6 +17,7 @@ use crate::differences::{
 };
 use crate::outcome::KeysAudit;
 use crate::standing::{Listing, push_pair_changes, rising_bases, strays};
+use crate::trunks::push_trunks;
 use audited_ports::{AuditedPort, ports_of_files, push_key, push_port, push_strangers};
 use netdiscover_file::Discovery;
 use partition_file::{Partitions, no_file};
@@ -347,9 +349,12 @@ fn push_later_lines(
     let (nodes, ports) = (listing.nodes, listing.ports);
     push_switches(text, nodes, ports, switches)?;
     push_cuts(alloc, text, listing)?;
+    push_trunks(text, nodes, ports)?;
     push_moved(text, nodes, ports)?;
     push_unread(text, nodes, ports)?;
-    push_strangers(alloc, text, nodes, ports, partitions)
+    push_strangers(alloc, text, nodes, ports, partitions)?;
+    let bases = rising_bases(alloc, ports)?;
+    push_wide_lines(alloc, text, ports, &bases)
 }
 
 #[tactic(auto, unfolding(crate::specs::Text::counts_of))]
@@ -404,8 +409,9 @@ fn audit_of(
 ///
 /// The discovery and the answers are of the same fabric as the topology, which gives the names and the port of the subnet
 /// manager. What is printed is stated in `specs/Text.antt`: diagnoses, who may talk by the tables alone or by the file alone, the
-/// keys in which tables of end ports differ, how switch ports that face adapter ports differ from them, ports that are not
-/// judged, GUIDs of the file that no port has, counts and the verdict. `all` asks for each pair of a partition, however many. Time
+/// keys in which tables of end ports differ, how switch ports that face adapter ports differ from them, what ports between switches
+/// lack, ports that are not judged, GUIDs of the file that no port has, in which partitions the file lets most pairs talk, counts and
+/// the verdict. `all` asks for each pair of a partition, however many. Time
 /// is linear in the ports times the keys of a table squared, in the ports times the lists of the file, and in the ports times
 /// their keys times the partitions; and quadratic in the ports of a partition of which pairs are listed.
 pub fn audit_keys(

@@ -1,7 +1,7 @@
 //! Wrong rules for the status, the pairs, the lines and the last of them, each refused by a law. The functions do nothing: each
 //! contract says that with this rule the law is false.
 
-ghost use Rattle.keys_audit.specs.WrongRules.{BasesAreNotEnough, MissingKeysCount, OneDirectionCounts, OwnTablesAreNotEnough, UnreadPortsDoNotPass, UnreadSwitchPortsDoNotPass};
+ghost use Rattle.keys_audit.specs.WrongRules.{BasesAreNotEnough, TrunksArePrinted, TrunksCount, MissingKeysCount, OneDirectionCounts, OwnTablesAreNotEnough, UnreadPortsDoNotPass, UnreadSwitchPortsDoNotPass};
 ghost use Rattle.keys_audit.specs.WrongRules.{BothMayTalk, EmptyPlacesAreNoKeys, GapsDoNotEndTheTable, DifferencesArePrinted, LimitedMembersDoNotTalk, SwitchPortsCount, UnreadPortsArePrinted, UnreadTablesDoNotFollow};
 
 /// Membership is ignored.
@@ -32,6 +32,11 @@ pub fn one_direction_counts()
 /// Switch ports are ignored.
 pub fn own_tables_are_not_enough()
     ensures { OwnTablesAreNotEnough }
+{}
+
+/// Ports between switches are ignored.
+pub fn trunks_count()
+    ensures { TrunksCount }
 {}
 
 /// Two limited members may talk.
@@ -72,4 +77,9 @@ pub fn differences_are_printed()
 /// No line says that a port was not read.
 pub fn unread_ports_are_printed()
     ensures { UnreadPortsArePrinted }
+{}
+
+/// What ports between switches lack is not printed.
+pub fn trunks_are_printed()
+    ensures { TrunksArePrinted }
 {}

@@ -7,3 +7,4 @@ pub mod SameLemmas
 pub mod ShareReportedLemmas
 pub mod ReportedLemmas
 pub mod WrongLemmas
+pub mod NearMemberLemmas

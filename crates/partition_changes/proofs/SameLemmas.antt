@@ -21,7 +21,7 @@ use Rattle.partition_changes.proofs.ShareReportedLemmas.{alike, shares_are_repor
 abbrev IsOwn : {X : Type 0} → (X → X → Bool) → Change X → Type 0
 IsOwn same change = same change.what change.what ≡ true
 
-own_always : {X : Type 0} (same : X → X → Bool) → ((x : X) → same x x ≡ true) → (changes : List (Change X)) → AllByRecursion (IsOwn same) changes
+pub own_always : {X : Type 0} (same : X → X → Bool) → ((x : X) → same x x ≡ true) → (changes : List (Change X)) → AllByRecursion (IsOwn same) changes
 own_always same own [] = tt
 own_always same own (change ∷ changes) = (own change.what, own_always same own changes)
 
@@ -54,7 +54,7 @@ equal false true e f = sym f
 equal false false e f = refl
 
 -- nothing of the kind is printed if and only if both say the same of it
-kind : {X : Type 0} (same : X → X → Bool) (was becomes : X → Bool) (changes : List (Change X)) → ReportWhatChanges same was becomes changes → AllByRecursion (IsOwn same) changes
+pub kind : {X : Type 0} (same : X → X → Bool) (was becomes : X → Bool) (changes : List (Change X)) → ReportWhatChanges same was becomes changes → AllByRecursion (IsOwn same) changes
     → changes ≡ [] ↔ ((x : X) → was x ≡ becomes x)
 kind same was becomes changes reported own = (
   (λ none x. equal (was x) (becomes x) (none_if (was x && not (becomes x)) (sym (reported.gone x) ∙ ap (goings same x) none))
@@ -67,7 +67,7 @@ kind same was becomes changes reported own = (
 own_partition : (x : ℕ × Heading) → same_partition x x ≡ true
 own_partition x = same_if x x (refl, (refl, refl))
 
-own_member : (x : SubnetPort × ℕ) → same_member x x ≡ true
+pub own_member : (x : SubnetPort × ℕ) → same_member x x ≡ true
 own_member x = and_from (x.0.guid == x.0.guid) (x.1 == x.1) (eq-eqb x.0.guid x.0.guid refl) (eq-eqb x.1 x.1 refl)
 
 own_share : (x : Share) → same_share x x ≡ true
@@ -135,7 +135,7 @@ within : (a b c : Bool) → (a ≡ true → b ≡ c) → (a && b) ≡ (a && c)
 within true b c f = f refl
 within false b c f = refl
 
-without : (a b c : Bool) → (a && b) ≡ (a && c) → a ≡ true → b ≡ c
+pub without : (a b c : Bool) → (a && b) ≡ (a && c) → a ≡ true → b ≡ c
 without true b c e f = e
 without false b c e f = absurd (false≢true f)
 

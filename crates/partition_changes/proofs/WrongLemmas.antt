@@ -33,17 +33,17 @@ too_many same was becomes changes right x goes wrong =
     omega (arith, once, one, doubled same x changes)
 
 -- ---- a partition that goes, with its group
-abbrev a_partition : Heading
+abbrev pub a_partition : Heading
 a_partition = record { base = 1; name = []; group = Some (record { rate = 3; mtu = 4; service_level = 0; scope = 2; q_key = 1 }) }
 
 -- ---- two ports that lose it
-abbrev port_with : ℕ → List ℕ → SubnetPort
+abbrev pub port_with : ℕ → List ℕ → SubnetPort
 port_with guid keys = record a_port { guid = guid; keys = keys }
 
-abbrev two_ports : List ℕ → List SubnetPort
+abbrev pub two_ports : List ℕ → List SubnetPort
 two_ports keys = port_with 1 keys ∷ port_with 2 keys ∷ []
 
-same_two : AreSamePorts (two_ports (0x8001 ∷ [])) (two_ports [])
+pub same_two : AreSamePorts (two_ports (0x8001 ∷ [])) (two_ports [])
 unfolding IsDistinct
 same_two = record { same = refl; own = ((refl, tt), (tt, tt)) }
 

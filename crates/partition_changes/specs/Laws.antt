@@ -1,5 +1,5 @@
 -- What goes is what was said and is said no more; what comes is what was not said before.
-use Rattle.std.specs.Prelude.{ℕ, ◌≡◌, ◌↔◌, Bool, true, false, not, ◌==◌, ◌&&◌, if◌then◌else◌, List, [], ◌∷◌, ◌++◌, Option, Some, None, map}
+use Rattle.std.specs.Prelude.{ℕ, ◌≡◌, ◌↔◌, Bool, true, false, not, ◌==◌, ◌&&◌, if◌then◌else◌, List, [], ◌∷◌, ◌++◌, Option, Some, None, map, All}
 use Rattle.std.specs.List.{IsDistinct, count_by, list_any, zip}
 use Rattle.std.specs.Option.{option_map_or}
 use Rattle.partition_changes.specs.Changes.{Change, bases_named, change_of_member_line, changes_text, group_changes, group_line, grouped, member_changes, member_of, partition_changes, partition_line, partition_of, same_group, same_member, same_partition, same_share, share_changes, text_of_changes}
@@ -8,6 +8,7 @@ use Rattle.partition_file.specs.declared.heading.Heading.{Heading}
 use Rattle.pkey_rules.specs.PKey.{base_of}
 use Rattle.port_shares.specs.Shares.{Share, share_line, shares}
 use Rattle.subnet_model.specs.Configuration.{ConfigurationState}
+use Rattle.subnet_model.specs.Configured.{HoldsKnownKeys}
 use Rattle.subnet_model.specs.Near.{is_near}
 use Rattle.subnet_model.specs.declared.subnet_port.SubnetPort.{SubnetPort}
 
@@ -100,6 +101,21 @@ abbrev pub NearStaysWhereNoShareIsReported : Type 0
 NearStaysWhereNoShareIsReported =
     (before after : List SubnetPort) → AreSamePorts before after → share_changes (zip before after) ≡ []
     → (p q : ℕ) → is_near before p q ≡ is_near after p q
+
+-- each port has at most one key of each partition of its subnet, and no other: so has every subnet that is brought up
+abbrev pub HasKnownKeys : ConfigurationState → Type 0
+HasKnownKeys subnet = All (HoldsKnownKeys subnet.partitions) subnet.ports
+
+-- if no member of the partitions with these bases is printed, whoever was near a port is near it still, and nobody else is
+abbrev pub NearStaysBy : ((before after : List Heading) → List ℕ) → Type 0
+NearStaysBy bases =
+    (before after : ConfigurationState) → AreSamePorts before.ports after.ports → HasKnownKeys before → HasKnownKeys after
+    → member_changes (bases before.partitions after.partitions) (zip before.ports after.ports) ≡ []
+    → (p q : ℕ) → is_near before.ports p q ≡ is_near after.ports p q
+
+-- those of both files are printed, one by one, however many ports there are
+abbrev pub NearStaysWhereNoMemberIsReported : Type 0
+NearStaysWhereNoMemberIsReported = NearStaysBy bases_named
 
 -- ---- what counts as the same: the fields that are compared, and no others
 abbrev pub IsShownAlike : Option BroadcastGroup → Option BroadcastGroup → Type 0

@@ -1,8 +1,8 @@
--- A wrong rule for changes, and the laws that it breaks.
-use Rattle.std.specs.Prelude.{◌&&◌, List, [], ◌∷◌}
+-- Wrong rules for changes, and the laws that they break.
+use Rattle.std.specs.Prelude.{ℕ, ◌&&◌, List, [], ◌∷◌}
 use Rattle.std.specs.List.{flat_map, zip}
-use Rattle.partition_changes.specs.Changes.{Change, bases_named, group_changes, member_changes, partition_changes, same_group, same_member, same_partition, same_share, share_changes}
-use Rattle.partition_changes.specs.Laws.{AreSamePorts, ReportWhatChanges, has_group, has_member, has_partition, has_share, is_of}
+use Rattle.partition_changes.specs.Changes.{Change, bases_named, group_changes, member_changes, partition_changes, rising_bases, same_group, same_member, same_partition, same_share, share_changes}
+use Rattle.partition_changes.specs.Laws.{AreSamePorts, NearStaysBy, ReportWhatChanges, has_group, has_member, has_partition, has_share, is_of}
 use Rattle.partition_file.specs.declared.heading.Heading.{Heading}
 use Rattle.subnet_model.specs.declared.subnet_port.SubnetPort.{SubnetPort}
 
@@ -22,3 +22,10 @@ pub record TwiceIsNotOnce : Type 0 where
       (twice (member_changes (bases_named headings others) (zip before after)))) → ⊥
   pub shares : ((before after : List SubnetPort) → AreSamePorts before after
       → ReportWhatChanges same_share (has_share before) (has_share after) (twice (share_changes (zip before after)))) → ⊥
+
+-- members are printed of the partitions of the second file alone: then those of a partition that goes are not
+abbrev pub later_bases : (before after : List Heading) → List ℕ
+later_bases before after = rising_bases after
+
+abbrev pub TheSecondFileAloneIsNotEnough : Type 0
+TheSecondFileAloneIsNotEnough = NearStaysBy later_bases → ⊥

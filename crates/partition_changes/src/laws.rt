@@ -1,6 +1,6 @@
 //! What changes say, over the definitions alone. The functions do nothing: their contracts are the laws.
 
-ghost use Rattle.partition_changes.specs.Laws.{GroupsAreReported, LinesAreSigned, MembersAreReported, NearStaysWhereNoShareIsReported, NothingIsReportedOfTheSame, PartitionsAreReported, SameIsWhatIsCompared, SharesAreReported};
+ghost use Rattle.partition_changes.specs.Laws.{GroupsAreReported, LinesAreSigned, MembersAreReported, NearStaysWhereNoMemberIsReported, NearStaysWhereNoShareIsReported, NothingIsReportedOfTheSame, PartitionsAreReported, SameIsWhatIsCompared, SharesAreReported};
 
 /// A partition with its number and name goes once if it was there before and is not after, and else not at all; it comes
 /// the other way round.
@@ -32,6 +32,12 @@ pub fn nothing_is_reported_of_the_same()
 /// If no share is printed, each port has those near it that it had before, and no others.
 pub fn near_stays_where_no_share_is_reported()
     ensures { NearStaysWhereNoShareIsReported }
+{}
+
+/// If no member is printed, each port has those near it that it had before, and no others, in a subnet of any size. Of each subnet the
+/// ports have at most one key of each of its partitions, and no other, as in every one that is brought up.
+pub fn near_stays_where_no_member_is_reported()
+    ensures { NearStaysWhereNoMemberIsReported }
 {}
 
 /// Two partitions, groups, members or shares count as the same if and only if these are equal: number, base and name; base
