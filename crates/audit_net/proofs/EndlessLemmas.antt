@@ -59,6 +59,20 @@ in_kept p k (x ∷ xs) passes there = elim (cases_Bool (x == k)) [
   ]
 ]
 
+pub some_of : (p : ℕ → Bool) (xs : List ℕ) → list_any p xs ≡ true → (x : ℕ) × (p x ≡ true) × (list_any (λ y. y == x) xs ≡ true)
+some_of p [] some = absurd (false≢true some)
+some_of p (x ∷ xs) some = elim (cases_Bool (p x)) [
+  | inl here ↦ (x, here, let same : (x == x) ≡ true = eq-eqb x x refl in rw same refl)
+  | inr other ↦ let rest = some_of p xs (rw other at some) in (rest.0, rest.1, or_right (x == rest.0) _ rest.2)
+]
+
+pub any_of : (p : ℕ → Bool) (xs : List ℕ) (x : ℕ) → list_any (λ y. y == x) xs ≡ true → p x ≡ true → list_any p xs ≡ true
+any_of p [] x there passes = absurd (false≢true there)
+any_of p (y ∷ ys) x there passes = elim (cases_Bool (y == x)) [
+  | inl here ↦ let same : x ≡ y = grind (arith, nat_tests, here) in let now : p y ≡ true = ap p (sym same) ∙ passes in rw now refl
+  | inr other ↦ or_right (p y) _ (any_of p ys x (rw other at there) passes)
+]
+
 pub within_nodes : (nodes : List Node) (place : ℕ) → is_switch_at nodes place ≡ true → place < length nodes
 within_nodes nodes place is = elim (cases_lt place (length nodes)) [
   | inl less ↦ less

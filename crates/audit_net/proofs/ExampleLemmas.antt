@@ -1,6 +1,6 @@
 -- Entries, and what comes of packets, computed.
 use Rattle.std.proofs.Common.{refl}
-use Rattle.audit_net.specs.Examples.{AttachedAreReported, EntriesAreReported, FatesAreReported, LoopsAreReported, TurnsAreReported}
+use Rattle.audit_net.specs.Examples.{AttachedAreReported, EntriesAreReported, FatesAreReported, LoopsAreReported, TurnsAreReported, WaysAreReported}
 
 pub entries_are_reported : EntriesAreReported
 entries_are_reported = record {
@@ -36,3 +36,6 @@ fates_are_reported = record {
 
 pub loops_are_reported : LoopsAreReported
 loops_are_reported = record { from_first = refl; from_second = refl; none = refl }
+
+pub ways_are_reported : WaysAreReported
+ways_are_reported = record { over_both = refl; one = refl; round = refl; of_hosts = refl; of_hosts_at_one = refl }

@@ -4,5 +4,9 @@ pub mod FollowingLemmas
 pub mod AttachedLemmas
 pub mod RoundLemmas
 pub mod EndlessLemmas
+pub mod MarkLemmas
+pub mod WayLemmas
+pub mod WholeLemmas
+pub mod HostLemmas
 pub mod WrongLemmas
 pub mod ExampleLemmas

@@ -96,7 +96,7 @@ stable_at marks many growing = elim (stable_or_more marks many growing many) [
   | inr more ↦ absurd (let most = trues_most (marks (suc many)) in let long = growing.long (suc many) in omega (arith, more, most, long))
 ]
 
-same_on : (marks : ℕ → List Bool) (many k : ℕ) → AreGrowing marks many → marks (suc k) ≡ marks k → (n : ℕ) → k ≤ n → marks n ≡ marks k
+pub same_on : (marks : ℕ → List Bool) (many k : ℕ) → AreGrowing marks many → marks (suc k) ≡ marks k → (n : ℕ) → k ≤ n → marks n ≡ marks k
 same_on marks many k growing stable zero least = let same : k ≡ 0 = omega (arith, least) in rw same refl
 same_on marks many k growing stable (suc n) least = elim (cases_lt k (suc n)) [
   | inl less ↦ growing.follows n k (same_on marks many k growing stable n (omega (arith, less))) ∙ stable

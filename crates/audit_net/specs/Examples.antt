@@ -9,6 +9,8 @@ use Rattle.fabric_parts.specs.Cable.{port}
 use Rattle.audit_net.specs.declared.following.Fate.TheVariants as fates
 use Rattle.audit_net.specs.declared.following.Turn.TheVariants as turns
 use Rattle.audit_net.specs.Following.{fate, loop_from, turn}
+use Rattle.audit_net.specs.Hosts.{hosts_marks}
+use Rattle.audit_net.specs.Ways.{way}
 
 -- ---- entries: 255 leads nowhere, as no row does, except the row of a top that is a multiple of 64
 abbrev pub topped : ℕ → Table
@@ -57,3 +59,11 @@ pub record LoopsAreReported : Type 0 where
   pub from_first : loop_from (with_entries 2 1) 1 0 ≡ Some (0 ∷ 1 ∷ [])
   pub from_second : loop_from (with_entries 2 1) 1 1 ≡ Some (1 ∷ 0 ∷ [])
   pub none : loop_from (with_entries 1 1) 1 1 ≡ None
+
+-- ---- the switches that packets to LID 1 come to: the adapter is attached to the first switch
+pub record WaysAreReported : Type 0 where
+  pub over_both : way (with_entries 2 0) 1 0 ≡ 0 ∷ 1 ∷ []
+  pub one : way (with_entries 1 1) 1 0 ≡ 0 ∷ []
+  pub round : way (with_entries 2 1) 1 1 ≡ 1 ∷ 0 ∷ []
+  pub of_hosts : hosts_marks (with_entries 2 0) 1 ≡ true ∷ true ∷ false ∷ []
+  pub of_hosts_at_one : hosts_marks (with_entries 1 1) 1 ≡ true ∷ false ∷ false ∷ []

@@ -1,10 +1,14 @@
 -- What is so of all fabrics and dumps: the statements of the laws of `src/laws.rt`.
-use Rattle.std.specs.Prelude.{ℕ, ◌≡◌, true, List, [], ◌∷◌, Option, Some, None}
+use Rattle.std.specs.Prelude.{ℕ, ◌≡◌, Bool, true, List, [], ◌∷◌, Option, Some, None}
 use Rattle.topo_file.specs.Node.{is_switch_at}
 use Rattle.audit_net.specs.declared.following.Turn.{Turn}
 use Rattle.audit_net.specs.declared.following.Turn.TheVariants as turns
+use Rattle.audit_net.specs.Attached.{carries_host}
 use Rattle.audit_net.specs.Following.{end_from, end_within, loop_from, turn}
+use Rattle.audit_net.specs.Hosts.{hosts_marks}
+use Rattle.audit_net.specs.Marked.{is_marked}
 use Rattle.audit_net.specs.Net.{NetState}
+use Rattle.audit_net.specs.Ways.{is_on, way}
 
 -- ---- following entries
 -- the switch here sends the LID to the switch there
@@ -59,3 +63,30 @@ ReportedLoopsGoRound = ReportsLoops loop_from
 abbrev pub ComesBy : NetState → ℕ → ℕ → List ℕ → ℕ → Type 0
 ComesBy net lid place [] there = place ≡ there
 ComesBy net lid place (next ∷ rest) there = (turn net lid place ≡ turns.Goes next) × ComesBy net lid next rest there
+
+-- ---- the switches of a way
+-- packets come there over these switches, however many, if and only if the switch is on the way
+pub record FollowsWays (ways : NetState → (lid place : ℕ) → List ℕ) : Type 0 where
+  pub comes : (net : NetState) (lid place there : ℕ) (over : List ℕ) → is_switch_at net.plan.nodes place ≡ true → ComesBy net lid place over there
+      → is_on there (ways net lid place) ≡ true
+  pub there : (net : NetState) (lid place there : ℕ) → is_on there (ways net lid place) ≡ true → (over : List ℕ) × ComesBy net lid place over there
+
+abbrev pub WaysAreWhole : Type 0
+WaysAreWhole = FollowsWays way
+
+-- ---- the switches that packets of hosts come to
+-- packets come there from this switch, over however many, and a host is attached to it
+pub record HostsCome (net : NetState) (lid there : ℕ) : Type 0 where
+  pub from : ℕ
+  pub switch : is_switch_at net.plan.nodes from ≡ true
+  pub carries : carries_host net from ≡ true
+  pub over : List ℕ
+  pub comes : ComesBy net lid from over there
+
+-- all these are marked, and no others
+pub record MarksWhereHostsCome (marks : NetState → (lid : ℕ) → List Bool) : Type 0 where
+  pub comes : (net : NetState) (lid there : ℕ) → HostsCome net lid there → is_marked (marks net lid) there ≡ true
+  pub there : (net : NetState) (lid there : ℕ) → is_marked (marks net lid) there ≡ true → HostsCome net lid there
+
+abbrev pub HostsAreFollowed : Type 0
+HostsAreFollowed = MarksWhereHostsCome hosts_marks

@@ -4,6 +4,8 @@ pub mod Lookup
 pub mod Following
 pub mod Attached
 pub mod Marked
+pub mod Ways
+pub mod Hosts
 pub mod Laws
 pub mod SmallNets
 pub mod WrongRules

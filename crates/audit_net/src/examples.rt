@@ -1,6 +1,6 @@
 //! What entries are, and what comes of packets, computed. Each function does nothing: its contract is the example.
 
-ghost use Rattle.audit_net.specs.Examples.{AttachedAreReported, EntriesAreReported, FatesAreReported, LoopsAreReported, TurnsAreReported};
+ghost use Rattle.audit_net.specs.Examples.{AttachedAreReported, EntriesAreReported, FatesAreReported, LoopsAreReported, TurnsAreReported, WaysAreReported};
 
 /// The entries of a table.
 pub fn entries_are_reported()
@@ -25,4 +25,9 @@ pub fn fates_are_reported()
 /// The switches of a loop.
 pub fn loops_are_reported()
     ensures { LoopsAreReported }
+{}
+
+/// The switches that packets come to.
+pub fn ways_are_reported()
+    ensures { WaysAreReported }
 {}

@@ -30,7 +30,8 @@ use Rattle.credit_loops.proofs.ChannelLawLemmas.{channels_are_reported}
 use Rattle.audit_net.proofs.EndlessLemmas.{loops_never_end, turn_goes}
 use Rattle.cable_load.specs.Laws.{CablesLeadBack, LastLinksCarryWhatArrives, arrives_over, last_channels, pairs_of, ports_used}
 use Rattle.cable_load.specs.Sources.{Pair, entrance, pair_from, pairs_in, sends}
-use Rattle.cable_load.specs.Ways.{goes_over, is_on, then_on, way, way_within}
+use Rattle.audit_net.specs.Ways.{is_on, then_on, way, way_within}
+use Rattle.cable_load.specs.Ways.{goes_over}
 use Rattle.cable_load.proofs.CableLemmas.{same_itself}
 use Rattle.cable_load.proofs.KeyLemmas.{same_port}
 use Rattle.cable_load.proofs.LineLemmas.{channels_once, loads_add_up, none_of_range, of_kept, one_or_none}

@@ -2,10 +2,10 @@
 use Rattle.std.proofs.Common.{refl}
 use Rattle.std.specs.Fmt.{digits}
 use Rattle.cable_load.specs.Examples.{FractionsAreRoundedDown, PortsSendToOthers, TextsAreSo}
-use Rattle.cable_load.specs.Text.{level_means, level_words, least_line, load_line, mean_line, most_line, pairs_line, text_by, text_of}
+use Rattle.cable_load.specs.Text.{level_line, level_means, level_text, level_words, least_line, load_line, mean_line, most_line, pairs_line, text_by, text_of}
 
 pub texts_are_so : TextsAreSo
-unfolding level_means level_words digits least_line load_line mean_line most_line pairs_line text_by text_of
+unfolding level_line level_means level_text level_words digits least_line load_line mean_line most_line pairs_line text_by text_of
 texts_are_so = record { even = refl; lost = refl; looped = refl; unknown = refl; shared = refl; apart = refl; small_mean = refl; great_mean = refl }
 
 pub fractions_are_rounded_down : FractionsAreRoundedDown

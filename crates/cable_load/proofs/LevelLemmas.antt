@@ -1,11 +1,13 @@
 -- Rounds of marks are distances.
-use Rattle.std.proofs.Common.{ℕ, zero, suc, ◌≡◌, ◌∙◌, ◌+◌, ◌-◌, ◌<◌, ◌≤◌, ◌==◌, ◌||◌, ap, inl, inr, refl, sym, Bool, true, false, cond, not, List, [], ◌∷◌, count_by, filter, flat_map, get_or, length, map, Option, arith}
+use Rattle.std.proofs.Common.{ℕ, zero, suc, ◌≡◌, ◌∙◌, ◌+◌, ◌-◌, ◌<◌, ◌≤◌, ◌==◌, ◌&&◌, ◌||◌, ap, inl, inr, refl, sym, Bool, true, false, cond, not, List, [], ◌∷◌, count_by, filter, flat_map, get_or, length, map, Option, Some, None, arith}
 use Rattle.std.specs.List.{list_any, range_with_len}
 use Rattle.std.specs.Option.{option_map_or}
 use Rattle.std.proofs.lemmas.Bool.{cases_Bool, cases_lt, eqb-true, false≢true, or_left, or_right}
 use Rattle.std.proofs.lemmas.List.Sums.{sum_by-cons}
 use Rattle.std.proofs.lemmas.Option.{slice_get_past}
 use Rattle.step_results.proofs.ListLemmas.{list_any_weaker}
+use Rattle.fabric_parts.specs.Cable.{far_end}
+use Rattle.fabric_parts.specs.declared.cable.PortRef.{PortRef}
 use Rattle.topo_file.specs.Node.{ports_at}
 use Rattle.topo_file.specs.declared.node.Node.{Node}
 use Rattle.audit_net.specs.declared.entry.Entry.TheVariants.{Out}
@@ -13,8 +15,10 @@ use Rattle.audit_net.specs.declared.following.Turn.{Turn}
 use Rattle.audit_net.specs.declared.following.Turn.TheVariants as turns
 use Rattle.audit_net.specs.Following.{turn_by}
 use Rattle.audit_net.specs.Net.{NetState}
+use Rattle.cable_load.specs.declared.levels.TheConstants.{LEVELS}
+use Rattle.cable_load.specs.declared.levels.Way.{Way}
 use Rattle.cable_load.specs.declared.loaded.Loaded.{Loaded}
-use Rattle.cable_load.specs.Levels.{goes_near, is_marked, is_near, is_next, leads_near, level_at, level_by, level_of, levels_of, marks_of, of_level, rounds_of, some_lead}
+use Rattle.cable_load.specs.Levels.{goes, goes_near, is_marked, is_near, is_next, leads, leads_near, level_at, level_behind, level_by, level_of, levels_of, marks_of, of_level, rounds_of, some_lead}
 use Rattle.cable_load.specs.Laws.{LeadsToHost, LevelsAreDistances}
 use Rattle.cable_load.specs.Sources.{host_behind}
 use Rattle.audit_net.proofs.EndlessLemmas.{in_range}
@@ -137,12 +141,20 @@ levels_say net place = elim (cases_lt place (length net.plan.nodes)) [
       ∙ sym (all_far (λ k. is_near net k place) 0 16 (λ k. not_near net k place past))
 ]
 
-pub levels_are : (net : NetState) (levels : List ℕ) (all some : List Loaded) (level : ℕ) → levels ≡ levels_of net
-    → some ≡ filter (λ one. level_at levels one.at.node == level) all → some ≡ of_level net all level
-levels_are net levels all some level is some_is =
-    some_is ∙ ap (λ (l : List ℕ). filter (λ one. level_at l one.at.node == level) all) is
-    ∙ filter_alike (λ one. level_at (levels_of net) one.at.node == level) (λ one. level_of net one.at.node == level)
-    (λ one. ap (λ (n : ℕ). n == level) (levels_say net one.at.node)) all
+goes_same : (net : NetState) (level : ℕ) (way : Way) (one : Loaded) → goes (level_at (levels_of net)) net level way one ≡ goes (level_of net) net level way one
+goes_same net level way one =
+    ap (λ (n : ℕ). (n == level) && leads way level (level_behind (level_at (levels_of net)) net one)) (levels_say net one.at.node)
+    ∙ ap (λ (n : ℕ). (level_of net one.at.node == level) && leads way level n) (behind_same (far_end net.plan.cables one.at))
+  where
+    behind_same : (there : Option PortRef) → option_map_or (λ at. level_at (levels_of net) at.node) there LEVELS ≡ option_map_or (λ at. level_of net at.node) there LEVELS
+    behind_same (Some at) = levels_say net at.node
+    behind_same None = refl
+
+pub levels_are : (net : NetState) (levels : List ℕ) (all some : List Loaded) (level : ℕ) (way : Way) → levels ≡ levels_of net
+    → some ≡ filter (goes (level_at levels) net level way) all → some ≡ of_level net all level way
+levels_are net levels all some level way is some_is =
+    some_is ∙ ap (λ (l : List ℕ). filter (goes (level_at l) net level way) all) is
+    ∙ filter_alike (goes (level_at (levels_of net)) net level way) (goes (level_of net) net level way) (goes_same net level way) all
 
 map_levels : (f g : ℕ → ℕ) → ((n : ℕ) → f n ≡ g n) → (ns : List ℕ) → map f ns ≡ map g ns
 map_levels f g same [] = refl

@@ -1,11 +1,9 @@
-pub mod WayLemmas
 pub mod SumLemmas
 pub mod KeyLemmas
 pub mod TalkLemmas
 pub mod PairLemmas
 pub mod OrderLemmas
 pub mod LineLemmas
-pub mod WholeLemmas
 pub mod CableLemmas
 pub mod ArrivalLemmas
 pub mod LevelLemmas

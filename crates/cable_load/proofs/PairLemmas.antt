@@ -18,7 +18,8 @@ use Rattle.cable_load.specs.Counts.{counted_by, counts_of, plus}
 use Rattle.cable_load.specs.declared.counting.Counts.{Counts}
 use Rattle.cable_load.specs.Sources.{Entrance, Pair, pair_from, pairs_in, sends}
 use Rattle.cable_load.specs.Walk.{of_pairs, on_way, senders, sum_at, AreSums, GrowBy, HasSums}
-use Rattle.cable_load.specs.Ways.{goes_over, is_lost, is_on, is_unknown, loses, way}
+use Rattle.audit_net.specs.Ways.{is_on, way}
+use Rattle.cable_load.specs.Ways.{goes_over, is_lost, is_unknown, loses}
 use Rattle.cable_load.proofs.SumLemmas.{grow_on, grow_same}
 
 abbrev pair_of : (lid : ℕ) → (end : PortRef) → (place : ℕ) → (source : PortRef) → Pair

@@ -13,8 +13,8 @@ use Rattle.audit_net.specs.Following.{switch_total, turn_by}
 use Rattle.audit_net.specs.Laws.{GoesTo}
 use Rattle.audit_net.specs.Net.{NetState, entry}
 use Rattle.cable_load.specs.Walk.{at_port, is_stamped, on_way, sum_at, GrowBy}
-use Rattle.cable_load.specs.Ways.{is_on, way_within}
-use Rattle.cable_load.proofs.WayLemmas.{ComesTo, Stays, comes_back, comes_on, way_ends, way_more}
+use Rattle.audit_net.specs.Ways.{is_on, way_within}
+use Rattle.audit_net.proofs.WayLemmas.{ComesTo, Stays, comes_back, comes_on, way_ends, way_more}
 
 last_or : (b : Bool) → (b || false) ≡ b
 last_or true = refl

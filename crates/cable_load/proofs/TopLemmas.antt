@@ -16,7 +16,7 @@ use Rattle.lid_owners.proofs.LidLemmas.{filter_alike}
 use Rattle.cable_load.specs.Laws.{IsFarthest, TopsAreFarthest}
 use Rattle.cable_load.specs.Levels.{carries, level_of, level_at, levels_of}
 use Rattle.cable_load.specs.Tops.{higher, is_top, top_of, tops_by, tops_of}
-use Rattle.cable_load.specs.Ways.{is_on}
+use Rattle.audit_net.specs.Ways.{is_on}
 use Rattle.cable_load.proofs.LevelLemmas.{at_most_by, levels_say, near_at}
 
 -- ---- the same levels have the same tops

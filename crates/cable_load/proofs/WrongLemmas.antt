@@ -12,14 +12,10 @@ use Rattle.cable_load.specs.Sources.{Pair}
 use Rattle.cable_load.specs.Talk.{may_talk}
 use Rattle.cable_load.specs.WrongRules.{FirstLinksCountToo, FirstPortsDoNotAddUp, LastLinksCountToo, LevelsBeginAt0, LostPairsLoad, NotAllAreLeaves}
 use Rattle.cable_load.specs.WrongRules.{AllTopsCount, LeavesAreNoTops, TopsAreNotOfLevel1, three_levels, two_tops}
-use Rattle.cable_load.specs.WrongRules.{OtherLidsCountToo, OtherSwitchesCountToo, PairsCountOnce, PortsCountFrom1, SilentPortsDoNotCount, UnusedChannelsHaveALine, WaysGoOn}
+use Rattle.cable_load.specs.WrongRules.{OtherLidsCountToo, OtherSwitchesCountToo, PairsCountOnce, PortsCountFrom1, SilentPortsDoNotCount, UnusedChannelsHaveALine}
 use Rattle.cable_load.specs.WrongRules.{four_switches, no_hosts, pairs_to_k, to_k, two_switches}
 use Rattle.cable_load.proofs.CableLemmas.{lead_back}
 use Rattle.cable_load.proofs.TopLemmas.{tops_are_farthest}
-
--- A sends LID 2 to B
-pub ways_go_on : WaysGoOn
-ways_go_on law = false≢true (law.comes (two_switches 2 1) 2 0 1 (1 ∷ []) refl (refl, refl))
 
 -- A sends LID 2 to B, which has no port 9
 pub lost_pairs_load : LostPairsLoad

@@ -17,7 +17,7 @@ use Rattle.cable_load.specs.Loads.{loaded, loads}
 use Rattle.cable_load.specs.Order.{ordered}
 use Rattle.cable_load.specs.Sources.{pairs_by}
 use Rattle.cable_load.specs.Talk.{may_talk}
-use Rattle.cable_load.specs.Text.{level_means, level_words, least_line, load_line, loads_of, mean_line, most_line, pairs_line, text_by, text_of}
+use Rattle.cable_load.specs.Text.{level_line, level_means, level_text, level_words, least_line, load_line, loads_of, mean_line, most_line, pairs_line, text_by, text_of}
 use Rattle.cable_load.specs.WrongRules.{AllChannelsArePrinted, AllLidsAreCounted, AllLidsArePrinted}
 
 -- ---- a text has a line somewhere, if it stands in it
@@ -80,7 +80,7 @@ all_lids_are_counted law =
     absurd (omega (arith, none))
 
 pub all_lids_are_printed : AllLidsArePrinted
-unfolding level_means level_words digits least_line load_line mean_line most_line pairs_line text_by text_of
+unfolding level_line level_means level_text level_words digits least_line load_line mean_line most_line pairs_line text_by text_of
 all_lids_are_printed law =
     let stands =
     subst (λ (all : List Aim). HasSubslice (text_by net (pairs_by net (may_talk None) (take 1 all))) (load_line net (loaded net (pairs_by net (may_talk None) all) (port 0 2))))

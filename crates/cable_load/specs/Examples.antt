@@ -49,29 +49,29 @@ pub record TextsAreSo : Type 0 where
   pub even :
       shown (with_ports 1 2 2 1) (may_talk None)
       ≡ line (codes "load A/2 B/2 1") ++ line (codes "load B/2 A/2 1") ++ line (codes "most 1") ++ line (codes "least 1") ++ line (codes "mean 1.00")
-      ++ line (codes "level 0 most 1 mean 1.00 ratio 1.00") ++ line (codes "pairs 2, lost 0, unknown 0")
+      ++ line (codes "level 0 across most 1 mean 1.00 ratio 1.00") ++ line (codes "pairs 2, lost 0, unknown 0")
   -- B has no port for LID 2, and sends LID 1 to a port without a cable
   pub lost :
       shown (with_ports 1 2 9 255) (may_talk None)
       ≡ line (codes "load A/2 B/2 1") ++ line (codes "load B/2 A/2 0") ++ line (codes "most 1") ++ line (codes "least 0") ++ line (codes "mean 0.50")
-      ++ line (codes "level 0 most 1 mean 0.50 ratio 2.00") ++ line (codes "pairs 2, lost 2, unknown 0")
+      ++ line (codes "level 0 across most 1 mean 0.50 ratio 2.00") ++ line (codes "pairs 2, lost 2, unknown 0")
   -- A and B send LID 2 to one another: its pair counts once on each
   pub looped :
       shown (with_ports 1 2 2 2) (may_talk None)
       ≡ line (codes "load B/2 A/2 2") ++ line (codes "load A/2 B/2 1") ++ line (codes "most 2") ++ line (codes "least 1") ++ line (codes "mean 1.50")
-      ++ line (codes "level 0 most 2 mean 1.50 ratio 1.33") ++ line (codes "pairs 2, lost 1, unknown 0")
+      ++ line (codes "level 0 across most 2 mean 1.50 ratio 1.33") ++ line (codes "pairs 2, lost 1, unknown 0")
   -- of B the dump has no table
   pub unknown :
       shown (of_a_alone 1 2) (may_talk None)
       ≡ line (codes "load A/2 B/2 1") ++ line (codes "load B/2 A/2 0") ++ line (codes "most 1") ++ line (codes "least 0") ++ line (codes "mean 0.50")
-      ++ line (codes "level 0 most 1 mean 0.50 ratio 2.00") ++ line (codes "pairs 2, lost 0, unknown 2")
+      ++ line (codes "level 0 across most 1 mean 0.50 ratio 2.00") ++ line (codes "pairs 2, lost 0, unknown 2")
   -- h is a full member of a partition, and k a limited one
   pub shared : shown (with_ports 1 2 2 1) (by_keys 0x8001 1) ≡ shown (with_ports 1 2 2 1) (may_talk None)
   -- both are limited
   pub apart :
       shown (with_ports 1 2 2 1) (by_keys 1 1)
       ≡ line (codes "load A/2 B/2 0") ++ line (codes "load B/2 A/2 0") ++ line (codes "most 0") ++ line (codes "least 0") ++ line (codes "mean 0.00")
-      ++ line (codes "level 0 most 0 mean 0.00 ratio 0.00") ++ line (codes "pairs 0, lost 0, unknown 0")
+      ++ line (codes "level 0 across most 0 mean 0.00 ratio 0.00") ++ line (codes "pairs 0, lost 0, unknown 0")
   pub small_mean : hundredths 7 ≡ codes "0.07"
   pub great_mean : hundredths 12345 ≡ codes "123.45"
 

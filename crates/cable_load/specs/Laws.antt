@@ -19,7 +19,6 @@ use Rattle.lid_owners.specs.declared.lids.Aim.{Aim}
 use Rattle.lid_owners.specs.Lids.{aims}
 use Rattle.credit_loops.specs.Channels.{channels, leads_to}
 use Rattle.audit_net.specs.Following.{turn, turn_by}
-use Rattle.audit_net.specs.Laws.{ComesBy}
 use Rattle.audit_net.specs.Net.{NetState}
 use Rattle.route_audit.specs.Pairs.{is_fate}
 use Rattle.audit_plan.specs.Plan.{PlanState, is_host, plan_found, plan_of}
@@ -32,17 +31,8 @@ use Rattle.cable_load.specs.Order.{ordered}
 use Rattle.cable_load.specs.Sources.{Pair, pairs_by, pairs_to_end}
 use Rattle.cable_load.specs.Text.{load_line, load_text_of, loads_of, pairs_line}
 use Rattle.cable_load.specs.Tops.{tops_of}
-use Rattle.cable_load.specs.Ways.{fate_of, goes_over, is_on, way}
-
--- ---- the switches of a way
--- packets come there over these switches, however many, if and only if the switch is on the way
-pub record FollowsWays (ways : NetState → (lid place : ℕ) → List ℕ) : Type 0 where
-  pub comes : (net : NetState) (lid place there : ℕ) (over : List ℕ) → is_switch_at net.plan.nodes place ≡ true → ComesBy net lid place over there
-      → is_on there (ways net lid place) ≡ true
-  pub there : (net : NetState) (lid place there : ℕ) → is_on there (ways net lid place) ≡ true → (over : List ℕ) × ComesBy net lid place over there
-
-abbrev pub WaysAreWhole : Type 0
-WaysAreWhole = FollowsWays way
+use Rattle.audit_net.specs.Ways.{is_on}
+use Rattle.cable_load.specs.Ways.{fate_of, goes_over}
 
 -- ---- which pairs count
 abbrev pub all_talk : (source end : PortRef) → Bool

@@ -1,7 +1,9 @@
 -- The level of a switch: how many links lead from it to the nearest switch to which a host is attached. A leaf of a fat tree has
 -- the level 0, and a switch of the next row the level 1.
-use Rattle.std.specs.Prelude.{ℕ, zero, suc, ◌+◌, ◌==◌, ◌||◌, Bool, false, not, List, count_by, filter, get_or, length, map}
+use Rattle.std.specs.Prelude.{ℕ, zero, suc, ◌+◌, ◌==◌, ◌&&◌, ◌||◌, nat_lt, Bool, false, not, List, count_by, filter, get_or, length, map}
 use Rattle.std.specs.List.{list_any, range_with_len}
+use Rattle.std.specs.Option.{option_map_or}
+use Rattle.fabric_parts.specs.Cable.{far_end}
 use Rattle.topo_file.specs.Node.{ports_at}
 use Rattle.audit_net.specs.declared.entry.Entry.TheVariants.{Out}
 use Rattle.audit_net.specs.declared.following.Turn.{Turn}
@@ -9,6 +11,8 @@ use Rattle.audit_net.specs.declared.following.Turn.TheVariants as turns
 use Rattle.audit_net.specs.Following.{turn_by}
 use Rattle.audit_net.specs.Net.{NetState}
 use Rattle.cable_load.specs.declared.levels.TheConstants.{LEVELS}
+use Rattle.cable_load.specs.declared.levels.Way.{Way}
+use Rattle.cable_load.specs.declared.levels.Way.TheVariants.{Across, Down, Up}
 use Rattle.cable_load.specs.declared.loaded.Loaded.{Loaded}
 use Rattle.cable_load.specs.Sources.{attached}
 
@@ -37,12 +41,20 @@ is_near net (suc count) place = is_near net count place || some_lead net (is_nea
 abbrev pub level_of : NetState → ℕ → ℕ
 level_of net place = count_by (λ count. not (is_near net count place)) (range_with_len 0 LEVELS)
 
--- ---- the channels that leave switches of a level
-abbrev pub is_of_level : NetState → ℕ → Loaded → Bool
-is_of_level net level one = level_of net one.at.node == level
+-- ---- the channels that leave switches of a level: up to switches farther from hosts, across to others as far, or down to nearer ones
+abbrev pub level_behind : (ℕ → ℕ) → NetState → Loaded → ℕ
+level_behind level net one = option_map_or (λ there. level there.node) (far_end net.plan.cables one.at) LEVELS
 
-abbrev pub of_level : NetState → List Loaded → ℕ → List Loaded
-of_level net all level = filter (is_of_level net level) all
+abbrev pub leads : Way → (level behind : ℕ) → Bool
+leads Up level behind = nat_lt level behind
+leads Across level behind = level == behind
+leads Down level behind = nat_lt behind level
+
+abbrev pub goes : (ℕ → ℕ) → NetState → ℕ → Way → Loaded → Bool
+goes level_at net level way one = (level_at one.at.node == level) && leads way level (level_behind level_at net one)
+
+abbrev pub of_level : NetState → List Loaded → ℕ → Way → List Loaded
+of_level net all level way = filter (goes (level_of net) net level way) all
 
 -- ---- steps of the code: for each node whether it is near
 abbrev pub is_marked : List Bool → ℕ → Bool

@@ -14,6 +14,8 @@ use Rattle.cable_load.specs.declared.loaded.Loaded.{Loaded}
 use Rattle.cable_load.specs.declared.counting.Counts.{Counts}
 use Rattle.cable_load.specs.Counts.{counts_of}
 use Rattle.cable_load.specs.declared.levels.TheConstants.{LEVELS}
+use Rattle.cable_load.specs.declared.levels.Way.{Way}
+use Rattle.cable_load.specs.declared.levels.Way.TheVariants.{Across, Down, Up}
 use Rattle.cable_load.specs.Levels.{of_level}
 use Rattle.cable_load.specs.Loads.{least_of, loads, mean_of, most_of, ratio_of}
 use Rattle.cable_load.specs.Order.{ordered}
@@ -46,19 +48,27 @@ abbrev pub summary : List Loaded → List ℕ
 summary [] = []
 summary (one ∷ rest) = most_line (one ∷ rest) ++ least_line (one ∷ rest) ++ mean_line (one ∷ rest)
 
--- ---- of the channels that leave switches of each level, if there is one: `level 1 most 12 mean 7.33 ratio 1.63`
-unfoldable pub level_words : ℕ → List Loaded → List ℕ
-level_words level all = codes "level " ++ decimal level ++ codes " most " ++ decimal (most_of all)
+-- ---- of the channels that leave switches of each level, each way, if there is one: `level 1 down most 12 mean 7.33 ratio 1.63`
+abbrev pub way_word : Way → List ℕ
+way_word Up = codes " up"
+way_word Across = codes " across"
+way_word Down = codes " down"
+
+unfoldable pub level_words : ℕ → Way → List Loaded → List ℕ
+level_words level way all = codes "level " ++ decimal level ++ way_word way ++ codes " most " ++ decimal (most_of all)
 
 unfoldable pub level_means : List Loaded → List ℕ
 level_means all = codes " mean " ++ hundredths (mean_of all) ++ codes " ratio " ++ hundredths (ratio_of all) ++ 10 ∷ []
 
-abbrev pub level_line : ℕ → List Loaded → List ℕ
-level_line level [] = []
-level_line level (one ∷ rest) = level_words level (one ∷ rest) ++ level_means (one ∷ rest)
+unfoldable pub level_line : ℕ → Way → List Loaded → List ℕ
+level_line level way [] = []
+level_line level way (one ∷ rest) = level_words level way (one ∷ rest) ++ level_means (one ∷ rest)
 
-abbrev pub level_text : NetState → List Loaded → ℕ → List ℕ
-level_text net all level = level_line level (of_level net all level)
+abbrev pub way_text : NetState → List Loaded → ℕ → Way → List ℕ
+way_text net all level way = level_line level way (of_level net all level way)
+
+unfoldable pub level_text : NetState → List Loaded → ℕ → List ℕ
+level_text net all level = way_text net all level Up ++ way_text net all level Across ++ way_text net all level Down
 
 abbrev pub levels_text : NetState → List Loaded → List ℕ
 levels_text net all = flat_map (level_text net all) (range_with_len 0 LEVELS)

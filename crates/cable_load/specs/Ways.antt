@@ -1,32 +1,14 @@
--- The way of a LID from a switch: the switches that packets come to along the entries, and the ports by which they leave these.
-use Rattle.std.specs.Prelude.{ℕ, zero, suc, ◌==◌, ◌&&◌, ◌||◌, Bool, not, List, [], ◌∷◌}
-use Rattle.std.specs.List.{list_any}
+-- By which ports packets of a LID leave switches: those of the switches that they come to along the entries.
+use Rattle.std.specs.Prelude.{ℕ, ◌&&◌, ◌||◌, Bool, not}
 use Rattle.fabric_parts.specs.declared.cable.PortRef.{PortRef}
 use Rattle.audit_net.specs.declared.following.Fate.{Fate}
 use Rattle.audit_net.specs.declared.following.Fate.TheVariants as fates
-use Rattle.audit_net.specs.declared.following.Turn.{Turn}
-use Rattle.audit_net.specs.declared.following.Turn.TheVariants as turns
 use Rattle.credit_loops.specs.Channels.{leaves_by}
-use Rattle.audit_net.specs.Following.{fate, switch_total, turn}
+use Rattle.audit_net.specs.Following.{fate}
 use Rattle.audit_net.specs.Net.{NetState}
+use Rattle.audit_net.specs.Ways.{is_on, way}
 use Rattle.route_audit.specs.Pairs.{is_fate}
 use Rattle.cable_load.specs.Sources.{Pair}
-
--- ---- the switches that packets come to, this one first, within so many
-abbrev pub then_on : (ℕ → List ℕ) → Turn → List ℕ
-then_on rest (turns.Goes next) = rest next
-then_on rest turned = []
-
-abbrev pub way_within : NetState → (lid count place : ℕ) → List ℕ
-way_within net lid zero place = []
-way_within net lid (suc count) place = place ∷ then_on (λ next. way_within net lid count next) (turn net lid place)
-
--- as many as there are: what comes to a switch does so within these, as `src/laws.rt` says
-abbrev pub way : NetState → (lid place : ℕ) → List ℕ
-way net lid place = way_within net lid (switch_total net) place
-
-abbrev pub is_on : (there : ℕ) → List ℕ → Bool
-is_on there places = list_any (λ place. place == there) places
 
 -- packets leave by this port: they come to its switch, which forwards the LID out of it. They may come there again and again in
 -- a loop, which is the same way

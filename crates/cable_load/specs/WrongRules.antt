@@ -17,7 +17,7 @@ use Rattle.credit_loops.specs.Channels.{leaves_by}
 use Rattle.audit_net.specs.Net.{NetState}
 use Rattle.audit_plan.specs.Plan.{PlanState, plan_found, plan_of}
 use Rattle.cable_load.specs.declared.loaded.Loaded.{Loaded}
-use Rattle.cable_load.specs.Laws.{AddsUp, CarriesWhatArrives, CountsEachPair, CountsTalkers, FindsFarthest, FollowsWays, MeasuresLevels, NamesEachOnce, ReportsUnused, StaysWithin}
+use Rattle.cable_load.specs.Laws.{AddsUp, CarriesWhatArrives, CountsEachPair, CountsTalkers, FindsFarthest, MeasuresLevels, NamesEachOnce, ReportsUnused, StaysWithin}
 use Rattle.cable_load.specs.Laws.{CountsAllPairs, PrintsAllPairs, TakesCables, all_talk, lines_of}
 use Rattle.cable_load.specs.Counts.{counts_of}
 use Rattle.cable_load.specs.Levels.{level_of}
@@ -27,7 +27,8 @@ use Rattle.cable_load.specs.Sources.{Pair, pairs_by}
 use Rattle.cable_load.specs.Talk.{may_talk}
 use Rattle.cable_load.specs.Text.{load_line, loads_of, pairs_line, text_by}
 use Rattle.cable_load.specs.Tops.{top_of, tops_of}
-use Rattle.cable_load.specs.Ways.{goes_over, is_lost, is_on, way_within}
+use Rattle.audit_net.specs.Ways.{is_on, way_within}
+use Rattle.cable_load.specs.Ways.{goes_over, is_lost}
 
 -- ---- two switches A and B with a cable from A/2 to B/2, and the hosts h at A/1 and k at B/1
 abbrev pub node : List ℕ → NodeType → ℕ → Node
@@ -55,13 +56,6 @@ to_k = record { lid = 2; guid = Some 513; end = Some (port 3 1) } ∷ []
 
 abbrev pub pairs_to_k : NetState → List Pair
 pairs_to_k net = pairs_by net (may_talk None) to_k
-
--- ---- a way ends at its first switch
-abbrev pub one_switch : NetState → (lid place : ℕ) → List ℕ
-one_switch net lid place = way_within net lid 1 place
-
-abbrev pub WaysGoOn : Type 0
-WaysGoOn = FollowsWays one_switch → ⊥
 
 -- ---- pairs that are lost load nothing
 abbrev pub load_of_reached : NetState → List Pair → PortRef → ℕ

@@ -3,13 +3,8 @@
 ghost use Rattle.std.specs.Prelude.{◌≡◌};
 ghost use Rattle.cable_load.specs.declared.levels.TheConstants.{LEVELS};
 ghost use Rattle.cable_load.specs.Laws.{CablesOfPlansLeadBack, EachChannelHasOneLine, EachPairCounts, LastLinksCarryWhatArrives, LevelsAreDistances};
-ghost use Rattle.cable_load.specs.Laws.{LoadsAddUp, LoadsAreOfPairs, LoadsStayWithin, TalkersCount, TopsAreFarthest, WaysAreWhole};
+ghost use Rattle.cable_load.specs.Laws.{LoadsAddUp, LoadsAreOfPairs, LoadsStayWithin, TalkersCount, TopsAreFarthest};
 ghost use Rattle.cable_load.specs.Laws.{AllPairsAreCounted, AllPairsArePrinted};
-
-/// A switch is on the way of a LID if and only if packets come to it along the entries, over however many switches.
-pub fn ways_are_whole()
-    ensures { WaysAreWhole }
-{}
 
 /// The level of a switch is the least number of links from it to a switch to which a host is attached.
 pub fn levels_are_distances()

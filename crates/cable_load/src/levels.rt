@@ -2,7 +2,7 @@
 
 ghost use Rattle.std.specs.Prelude.{◌≡◌, ◌==◌, ◌<◌, filter, length, map, IfOk};
 ghost use Rattle.std.specs.List.{range_with_len};
-ghost use Rattle.cable_load.specs.Levels.{carries, is_marked, is_next, leads_near, level_at, level_by, levels_of, marks_of, of_level, rounds_of, some_lead};
+ghost use Rattle.cable_load.specs.Levels.{carries, goes, is_marked, is_next, leads, leads_near, level_at, level_behind, level_by, levels_of, marks_of, of_level, rounds_of, some_lead};
 
 use crate::loaded::Loaded;
 use crate::sources::attached;
@@ -13,6 +13,17 @@ use std::marker::Model;
 
 /// How many levels there are, from 0 on. Switches that are farther from hosts are of none.
 pub const LEVELS: usize = 16;
+
+/// Which way a channel leads.
+#[derive(Clone, Copy)]
+pub enum Way {
+    /// To a switch farther from hosts.
+    Up,
+    /// To a switch as far.
+    Across,
+    /// To a switch nearer.
+    Down,
+}
 
 /// For each node whether it is near.
 #[derive(Drop)]
@@ -156,31 +167,61 @@ pub(crate) fn level_at(levels: &[usize], place: usize) -> usize
     }
 }
 
-/// The channels that leave switches of a level.
+/// Whether a channel of a switch of this level leads this way, by the level of the switch behind it.
+fn leads(way: Way, level: usize, behind: usize) -> bool
+    ensures { result ≡ leads way level behind }
+{
+    match way {
+        Way::Up => level < behind,
+        Way::Across => level == behind,
+        Way::Down => behind < level,
+    }
+}
+
+/// The level of the switch behind a channel.
+fn level_behind(net: &Net<'_>, levels: &[usize], one: Loaded) -> usize
+    ensures { result ≡ level_behind (level_at levels.now) net.now one }
+{
+    match net.far_end(one.at) {
+        Some(there) => level_at(levels, there.node),
+        None => LEVELS,
+    }
+}
+
+fn goes(net: &Net<'_>, levels: &[usize], level: usize, way: Way, one: Loaded) -> bool
+    ensures { result ≡ goes (level_at levels.now) net.now level way one }
+{
+    level_at(levels, one.at.node) == level && leads(way, level, level_behind(net, levels, one))
+}
+
+/// The channels that leave switches of a level this way.
 pub(crate) fn of_level(
     net: &Net<'_>,
     alloc: Global,
     levels: &[usize],
     all: &[Loaded],
     level: usize,
+    way: Way,
 ) -> Result<Vec<Loaded>, AllocError>
     requires { levels.now ≡ levels_of net.now }
-    ensures { IfOk result (λ some. some.items ≡ of_level net.now all.now level) }
+    ensures { IfOk result (λ some. some.items ≡ of_level net.now all.now level way) }
 {
-    let some = channels_of(alloc, levels, all, level)?;
+    let some = channels_of(net, alloc, levels, all, level, way)?;
     Ok(some)
 }
 
 fn channels_of(
+    net: &Net<'_>,
     alloc: Global,
     levels: &[usize],
     all: &[Loaded],
     level: usize,
+    way: Way,
 ) -> Result<Vec<Loaded>, AllocError>
-    ensures { IfOk result (λ some. some.items ≡ filter (λ one. level_at levels.now one.at.node == level) all.now) }
+    ensures { IfOk result (λ some. some.items ≡ filter (goes (level_at levels.now) net.now level way) all.now) }
 {
     all.iter()
         .copied()
-        .filter(|one| level_at(levels, one.at.node) == level)
+        .filter(|one| goes(net, levels, level, way, *one))
         .collect(alloc)
 }

@@ -31,9 +31,9 @@ pub use crate::laws::{
     all_pairs_are_counted, all_pairs_are_printed, cables_of_plans_lead_back,
     each_channel_has_one_line, each_pair_counts, last_links_carry_what_arrives,
     levels_are_distances, loads_add_up, loads_are_of_pairs, loads_stay_within, talkers_count,
-    the_numbers, tops_are_farthest, ways_are_whole,
+    the_numbers, tops_are_farthest,
 };
-pub use crate::levels::LEVELS;
+pub use crate::levels::{LEVELS, Way};
 pub use crate::loaded::Loaded;
 pub use crate::talk::{PortKeys, Talk};
 pub use crate::texts::{load_of_plan, load_text, load_text_found, loads_of_plan};

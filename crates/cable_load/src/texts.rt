@@ -5,14 +5,14 @@ ghost use Rattle.std.specs.List.{fold};
 ghost use Rattle.audit_plan.specs.Plan.{PlanState};
 ghost use Rattle.cable_load.specs.Levels.{levels_of};
 ghost use Rattle.cable_load.specs.Loads.{greater, least_of, lesser, loads, mean_of, most_of, ratio_of, total_of};
-ghost use Rattle.cable_load.specs.Text.{level_line, level_means, level_text, level_words, levels_text};
+ghost use Rattle.cable_load.specs.Text.{level_line, level_means, level_text, level_words, levels_text, way_word};
 ghost use Rattle.cable_load.specs.Counts.{counts_of};
 ghost use Rattle.cable_load.specs.Sources.{pairs_by};
 ghost use Rattle.cable_load.specs.Talk.{may_talk};
 ghost use Rattle.cable_load.specs.Text.{end_text, hundredths, least_line, load_line, load_of_plan, load_text, load_text_found, load_text_of, loads_of, loads_of_plan, mean_line, most_line, pairs_line, summary, text_by, text_of};
 
 use crate::counting::Counts;
-use crate::levels::{LEVELS, levels, of_level};
+use crate::levels::{LEVELS, Way, levels, of_level};
 use crate::loaded::Loaded;
 use crate::loads::loads;
 use crate::order::ordered;
@@ -180,12 +180,28 @@ fn push_summary(text: &mut Vec<u8>, all: &[Loaded]) -> Result<(), AllocError>
     push_mean(text, all)
 }
 
+fn way_word(way: Way) -> &'static [u8]
+    ensures { result.now ≡ way_word way }
+{
+    match way {
+        Way::Up => b" up",
+        Way::Across => b" across",
+        Way::Down => b" down",
+    }
+}
+
 #[tactic(auto, unfolding(crate::specs::Text::level_words))]
-fn push_level_words(text: &mut Vec<u8>, level: usize, all: &[Loaded]) -> Result<(), AllocError>
-    ensures { OnOk result (text.new.items ≡ text.old.items ++ level_words level all.now) }
+fn push_level_words(
+    text: &mut Vec<u8>,
+    level: usize,
+    way: Way,
+    all: &[Loaded],
+) -> Result<(), AllocError>
+    ensures { OnOk result (text.new.items ≡ text.old.items ++ level_words level way all.now) }
 {
     text.extend_from_slice(b"level ")?;
     push_decimal(text, level)?;
+    text.extend_from_slice(way_word(way))?;
     text.extend_from_slice(b" most ")?;
     push_decimal(text, most_of(all))
 }
@@ -203,16 +219,18 @@ fn push_level_means(text: &mut Vec<u8>, all: &[Loaded]) -> Result<(), AllocError
     Ok(())
 }
 
-fn push_level(text: &mut Vec<u8>, level: usize, all: &[Loaded]) -> Result<(), AllocError>
-    ensures { OnOk result (text.new.items ≡ text.old.items ++ level_line level all.now) }
+#[tactic(auto, unfolding(crate::specs::Text::level_line))]
+fn push_level(text: &mut Vec<u8>, level: usize, way: Way, all: &[Loaded]) -> Result<(), AllocError>
+    ensures { OnOk result (text.new.items ≡ text.old.items ++ level_line level way all.now) }
 {
     if all.is_empty() {
         return Ok(());
     }
-    push_level_words(text, level, all)?;
+    push_level_words(text, level, way, all)?;
     push_level_means(text, all)
 }
 
+#[tactic(auto, unfolding(crate::specs::Text::level_text))]
 fn push_level_of(
     net: &Net<'_>,
     alloc: Global,
@@ -224,8 +242,12 @@ fn push_level_of(
     requires { levels.now ≡ levels_of net.now }
     ensures { OnOk result (text.new.items ≡ text.old.items ++ level_text net.now all.now level) }
 {
-    let some = of_level(net, alloc, levels, all, level)?;
-    push_level(text, level, &some)
+    let up = of_level(net, alloc, levels, all, level, Way::Up)?;
+    push_level(text, level, Way::Up, &up)?;
+    let across = of_level(net, alloc, levels, all, level, Way::Across)?;
+    push_level(text, level, Way::Across, &across)?;
+    let down = of_level(net, alloc, levels, all, level, Way::Down)?;
+    push_level(text, level, Way::Down, &down)
 }
 
 fn push_levels(

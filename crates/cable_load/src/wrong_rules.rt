@@ -1,14 +1,9 @@
 //! Wrong rules for what is reported, and the law that each breaks, so that a reader sees that the laws say something. Each
 //! function does nothing: its contract says that with this rule the law is false.
 
-ghost use Rattle.cable_load.specs.WrongRules.{FirstLinksCountToo, FirstPortsDoNotAddUp, LastLinksCountToo, LevelsBeginAt0, LostPairsLoad, NotAllAreLeaves, PairsCountOnce, PortsCountFrom1, SilentPortsDoNotCount, UnusedChannelsHaveALine, WaysGoOn};
+ghost use Rattle.cable_load.specs.WrongRules.{FirstLinksCountToo, FirstPortsDoNotAddUp, LastLinksCountToo, LevelsBeginAt0, LostPairsLoad, NotAllAreLeaves, PairsCountOnce, PortsCountFrom1, SilentPortsDoNotCount, UnusedChannelsHaveALine};
 ghost use Rattle.cable_load.specs.WrongRules.{AllChannelsArePrinted, AllLidsAreCounted, AllLidsArePrinted};
 ghost use Rattle.cable_load.specs.WrongRules.{AllTopsCount, LeavesAreNoTops, OtherLidsCountToo, OtherSwitchesCountToo, TopsAreNotOfLevel1};
-
-/// If a way ended at its first switch, packets would come to a switch that is not on it.
-pub fn ways_go_on()
-    ensures { WaysGoOn }
-{}
 
 /// If pairs that are lost were not counted, a channel that one goes over would have no load.
 pub fn lost_pairs_load()

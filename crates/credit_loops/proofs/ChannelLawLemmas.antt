@@ -14,6 +14,7 @@ use Rattle.credit_loops.specs.Channels.{channels, channels_of, is_channel}
 use Rattle.credit_loops.specs.Laws.{ChannelsAreReported, IsChannel}
 use Rattle.audit_net.specs.Net.{NetState}
 use Rattle.audit_net.proofs.EndlessLemmas.{is_listed}
+use Rattle.audit_net.proofs.HostLemmas.{kept_passes}
 
 -- ---- ports of one switch
 same_port : (a b : PortRef) → is_same_port a b ≡ true → a ≡ b
@@ -76,16 +77,6 @@ are_places f at place (other ∷ places) among there = list_any-append (is_same_
   | inl here ↦ let same : place ≡ other = grind (arith, nat_tests, here) in
       or_left (list_any (is_same_port at) (f other)) _ (ap (λ (n : ℕ). list_any (is_same_port at) (f n)) (sym same) ∙ there)
   | inr further ↦ or_right (list_any (is_same_port at) (f other)) _ (are_places f at place places (rw further at among) there)
-]
-
-kept_passes : (p : ℕ → Bool) (k : ℕ) (xs : List ℕ) → list_any (λ n. n == k) (filter p xs) ≡ true → p k ≡ true
-kept_passes p k [] there = absurd (false≢true there)
-kept_passes p k (x ∷ xs) there = elim (cases_Bool (p x)) [
-  | inl keeps ↦ elim (cases_Bool (x == k)) [
-    | inl here ↦ let same : k ≡ x = grind (arith, nat_tests, here) in ap p same ∙ keeps
-    | inr other ↦ kept_passes p k xs (rw other at (rw keeps at there))
-  ]
-  | inr drops ↦ kept_passes p k xs (rw drops at there)
 ]
 
 -- ---- both

@@ -8,13 +8,16 @@ use Rattle.std.proofs.lemmas.List.{length-map}
 use Rattle.std.proofs.lemmas.Option.{same_Some}
 use Rattle.fabric_parts.specs.Cable.{is_same_port, port}
 use Rattle.fabric_parts.specs.declared.cable.PortRef.{PortRef}
-use Rattle.credit_loops.specs.Channels.{channel_at, channels, dependencies, depends, nexts}
+use Rattle.credit_loops.specs.Channels.{channel_at, channels, dependencies, depends, depends_on, leads_to, nexts, takes_both}
+use Rattle.credit_loops.specs.Courses.{CourseState, everywhere}
 use Rattle.credit_loops.specs.Cycle.{after, cycle, cycle_through, first_cycle, goes_home, leads, shortest, way}
-use Rattle.credit_loops.specs.Laws.{NoCycleIsMissed, ReportedLoopsWait, are_channels, is_cycle, wait_round}
+use Rattle.credit_loops.specs.Laws.{NoCycleIsMissed, NoCycleIsMissedOnCourses, ReportedLoopsWait, ReportedLoopsWaitOnCourses, are_channels, is_cycle, wait_round}
 use Rattle.audit_net.specs.Marked.{is_marked}
 use Rattle.credit_loops.specs.Marks.{round, rounds, some_leads}
 use Rattle.audit_net.specs.Net.{NetState}
-use Rattle.credit_loops.proofs.CycleLemmas.{any_of, find_in, marks_lead, some_of}
+use Rattle.credit_loops.proofs.CycleLemmas.{find_in, marks_lead}
+use Rattle.audit_net.proofs.EndlessLemmas.{any_of, some_of}
+use Rattle.step_results.proofs.ListLemmas.{any_map}
 use Rattle.audit_net.proofs.RoundLemmas.{AreGrowing, are_below, marked_below, settled}
 
 -- ---- rounds only mark more
@@ -259,8 +262,30 @@ rings_wait waits all ring reported =
       subst (λ (r : List PortRef). is_cycle waits r ≡ true) same (round_among waits all found.0 found.0 rest round),
     )
 
+pub reported_loops_wait_on_courses : ReportedLoopsWaitOnCourses
+reported_loops_wait_on_courses net courses ring reported = rings_wait (depends_on net courses) (channels net) ring reported
+
+-- ---- LIDs that count at all switches
+pub depends_everywhere : (net : NetState) (lids : List ℕ) (a b : PortRef) → depends_on net (map everywhere lids) a b ≡ depends net lids a b
+depends_everywhere net lids a b = ap (λ (some : Bool). leads_to net a b.node && some) (any_map (takes_both net a b) everywhere lids)
+
+round_alike : (one other : PortRef → PortRef → Bool) → ((a b : PortRef) → one a b ≡ other a b) → (first : PortRef) (ring : List PortRef)
+    → wait_round one first ring ≡ wait_round other first ring
+round_alike one other same first [] = refl
+round_alike one other same first (a ∷ []) = same a first
+round_alike one other same first (a ∷ b ∷ rest) = ap₂ (λ (x y : Bool). x && y) (same a b) (round_alike one other same first (b ∷ rest))
+
+cycle_alike : (one other : PortRef → PortRef → Bool) → ((a b : PortRef) → one a b ≡ other a b) → (ring : List PortRef) → is_cycle one ring ≡ is_cycle other ring
+cycle_alike one other same [] = refl
+cycle_alike one other same (a ∷ rest) = round_alike one other same a (a ∷ rest)
+
+cycle_everywhere : (net : NetState) (lids : List ℕ) (ring : List PortRef) → is_cycle (depends_on net (map everywhere lids)) ring ≡ is_cycle (depends net lids) ring
+cycle_everywhere net lids ring = cycle_alike (depends_on net (map everywhere lids)) (depends net lids) (depends_everywhere net lids) ring
+
 pub reported_loops_wait : ReportedLoopsWait
-reported_loops_wait net lids ring reported = rings_wait (depends net lids) (channels net) ring reported
+reported_loops_wait net lids ring reported =
+    let found = reported_loops_wait_on_courses net (map everywhere lids) ring reported in
+    (found.0, sym (cycle_everywhere net lids ring) ∙ found.1)
 
 -- ---- a cycle of channels is one of their places
 abbrev place_in : PortRef → List PortRef → ℕ
@@ -315,5 +340,8 @@ no_ring_missed waits all none (a ∷ rest) are =
     none_is_none (graph_among waits all) (none_mapped (map (at_place_of all)) (cycle (graph_among waits all)) none) (suc (length rest)) (place_in a all)
     (round_leads waits all a a rest parts.0 are round))
 
+pub no_cycle_is_missed_on_courses : NoCycleIsMissedOnCourses
+no_cycle_is_missed_on_courses net courses none ring are = no_ring_missed (depends_on net courses) (channels net) none ring are
+
 pub no_cycle_is_missed : NoCycleIsMissed
-no_cycle_is_missed net lids none ring are = no_ring_missed (depends net lids) (channels net) none ring are
+no_cycle_is_missed net lids none ring are = sym (cycle_everywhere net lids ring) ∙ no_cycle_is_missed_on_courses net (map everywhere lids) none ring are

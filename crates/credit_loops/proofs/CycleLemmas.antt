@@ -12,6 +12,7 @@ use Rattle.step_results.proofs.RangeLemmas.{range_more}
 use Rattle.credit_loops.specs.Cycle.{after, cycle_through, first_cycle, goes_home, leads, next_home, shortest, way}
 use Rattle.credit_loops.specs.Marks.{IsHitBelow, KeepsCycles, both_marked, peeled, round, rounds, some_leads, some_marked}
 use Rattle.audit_net.specs.Marked.{is_marked}
+use Rattle.audit_net.proofs.EndlessLemmas.{any_of, some_of}
 use Rattle.audit_plan.proofs.RangeLemmas.{at_range}
 
 -- ---- marks are what leads home
@@ -20,7 +21,7 @@ marked_map f [] none silent i = sym silent
 marked_map f (x ∷ xs) none silent zero = refl
 marked_map f (x ∷ xs) none silent (suc i) = marked_map f xs none silent i
 
-any_alike : {X : Type 0} (p q : X → Bool) → ((x : X) → p x ≡ q x) → (xs : List X) → list_any p xs ≡ list_any q xs
+pub any_alike : {X : Type 0} (p q : X → Bool) → ((x : X) → p x ≡ q x) → (xs : List X) → list_any p xs ≡ list_any q xs
 any_alike p q same [] = refl
 any_alike p q same (x ∷ xs) = rw (same x, any_alike p q same xs) refl
 
@@ -71,21 +72,6 @@ find_there test low (suc many) n from to here = elim (cases_Bool (test low)) [
   | inr other ↦
       let apart : low ≢ n = λ same. false≢true (sym other ∙ ap test same ∙ here) in
       rw other (find_there test (low + 1) many n (omega (arith, from, apart)) (omega (arith, to)) here)
-]
-
--- ---- one of a list
-pub some_of : (p : ℕ → Bool) (xs : List ℕ) → list_any p xs ≡ true → (x : ℕ) × (p x ≡ true) × (list_any (λ y. y == x) xs ≡ true)
-some_of p [] some = absurd (false≢true some)
-some_of p (x ∷ xs) some = elim (cases_Bool (p x)) [
-  | inl here ↦ (x, here, let same : (x == x) ≡ true = eq-eqb x x refl in rw same refl)
-  | inr other ↦ let rest = some_of p xs (rw other at some) in (rest.0, rest.1, or_right (x == rest.0) _ rest.2)
-]
-
-pub any_of : (p : ℕ → Bool) (xs : List ℕ) (x : ℕ) → list_any (λ y. y == x) xs ≡ true → p x ≡ true → list_any p xs ≡ true
-any_of p [] x there passes = absurd (false≢true there)
-any_of p (y ∷ ys) x there passes = elim (cases_Bool (y == x)) [
-  | inl here ↦ let same : x ≡ y = grind (arith, nat_tests, here) in let now : p y ≡ true = ap p (sym same) ∙ passes in rw now refl
-  | inr other ↦ or_right (p y) _ (any_of p ys x (rw other at there) passes)
 ]
 
 -- ---- one dependency more at the end of a way

@@ -14,4 +14,11 @@ waits_are_reported = record {
   round = refl;
   of_two = refl;
   none = refl;
+  at_a = refl;
+  not_at_c = refl;
+  none_at_two = refl;
+  from_a_host = refl;
+  not_at_the_host = refl;
+  of_hosts = refl;
+  of_no_hosts = refl;
 }

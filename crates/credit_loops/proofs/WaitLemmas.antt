@@ -10,16 +10,18 @@ use Rattle.fabric_parts.specs.declared.cable.PortRef.{PortRef}
 use Rattle.topo_file.specs.Node.{is_switch_at}
 use Rattle.audit_net.specs.declared.entry.Entry.{Entry}
 use Rattle.audit_net.specs.declared.entry.Entry.TheVariants.{Out, Missing, Unreported}
-use Rattle.credit_loops.specs.Channels.{channels, depends, is_channel, is_out, leads_to, leaves_by, nexts}
+use Rattle.credit_loops.specs.Channels.{channels, depends_on, is_channel, is_out, leads_to, leaves_by, nexts, takes_both}
+use Rattle.credit_loops.specs.Courses.{CourseState, counts}
 use Rattle.audit_net.specs.Net.{NetState, entry}
-use Rattle.credit_loops.specs.Waits.{all_groups, are_ports, channel_behind, group_at, group_of, if_switch, is_taken, next_if, numbered_at, some_take, then_by, then_out, two_by, two_ports}
+use Rattle.credit_loops.specs.Waits.{all_groups, are_ports, channel_behind, group_at, group_of, if_switch, is_taken, next_if, numbered_at, some_take, takes, then_by, then_out, two_by, two_ports}
 use Rattle.audit_plan.proofs.RangeLemmas.{at_range, flat_onto}
 use Rattle.audit_net.proofs.EndlessLemmas.{within_nodes}
+use Rattle.credit_loops.proofs.CycleLemmas.{any_alike}
 
 -- ---- all LIDs
-pub record AreTaken (net : NetState) (lids : List ℕ) (place index : ℕ) (marks : List Bool) : Type 0 where
+pub record AreTaken (net : NetState) (courses : List CourseState) (place index : ℕ) (marks : List Bool) : Type 0 where
   pub long : length marks ≡ 65536
-  pub marked : (n m : ℕ) → n < 256 → m < 256 → (is_taken marks n m || some_take net (drop index lids) place n m) ≡ some_take net lids place n m
+  pub marked : (n m : ℕ) → n < 256 → m < 256 → (is_taken marks n m || some_take net (drop index courses) place n m) ≡ some_take net courses place n m
 
 -- ---- what they say of dependencies
 out_then : (number next here : ℕ) (e : Entry) → are_ports number next (then_out here e) ≡ ((here == number) && is_out next e)
@@ -54,71 +56,68 @@ ports_by net lid place number next there far (Out here) = elim (cases_Bool (here
 ports_by net lid place number next there far Missing = refl
 ports_by net lid place number next there far Unreported = refl
 
-any_alike : (p q : ℕ → Bool) → ((x : ℕ) → p x ≡ q x) → (xs : List ℕ) → list_any p xs ≡ list_any q xs
-any_alike p q same [] = refl
-any_alike p q same (x ∷ xs) = ap (λ (b : Bool). b || list_any p xs) (same x) ∙ ap (λ (b : Bool). q x || b) (any_alike p q same xs)
+taken_depends : (net : NetState) (courses : List CourseState) (first second there : PortRef) → far_end net.plan.cables first ≡ Some there → there.node ≡ second.node
+    → some_take net courses first.node first.port second.port ≡ list_any (takes_both net first second) courses
+taken_depends net courses first second there far here =
+    any_alike (takes net first.node first.port second.port) (takes_both net first second)
+    (λ course. ap (λ (b : Bool). counts course first.node && b)
+    (ports_by net course.lid first.node first.port second.port there far (entry net course.lid first.node)
+    ∙ ap (λ (n : ℕ). is_out first.port (entry net course.lid first.node) && is_out second.port (entry net course.lid n)) here)) courses
 
-taken_depends : (net : NetState) (lids : List ℕ) (first second there : PortRef) → far_end net.plan.cables first ≡ Some there → there.node ≡ second.node
-    → some_take net lids first.node first.port second.port ≡ list_any (λ lid. leaves_by net first lid && leaves_by net second lid) lids
-taken_depends net lids first second there far here =
-    any_alike (λ lid. are_ports first.port second.port (two_ports net first.node lid)) (λ lid. leaves_by net first lid && leaves_by net second lid)
-    (λ lid. ports_by net lid first.node first.port second.port there far (entry net lid first.node)
-    ∙ ap (λ (n : ℕ). is_out first.port (entry net lid first.node) && is_out second.port (entry net lid n)) here) lids
-
-depends_by : (net : NetState) (lids : List ℕ) (first second : PortRef) (o : Option PortRef) → far_end net.plan.cables first ≡ o
-    → (option_map_or (λ t. t.node == second.node) o false && some_take net lids first.node first.port second.port)
-    ≡ (option_map_or (λ t. t.node == second.node) o false && list_any (λ lid. leaves_by net first lid && leaves_by net second lid) lids)
-depends_by net lids first second None far = refl
-depends_by net lids first second (Some there) far = elim (cases_Bool (there.node == second.node)) [
-  | inl here ↦ let same : there.node ≡ second.node = grind (arith, nat_tests, here) in rw here (taken_depends net lids first second there far same)
+depends_by : (net : NetState) (courses : List CourseState) (first second : PortRef) (o : Option PortRef) → far_end net.plan.cables first ≡ o
+    → (option_map_or (λ t. t.node == second.node) o false && some_take net courses first.node first.port second.port)
+    ≡ (option_map_or (λ t. t.node == second.node) o false && list_any (takes_both net first second) courses)
+depends_by net courses first second None far = refl
+depends_by net courses first second (Some there) far = elim (cases_Bool (there.node == second.node)) [
+  | inl here ↦ let same : there.node ≡ second.node = grind (arith, nat_tests, here) in rw here (taken_depends net courses first second there far same)
   | inr other ↦ rw other refl
 ]
 
-depends_is : (net : NetState) (lids : List ℕ) (first second : PortRef) (taken : Bool) → taken ≡ some_take net lids first.node first.port second.port
-    → (leads_to net first second.node && taken) ≡ depends net lids first second
-depends_is net lids first second taken is =
-    ap (λ (b : Bool). leads_to net first second.node && b) is ∙ depends_by net lids first second (far_end net.plan.cables first) refl
+depends_is : (net : NetState) (courses : List CourseState) (first second : PortRef) (taken : Bool) → taken ≡ some_take net courses first.node first.port second.port
+    → (leads_to net first second.node && taken) ≡ depends_on net courses first second
+depends_is net courses first second taken is =
+    ap (λ (b : Bool). leads_to net first second.node && b) is ∙ depends_by net courses first second (far_end net.plan.cables first) refl
 
-pub depends_here : (net : NetState) (lids : List ℕ) (first second : PortRef) (taken : Bool) → leads_to net first second.node ≡ true
-    → taken ≡ some_take net lids first.node first.port second.port → taken ≡ depends net lids first second
-depends_here net lids first second taken leads is =
-    ap (λ (b : Bool). b && taken) (sym leads) ∙ depends_is net lids first second taken is
+pub depends_here : (net : NetState) (courses : List CourseState) (first second : PortRef) (taken : Bool) → leads_to net first second.node ≡ true
+    → taken ≡ some_take net courses first.node first.port second.port → taken ≡ depends_on net courses first second
+depends_here net courses first second taken leads is =
+    ap (λ (b : Bool). b && taken) (sym leads) ∙ depends_is net courses first second taken is
 
 -- ---- the channels of one group are enough
-nexts_in : (net : NetState) (lids : List ℕ) (a : PortRef) (group : List (ℕ × PortRef)) → flat_map (next_if net lids a) group ≡ map (λ p. p.0) (filter (λ p. depends net lids a p.1) group)
-nexts_in net lids a [] = refl
-nexts_in net lids a (p ∷ group) = elim (cases_Bool (depends net lids a p.1)) [
-  | inl here ↦ rw (here, nexts_in net lids a group) refl
-  | inr other ↦ rw (other, nexts_in net lids a group) refl
+nexts_in : (net : NetState) (courses : List CourseState) (a : PortRef) (group : List (ℕ × PortRef)) → flat_map (next_if net courses a) group ≡ map (λ p. p.0) (filter (λ p. depends_on net courses a p.1) group)
+nexts_in net courses a [] = refl
+nexts_in net courses a (p ∷ group) = elim (cases_Bool (depends_on net courses a p.1)) [
+  | inl here ↦ rw (here, nexts_in net courses a group) refl
+  | inr other ↦ rw (other, nexts_in net courses a group) refl
 ]
 
-elsewhere : (net : NetState) (lids : List ℕ) (a there b : PortRef) → far_end net.plan.cables a ≡ Some there → (b.node == there.node) ≡ false → depends net lids a b ≡ false
-elsewhere net lids a there b far other =
+elsewhere : (net : NetState) (courses : List CourseState) (a there b : PortRef) → far_end net.plan.cables a ≡ Some there → (b.node == there.node) ≡ false → depends_on net courses a b ≡ false
+elsewhere net courses a there b far other =
     let turned : (there.node == b.node) ≡ false = grind (arith, nat_tests, other) in
-    ap (λ (o : Option PortRef). option_map_or (λ t. t.node == b.node) o false && list_any (λ lid. leaves_by net a lid && leaves_by net b lid) lids) far ∙ (rw turned refl)
+    ap (λ (o : Option PortRef). option_map_or (λ t. t.node == b.node) o false && list_any (takes_both net a b) courses) far ∙ (rw turned refl)
 
-in_group : (net : NetState) (lids : List ℕ) (a there : PortRef) → far_end net.plan.cables a ≡ Some there → (all : List (ℕ × PortRef))
-    → filter (λ p. depends net lids a p.1) (filter (λ p. p.1.node == there.node) all) ≡ filter (λ p. depends net lids a p.1) all
-in_group net lids a there far [] = refl
-in_group net lids a there far (p ∷ all) = elim (cases_Bool (p.1.node == there.node)) [
-  | inl here ↦ elim (cases_Bool (depends net lids a p.1)) [
-    | inl leads ↦ rw (here, leads, in_group net lids a there far all) refl
-    | inr none ↦ rw (here, none, in_group net lids a there far all) refl
+in_group : (net : NetState) (courses : List CourseState) (a there : PortRef) → far_end net.plan.cables a ≡ Some there → (all : List (ℕ × PortRef))
+    → filter (λ p. depends_on net courses a p.1) (filter (λ p. p.1.node == there.node) all) ≡ filter (λ p. depends_on net courses a p.1) all
+in_group net courses a there far [] = refl
+in_group net courses a there far (p ∷ all) = elim (cases_Bool (p.1.node == there.node)) [
+  | inl here ↦ elim (cases_Bool (depends_on net courses a p.1)) [
+    | inl leads ↦ rw (here, leads, in_group net courses a there far all) refl
+    | inr none ↦ rw (here, none, in_group net courses a there far all) refl
   ]
-  | inr other ↦ let none = elsewhere net lids a there p.1 far other in rw (other, none, in_group net lids a there far all) refl
+  | inr other ↦ let none = elsewhere net courses a there p.1 far other in rw (other, none, in_group net courses a there far all) refl
 ]
 
 group_is : (net : NetState) (place : ℕ) → is_switch_at net.plan.nodes place ≡ true → group_of (all_groups net (channels net)) place ≡ numbered_at (channels net) place
 group_is net place here =
     at_range (group_at net (channels net)) 0 (length net.plan.nodes) place place [] (omega arith) (within_nodes net.plan.nodes place here) ∙ (rw here refl)
 
-pub nexts_are : (net : NetState) (lids : List ℕ) (a there : PortRef) → if_switch net (far_end net.plan.cables a) ≡ Some there
-    → flat_map (next_if net lids a) (group_of (all_groups net (channels net)) there.node) ≡ nexts net lids a
-nexts_are net lids a there is =
+pub nexts_are : (net : NetState) (courses : List CourseState) (a there : PortRef) → if_switch net (far_end net.plan.cables a) ≡ Some there
+    → flat_map (next_if net courses a) (group_of (all_groups net (channels net)) there.node) ≡ nexts net courses a
+nexts_are net courses a there is =
     let found = behind net (far_end net.plan.cables a) there is in
-    ap (flat_map (next_if net lids a)) (group_is net there.node found.1)
-    ∙ nexts_in net lids a (numbered_at (channels net) there.node)
-    ∙ ap (map (λ p. p.0)) (in_group net lids a there found.0 (enumerate_from 0 (channels net)))
+    ap (flat_map (next_if net courses a)) (group_is net there.node found.1)
+    ∙ nexts_in net courses a (numbered_at (channels net) there.node)
+    ∙ ap (map (λ p. p.0)) (in_group net courses a there found.0 (enumerate_from 0 (channels net)))
   where
     behind : (net : NetState) (o : Option PortRef) (there : PortRef) → if_switch net o ≡ Some there → (o ≡ Some there) × (is_switch_at net.plan.nodes there.node ≡ true)
     behind net None there is = absurd (cc)
@@ -157,31 +156,31 @@ no_channel net place number is = none (far_end net.plan.cables (port place (numb
 mapped : (f : PortRef → List ℕ) (before : List (List ℕ)) (so_far one : List PortRef) → before ++ map f (so_far ++ one) ≡ (before ++ map f so_far) ++ map f one
 mapped f before so_far one = ap (λ (xs : List (List ℕ)). before ++ xs) (map-append f so_far one) ∙ sym (append_assoc before (map f so_far) (map f one))
 
-range_mapped : (net : NetState) (lids : List ℕ) (place n : ℕ) (before so_far after : List (List ℕ)) (one : List PortRef)
-    → so_far ≡ before ++ map (nexts net lids) (flat_map (channel_behind net place) (range_with_len 0 n)) → channel_behind net place n ≡ one → after ≡ so_far ++ map (nexts net lids) one
-    → after ≡ before ++ map (nexts net lids) (flat_map (channel_behind net place) (range_with_len 0 (n + 1)))
-range_mapped net lids place n before so_far after one is last more =
+range_mapped : (net : NetState) (courses : List CourseState) (place n : ℕ) (before so_far after : List (List ℕ)) (one : List PortRef)
+    → so_far ≡ before ++ map (nexts net courses) (flat_map (channel_behind net place) (range_with_len 0 n)) → channel_behind net place n ≡ one → after ≡ so_far ++ map (nexts net courses) one
+    → after ≡ before ++ map (nexts net courses) (flat_map (channel_behind net place) (range_with_len 0 (n + 1)))
+range_mapped net courses place n before so_far after one is last more =
     let whole = flat_onto (channel_behind net place) [] (flat_map (channel_behind net place) (range_with_len 0 n)) (flat_map (channel_behind net place) (range_with_len 0 n) ++ channel_behind net place n) n refl refl in
-    more ∙ ap (λ (xs : List (List ℕ)). xs ++ map (nexts net lids) one) is
-    ∙ sym (mapped (nexts net lids) before (flat_map (channel_behind net place) (range_with_len 0 n)) one)
-    ∙ ap (λ (xs : List PortRef). before ++ map (nexts net lids) (flat_map (channel_behind net place) (range_with_len 0 n) ++ xs)) (sym last)
-    ∙ ap (λ (xs : List PortRef). before ++ map (nexts net lids) xs) whole
+    more ∙ ap (λ (xs : List (List ℕ)). xs ++ map (nexts net courses) one) is
+    ∙ sym (mapped (nexts net courses) before (flat_map (channel_behind net place) (range_with_len 0 n)) one)
+    ∙ ap (λ (xs : List PortRef). before ++ map (nexts net courses) (flat_map (channel_behind net place) (range_with_len 0 n) ++ xs)) (sym last)
+    ∙ ap (λ (xs : List PortRef). before ++ map (nexts net courses) xs) whole
 
-pub one_more : (net : NetState) (lids : List ℕ) (place n : ℕ) (before so_far after : List (List ℕ)) (there : PortRef)
-    → so_far ≡ before ++ map (nexts net lids) (flat_map (channel_behind net place) (range_with_len 0 n))
+pub one_more : (net : NetState) (courses : List CourseState) (place n : ℕ) (before so_far after : List (List ℕ)) (there : PortRef)
+    → so_far ≡ before ++ map (nexts net courses) (flat_map (channel_behind net place) (range_with_len 0 n))
     → if_switch net (far_end net.plan.cables (port place (n + 1))) ≡ Some there
-    → after ≡ so_far ++ flat_map (next_if net lids (port place (n + 1))) (group_of (all_groups net (channels net)) there.node) ∷ []
-    → after ≡ before ++ map (nexts net lids) (flat_map (channel_behind net place) (range_with_len 0 (n + 1)))
-one_more net lids place n before so_far after there is behind more =
-    range_mapped net lids place n before so_far after (port place (n + 1) ∷ []) is (one_channel net place n there behind)
-    (more ∙ ap (λ (nexts : List ℕ). so_far ++ nexts ∷ []) (nexts_are net lids (port place (n + 1)) there behind))
+    → after ≡ so_far ++ flat_map (next_if net courses (port place (n + 1))) (group_of (all_groups net (channels net)) there.node) ∷ []
+    → after ≡ before ++ map (nexts net courses) (flat_map (channel_behind net place) (range_with_len 0 (n + 1)))
+one_more net courses place n before so_far after there is behind more =
+    range_mapped net courses place n before so_far after (port place (n + 1) ∷ []) is (one_channel net place n there behind)
+    (more ∙ ap (λ (nexts : List ℕ). so_far ++ nexts ∷ []) (nexts_are net courses (port place (n + 1)) there behind))
 
-pub none_more : (net : NetState) (lids : List ℕ) (place n : ℕ) (before so_far : List (List ℕ))
-    → so_far ≡ before ++ map (nexts net lids) (flat_map (channel_behind net place) (range_with_len 0 n))
+pub none_more : (net : NetState) (courses : List CourseState) (place n : ℕ) (before so_far : List (List ℕ))
+    → so_far ≡ before ++ map (nexts net courses) (flat_map (channel_behind net place) (range_with_len 0 n))
     → if_switch net (far_end net.plan.cables (port place (n + 1))) ≡ None
-    → so_far ≡ before ++ map (nexts net lids) (flat_map (channel_behind net place) (range_with_len 0 (n + 1)))
-none_more net lids place n before so_far is behind =
-    range_mapped net lids place n before so_far so_far [] is (no_channel net place n behind) (sym (nothing_more so_far))
+    → so_far ≡ before ++ map (nexts net courses) (flat_map (channel_behind net place) (range_with_len 0 (n + 1)))
+none_more net courses place n before so_far is behind =
+    range_mapped net courses place n before so_far so_far [] is (no_channel net place n behind) (sym (nothing_more so_far))
   where
     nothing_more : (xs : List (List ℕ)) → xs ++ [] ≡ xs
     nothing_more [] = refl

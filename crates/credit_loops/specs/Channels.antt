@@ -10,6 +10,7 @@ use Rattle.topo_file.specs.Node.{is_switch_at}
 use Rattle.audit_net.specs.declared.entry.Entry.{Entry}
 use Rattle.audit_net.specs.declared.entry.Entry.TheVariants.{Out, Missing, Unreported}
 use Rattle.audit_net.specs.Attached.{ports_of}
+use Rattle.credit_loops.specs.Courses.{CourseState, counts, everywhere}
 use Rattle.credit_loops.specs.Cycle.{cycle}
 use Rattle.audit_net.specs.Net.{NetState, entry}
 
@@ -36,20 +37,31 @@ leaves_by net at lid = is_out at.port (entry net lid at.node)
 abbrev pub leads_to : NetState → PortRef → ℕ → Bool
 leads_to net at place = option_map_or (λ there. there.node == place) (far_end net.plan.cables at) false
 
--- along these LIDs
+-- along these LIDs, each of which counts at all switches
 abbrev pub depends : NetState → List ℕ → PortRef → PortRef → Bool
 depends net lids a b = leads_to net a b.node && list_any (λ lid. leaves_by net a lid && leaves_by net b lid) lids
 
--- ---- the same by numbers: of each channel the places of those that it depends on
-abbrev pub nexts : NetState → List ℕ → PortRef → List ℕ
-nexts net lids a = map (λ p. p.0) (filter (λ p. depends net lids a p.1) (enumerate_from 0 (channels net)))
+-- along these, each of which counts at some switches
+abbrev pub takes_both : NetState → PortRef → PortRef → CourseState → Bool
+takes_both net a b course = counts course a.node && (leaves_by net a course.lid && leaves_by net b course.lid)
 
-abbrev pub dependencies : NetState → List ℕ → List (List ℕ)
-dependencies net lids = map (nexts net lids) (channels net)
+abbrev pub depends_on : NetState → List CourseState → PortRef → PortRef → Bool
+depends_on net courses a b = leads_to net a b.node && list_any (takes_both net a b) courses
+
+-- ---- the same by numbers: of each channel the places of those that it depends on
+abbrev pub nexts : NetState → List CourseState → PortRef → List ℕ
+nexts net courses a = map (λ p. p.0) (filter (λ p. depends_on net courses a p.1) (enumerate_from 0 (channels net)))
+
+abbrev pub dependencies : NetState → List CourseState → List (List ℕ)
+dependencies net courses = map (nexts net courses) (channels net)
 
 abbrev pub channel_at : NetState → ℕ → PortRef
 channel_at net place = get_or (channels net) place (port 0 0)
 
 -- the cycle through the least channel that is on one
+abbrev pub deadlock_on : NetState → List CourseState → Option (List PortRef)
+deadlock_on net courses = option_map (map (channel_at net)) (cycle (dependencies net courses))
+
+-- that along LIDs which count at all switches
 abbrev pub deadlock : NetState → List ℕ → Option (List PortRef)
-deadlock net lids = option_map (map (channel_at net)) (cycle (dependencies net lids))
+deadlock net lids = deadlock_on net (map everywhere lids)

@@ -6,7 +6,8 @@ use Rattle.audit_net.specs.Net.{NetState}
 use Rattle.audit_net.specs.SmallNets.{a_hole, a_routers_row, a_table, with_entries, with_rows}
 use Rattle.audit_plan.specs.Examples.{a_switch}
 use Rattle.audit_plan.specs.Plan.{plan_of}
-use Rattle.credit_loops.specs.Channels.{channels, deadlock, depends}
+use Rattle.credit_loops.specs.Channels.{channels, deadlock, deadlock_on, depends, depends_on}
+use Rattle.credit_loops.specs.Courses.{CourseState, counts, from_hosts}
 
 -- ---- three switches in a ring, each with a cable from its port 1 to port 2 of the next
 abbrev three_cabled : TopologyState
@@ -29,6 +30,9 @@ by_two_lids = record {
   dump = record { tables = a_table 16 1 ∷ with_rows 32 (a_routers_row 1 ∷ []) ∷ a_table 48 1 ∷ [] };
 }
 
+abbrev at_two : CourseState
+at_two = record { lid = 1; marks = Some (true ∷ true ∷ false ∷ []) }
+
 pub record WaitsAreReported : Type 0 where
   -- the ports of switches that have a cable to a switch
   pub channels_of_all : channels all_round ≡ port 0 1 ∷ port 0 2 ∷ port 1 1 ∷ port 1 2 ∷ port 2 1 ∷ port 2 2 ∷ []
@@ -42,3 +46,13 @@ pub record WaitsAreReported : Type 0 where
   pub round : deadlock all_round (2 ∷ 1 ∷ []) ≡ Some (port 0 1 ∷ port 1 1 ∷ port 2 1 ∷ [])
   pub of_two : deadlock (with_entries 2 1) (1 ∷ []) ≡ Some (port 0 2 ∷ port 1 1 ∷ [])
   pub none : deadlock by_two_lids (1 ∷ 2 ∷ []) ≡ None
+  -- the entries of LID 1 count at A and B alone
+  pub at_a : depends_on all_round (at_two ∷ []) (port 0 1) (port 1 1) ≡ true
+  pub not_at_c : depends_on all_round (at_two ∷ []) (port 2 1) (port 0 1) ≡ false
+  pub none_at_two : deadlock_on all_round (at_two ∷ []) ≡ None
+  -- packets of the host at the first switch come to both, and to no others
+  pub from_a_host : counts (from_hosts (with_entries 2 1) 1) 1 ≡ true
+  pub not_at_the_host : counts (from_hosts (with_entries 2 1) 1) 2 ≡ false
+  pub of_hosts : deadlock_on (with_entries 2 1) (from_hosts (with_entries 2 1) 1 ∷ []) ≡ Some (port 0 2 ∷ port 1 1 ∷ [])
+  -- no host is attached to the ring
+  pub of_no_hosts : deadlock_on all_round (from_hosts all_round 1 ∷ []) ≡ None

@@ -4,7 +4,8 @@ use Rattle.std.specs.List.{list_all, list_any}
 use Rattle.fabric_parts.specs.Cable.{far_end, is_same_port, port}
 use Rattle.fabric_parts.specs.declared.cable.PortRef.{PortRef}
 use Rattle.topo_file.specs.Node.{is_switch_at, ports_at}
-use Rattle.credit_loops.specs.Channels.{channels, deadlock, depends}
+use Rattle.credit_loops.specs.Channels.{channels, deadlock, deadlock_on, depends, depends_on}
+use Rattle.credit_loops.specs.Courses.{CourseState}
 use Rattle.audit_net.specs.Net.{NetState}
 
 -- ---- channels
@@ -38,20 +39,33 @@ is_cycle waits (a ∷ rest) = wait_round waits a (a ∷ rest)
 abbrev pub are_channels : NetState → List PortRef → Bool
 are_channels net ring = list_all (λ at. list_any (is_same_port at) (channels net)) ring
 
+-- along LIDs that count at all switches, or along those that count at some
+abbrev pub Waiting : Type 0 → Type 0
+Waiting Along = NetState → Along → PortRef → PortRef → Bool
+
+abbrev pub Reports : Type 0 → Type 0
+Reports Along = NetState → Along → Option (List PortRef)
+
 -- what is reported is a cycle, of channels that wait for one another
-abbrev pub ReportsCycles : (NetState → List ℕ → Option (List PortRef)) → Type 0
-ReportsCycles reports =
-    (net : NetState) (lids : List ℕ) (ring : List PortRef) → reports net lids ≡ Some ring
-    → (are_channels net ring ≡ true) × (is_cycle (depends net lids) ring ≡ true)
+abbrev pub ReportsCycles : (Along : Type 0) → Waiting Along → Reports Along → Type 0
+ReportsCycles Along waits reports =
+    (net : NetState) (along : Along) (ring : List PortRef) → reports net along ≡ Some ring
+    → (are_channels net ring ≡ true) × (is_cycle (waits net along) ring ≡ true)
 
 abbrev pub ReportedLoopsWait : Type 0
-ReportedLoopsWait = ReportsCycles deadlock
+ReportedLoopsWait = ReportsCycles (List ℕ) depends deadlock
+
+abbrev pub ReportedLoopsWaitOnCourses : Type 0
+ReportedLoopsWaitOnCourses = ReportsCycles (List CourseState) depends_on deadlock_on
 
 -- if none is reported no channels wait for one another in a cycle, however long
-abbrev pub MissesNone : (NetState → List ℕ → Option (List PortRef)) → Type 0
-MissesNone reports =
-    (net : NetState) (lids : List ℕ) → reports net lids ≡ None → (ring : List PortRef) → are_channels net ring ≡ true
-    → is_cycle (depends net lids) ring ≡ false
+abbrev pub MissesNone : (Along : Type 0) → Waiting Along → Reports Along → Type 0
+MissesNone Along waits reports =
+    (net : NetState) (along : Along) → reports net along ≡ None → (ring : List PortRef) → are_channels net ring ≡ true
+    → is_cycle (waits net along) ring ≡ false
 
 abbrev pub NoCycleIsMissed : Type 0
-NoCycleIsMissed = MissesNone deadlock
+NoCycleIsMissed = MissesNone (List ℕ) depends deadlock
+
+abbrev pub NoCycleIsMissedOnCourses : Type 0
+NoCycleIsMissedOnCourses = MissesNone (List CourseState) depends_on deadlock_on

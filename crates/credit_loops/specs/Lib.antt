@@ -1,5 +1,6 @@
 pub mod Cycle
 pub mod Marks
+pub mod Courses
 pub mod Channels
 pub mod Waits
 pub mod Laws

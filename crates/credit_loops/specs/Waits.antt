@@ -7,7 +7,8 @@ use Rattle.fabric_parts.specs.declared.cable.PortRef.{PortRef}
 use Rattle.topo_file.specs.Node.{is_switch_at}
 use Rattle.audit_net.specs.declared.entry.Entry.{Entry}
 use Rattle.audit_net.specs.declared.entry.Entry.TheVariants.{Out, Missing, Unreported}
-use Rattle.credit_loops.specs.Channels.{depends, is_channel}
+use Rattle.credit_loops.specs.Channels.{depends_on, is_channel}
+use Rattle.credit_loops.specs.Courses.{CourseState, counts}
 use Rattle.audit_net.specs.Marked.{is_marked}
 use Rattle.audit_net.specs.Net.{NetState, entry}
 
@@ -41,11 +42,14 @@ are_ports number next None = false
 abbrev pub is_taken : List Bool → ℕ → ℕ → Bool
 is_taken marks number next = is_marked marks (number * 256 + next)
 
-abbrev pub some_take : NetState → List ℕ → ℕ → ℕ → ℕ → Bool
-some_take net lids place number next = list_any (λ lid. are_ports number next (two_ports net place lid)) lids
+abbrev pub takes : NetState → (place number next : ℕ) → CourseState → Bool
+takes net place number next course = counts course place && are_ports number next (two_ports net place course.lid)
 
-abbrev pub KnowsTaken : NetState → List ℕ → ℕ → List Bool → Type 0
-KnowsTaken net lids place marks = (number next : ℕ) → number < 256 → next < 256 → is_taken marks number next ≡ some_take net lids place number next
+abbrev pub some_take : NetState → List CourseState → ℕ → ℕ → ℕ → Bool
+some_take net courses place number next = list_any (takes net place number next) courses
+
+abbrev pub KnowsTaken : NetState → List CourseState → ℕ → List Bool → Type 0
+KnowsTaken net courses place marks = (number next : ℕ) → number < 256 → next < 256 → is_taken marks number next ≡ some_take net courses place number next
 
 -- ---- the channels of a node, each with its place among all
 abbrev pub numbered_at : List PortRef → ℕ → List (ℕ × PortRef)
@@ -61,8 +65,8 @@ abbrev pub group_of : List (List (ℕ × PortRef)) → ℕ → List (ℕ × Port
 group_of all place = get_or all place []
 
 -- the place of the second, if the first depends on it
-abbrev pub next_if : NetState → List ℕ → PortRef → ℕ × PortRef → List ℕ
-next_if net lids a p = if depends net lids a p.1 then p.0 ∷ [] else []
+abbrev pub next_if : NetState → List CourseState → PortRef → ℕ × PortRef → List ℕ
+next_if net courses a p = if depends_on net courses a p.1 then p.0 ∷ [] else []
 
 -- the switch behind a channel
 abbrev pub if_switch : NetState → Option PortRef → Option PortRef

@@ -1,8 +1,9 @@
 -- Wrong rules for channels and their cycles, and the law that each breaks.
-use Rattle.std.specs.Prelude.{ℕ, nat_lt, List, [], ◌∷◌, filter, length, if◌then◌else◌, Option, Some, None}
+use Rattle.std.specs.Prelude.{ℕ, nat_lt, List, [], ◌∷◌, filter, length, map, if◌then◌else◌, Option, Some, None}
 use Rattle.fabric_parts.specs.Cable.{port}
 use Rattle.fabric_parts.specs.declared.cable.PortRef.{PortRef}
-use Rattle.credit_loops.specs.Channels.{channels, deadlock}
+use Rattle.credit_loops.specs.Channels.{channels, deadlock, deadlock_on, depends, depends_on}
+use Rattle.credit_loops.specs.Courses.{CourseState, everywhere}
 use Rattle.credit_loops.specs.Laws.{MissesNone, ReportsChannels, ReportsCycles}
 use Rattle.audit_net.specs.Net.{NetState}
 
@@ -18,7 +19,7 @@ abbrev pub along_another : NetState → List ℕ → Option (List PortRef)
 along_another net lids = deadlock net (1 ∷ lids)
 
 abbrev pub OtherLidsDoNotCount : Type 0
-OtherLidsDoNotCount = ReportsCycles along_another → ⊥
+OtherLidsDoNotCount = ReportsCycles (List ℕ) depends along_another → ⊥
 
 -- ---- a cycle has more than two channels
 abbrev pub longer : Option (List PortRef) → Option (List PortRef)
@@ -29,7 +30,7 @@ abbrev pub of_three : NetState → List ℕ → Option (List PortRef)
 of_three net lids = longer (deadlock net lids)
 
 abbrev pub TwoMakeACycle : Type 0
-TwoMakeACycle = MissesNone of_three → ⊥
+TwoMakeACycle = MissesNone (List ℕ) depends of_three → ⊥
 
 -- ---- the last channel of a cycle need not wait for the first: it is left out
 abbrev pub without_last : List PortRef → List PortRef
@@ -45,4 +46,24 @@ abbrev pub not_round : NetState → List ℕ → Option (List PortRef)
 not_round net lids = cut_short (deadlock net lids)
 
 abbrev pub TheLastWaitsForTheFirst : Type 0
-TheLastWaitsForTheFirst = ReportsCycles not_round → ⊥
+TheLastWaitsForTheFirst = ReportsCycles (List ℕ) depends not_round → ⊥
+
+-- ---- LIDs count at no switch, if they do not count at all
+abbrev pub nowhere : CourseState → CourseState
+nowhere course = record course { marks = Some [] }
+
+abbrev pub along_none : NetState → List CourseState → Option (List PortRef)
+along_none net courses = deadlock_on net (map nowhere courses)
+
+abbrev pub MarkedEntriesCount : Type 0
+MarkedEntriesCount = MissesNone (List CourseState) depends_on along_none → ⊥
+
+-- ---- and at all, though they count at some
+abbrev pub unmarked : CourseState → CourseState
+unmarked course = everywhere course.lid
+
+abbrev pub along_all : NetState → List CourseState → Option (List PortRef)
+along_all net courses = deadlock_on net (map unmarked courses)
+
+abbrev pub OtherEntriesDoNotCount : Type 0
+OtherEntriesDoNotCount = ReportsCycles (List CourseState) depends_on along_all → ⊥

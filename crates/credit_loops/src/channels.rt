@@ -1,10 +1,12 @@
 //! The channels of a fabric, and which depend on which.
 
 ghost use Rattle.std.specs.Prelude.{◌≡◌, ◌==◌, ◌&&◌, ◌||◌, ◌++◌, ◌<◌, ◌≤◌, length, map, flat_map, get_or, option_map, IfOk, OnOk, ℕ};
-ghost use Rattle.credit_loops.specs.Channels.{channels, channels_of, deadlock, dependencies, depends, is_channel, leads_to, leaves_by, nexts};
-ghost use Rattle.credit_loops.specs.Waits.{KnowsTaken, all_groups, are_ports, channel_behind, group_at, group_of, if_switch, is_taken, next_if, numbered_at, two_ports};
+ghost use Rattle.credit_loops.specs.Channels.{channels, channels_of, deadlock, deadlock_on, dependencies, depends_on, is_channel, leads_to, leaves_by, nexts};
+ghost use Rattle.credit_loops.specs.Courses.{everywhere};
+ghost use Rattle.credit_loops.specs.Waits.{KnowsTaken, all_groups, are_ports, channel_behind, group_at, group_of, if_switch, is_taken, next_if, numbered_at, takes, two_ports};
 ghost use Rattle.fabric_parts.specs.Cable.{far_end, port};
 
+use crate::courses::Course;
 use crate::cycle::{NextList, cycle};
 use audit_net::{Entry, Net, blank, is_marked};
 use audit_plan::ports_at;
@@ -202,13 +204,30 @@ fn mark_two(net: &Net<'_>, marks: &mut [bool], lid: u16, place: usize)
     }
 }
 
+/// Marks the two ports that the LID takes, if its entry counts at the switch there.
+fn mark_course(net: &Net<'_>, marks: &mut [bool], course: &Course, place: usize)
+    requires { 65536 ≤ length marks.old }
+    ensures long { length marks.new ≡ length marks.old }
+    ensures marked { (number next : ℕ) → number < 256 → next < 256
+        → is_taken marks.new number next ≡ (is_taken marks.old number next || takes net.now place number next course.now) }
+{
+    if course.counts(place) {
+        mark_two(net, marks, course.lid(), place);
+    }
+}
+
 /// A mark for each two ports that one of these LIDs takes, from the switch there on.
-fn taken(net: &Net<'_>, alloc: Global, lids: &[u16], place: usize) -> Result<Vec<bool>, AllocError>
-    ensures { IfOk result (λ marks. KnowsTaken net.now lids.now place marks.items) }
+fn taken(
+    net: &Net<'_>,
+    alloc: Global,
+    courses: &[Course],
+    place: usize,
+) -> Result<Vec<bool>, AllocError>
+    ensures { IfOk result (λ marks. KnowsTaken net.now courses.now place marks.items) }
 {
     let mut marks = blank(alloc, 65536)?;
-    for lid in lids {
-        mark_two(net, &mut marks, *lid, place);
+    for course in courses {
+        mark_course(net, &mut marks, course, place);
     }
     Ok(marks)
 }
@@ -233,9 +252,15 @@ fn leads_to(net: &Net<'_>, at: PortRef, place: usize) -> bool
 }
 
 /// Whether the first channel depends on the second, by the marks of the switch of the first.
-fn depends(net: &Net<'_>, lids: &[u16], marks: &[bool], first: PortRef, second: PortRef) -> bool
-    requires { KnowsTaken net.now lids.now first.node marks.now }
-    ensures { result ≡ depends net.now lids.now first second }
+fn depends(
+    net: &Net<'_>,
+    courses: &[Course],
+    marks: &[bool],
+    first: PortRef,
+    second: PortRef,
+) -> bool
+    requires { KnowsTaken net.now courses.now first.node marks.now }
+    ensures { result ≡ depends_on net.now courses.now first second }
 {
     leads_to(net, first, second.node) && is_taken(marks, first.port, second.port)
 }
@@ -243,15 +268,15 @@ fn depends(net: &Net<'_>, lids: &[u16], marks: &[bool], first: PortRef, second: 
 fn push_next(
     net: &Net<'_>,
     nexts: &mut Vec<usize>,
-    lids: &[u16],
+    courses: &[Course],
     marks: &[bool],
     first: PortRef,
     second: (usize, PortRef),
 ) -> Result<(), AllocError>
-    requires { KnowsTaken net.now lids.now first.node marks.now }
-    ensures { OnOk result (nexts.new.items ≡ nexts.old.items ++ next_if net.now lids.now first second) }
+    requires { KnowsTaken net.now courses.now first.node marks.now }
+    ensures { OnOk result (nexts.new.items ≡ nexts.old.items ++ next_if net.now courses.now first second) }
 {
-    if depends(net, lids, marks, first, second.1) {
+    if depends(net, courses, marks, first, second.1) {
         nexts.push(second.0)?;
     }
     Ok(())
@@ -261,17 +286,17 @@ fn push_next(
 fn nexts(
     net: &Net<'_>,
     alloc: Global,
-    lids: &[u16],
+    courses: &[Course],
     marks: &[bool],
     group: &[(usize, PortRef)],
     first: PortRef,
 ) -> Result<Vec<usize>, AllocError>
-    requires { KnowsTaken net.now lids.now first.node marks.now }
-    ensures { IfOk result (λ places. places.items ≡ flat_map (next_if net.now lids.now first) group.now) }
+    requires { KnowsTaken net.now courses.now first.node marks.now }
+    ensures { IfOk result (λ places. places.items ≡ flat_map (next_if net.now courses.now first) group.now) }
 {
     let mut nexts = Vec::new(alloc);
     for second in group {
-        push_next(net, &mut nexts, lids, marks, first, *second)?;
+        push_next(net, &mut nexts, courses, marks, first, *second)?;
     }
     Ok(nexts)
 }
@@ -281,21 +306,28 @@ fn push_dependencies(
     net: &Net<'_>,
     alloc: Global,
     graph: &mut Vec<NextList>,
-    lids: &[u16],
+    courses: &[Course],
     groups: &[Group],
     place: usize,
 ) -> Result<(), AllocError>
     requires { groups.now ≡ all_groups net.now (channels net.now) }
-    ensures { OnOk result (graph.new.items ≡ graph.old.items ++ map (nexts net.now lids.now) (channels_of net.now place)) }
+    ensures { OnOk result (graph.new.items ≡ graph.old.items ++ map (nexts net.now courses.now) (channels_of net.now place)) }
 {
-    let marks = taken(net, alloc, lids, place)?;
+    let marks = taken(net, alloc, courses, place)?;
     for number in 0..ports_at(net.nodes(), place) {
         let at = PortRef {
             node: place,
             port: number + 1,
         };
         if let Some(there) = switch_behind(net, at) {
-            let nexts = nexts(net, alloc, lids, &marks, group_of(groups, there.node), at)?;
+            let nexts = nexts(
+                net,
+                alloc,
+                courses,
+                &marks,
+                group_of(groups, there.node),
+                at,
+            )?;
             graph.push(NextList::of(nexts))?;
         }
     }
@@ -305,21 +337,37 @@ fn push_dependencies(
 fn dependencies(
     net: &Net<'_>,
     alloc: Global,
-    lids: &[u16],
+    courses: &[Course],
     all: &[PortRef],
 ) -> Result<Vec<NextList>, AllocError>
     requires { all.now ≡ channels net.now }
-    ensures { IfOk result (λ graph. graph.items ≡ dependencies net.now lids.now) }
+    ensures { IfOk result (λ graph. graph.items ≡ dependencies net.now courses.now) }
 {
     let groups = groups(net, alloc, all)?;
     let mut graph = Vec::new(alloc);
     for place in net.switches() {
-        push_dependencies(net, alloc, &mut graph, lids, &groups, *place)?;
+        push_dependencies(net, alloc, &mut graph, courses, &groups, *place)?;
     }
     Ok(graph)
 }
 
-/// A cycle of channels along these LIDs, each of which waits for the next, if there is one.
+/// A cycle of channels along these LIDs, each of which counts at some switches, if there is one. Each channel waits for the next.
+pub fn deadlock_on(
+    net: &Net<'_>,
+    alloc: Global,
+    courses: &[Course],
+) -> Result<Option<Vec<PortRef>>, AllocError>
+    ensures { IfOk result (λ found. option_map (λ ring. ring.items) found ≡ deadlock_on net.now courses.now) }
+{
+    let channels = all_channels(net, alloc)?;
+    let graph = dependencies(net, alloc, courses, &channels)?;
+    match cycle(alloc, &graph)? {
+        Some(places) => Ok(Some(at_places(alloc, &channels, &places)?)),
+        None => Ok(None),
+    }
+}
+
+/// Such a cycle along LIDs that count at all switches.
 pub fn deadlock(
     net: &Net<'_>,
     alloc: Global,
@@ -327,12 +375,16 @@ pub fn deadlock(
 ) -> Result<Option<Vec<PortRef>>, AllocError>
     ensures { IfOk result (λ found. option_map (λ ring. ring.items) found ≡ deadlock net.now lids.now) }
 {
-    let channels = all_channels(net, alloc)?;
-    let graph = dependencies(net, alloc, lids, &channels)?;
-    match cycle(alloc, &graph)? {
-        Some(places) => Ok(Some(at_places(alloc, &channels, &places)?)),
-        None => Ok(None),
-    }
+    let courses = all_everywhere(alloc, lids)?;
+    deadlock_on(net, alloc, &courses)
+}
+
+fn all_everywhere(alloc: Global, lids: &[u16]) -> Result<Vec<Course>, AllocError>
+    ensures { IfOk result (λ courses. courses.items ≡ map everywhere lids.now) }
+{
+    lids.iter()
+        .map(|lid| Course::everywhere(*lid))
+        .collect(alloc)
 }
 
 /// The channel there, or no port of a switch if there is none.

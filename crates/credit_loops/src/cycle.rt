@@ -32,7 +32,8 @@ impl NextList {
         NextList { numbers }
     }
 
-    fn as_slice(&self) -> &[usize]
+    /// The numbers.
+    pub fn as_slice(&self) -> &[usize]
         ensures { result.now ≡ self.now }
     {
         self.numbers.as_slice()
@@ -111,7 +112,8 @@ fn all_marked(alloc: Global, graph: &[NextList]) -> Result<Vec<bool>, AllocError
     graph.iter().map(|_| true).collect(alloc)
 }
 
-fn some_marked(marks: &[bool], nexts: &[usize]) -> bool
+/// Whether one of these is marked.
+pub fn some_marked(marks: &[bool], nexts: &[usize]) -> bool
     ensures { result ≡ some_marked marks.now nexts.now }
 {
     nexts.iter().any(|next| is_marked(marks, *next))
@@ -127,7 +129,8 @@ fn peeled(alloc: Global, graph: &[NextList], marks: &[bool]) -> Result<Vec<bool>
         .collect(alloc)
 }
 
-fn are_same(a: &[bool], b: &[bool]) -> bool
+/// Whether both have the same marks.
+pub fn are_same(a: &[bool], b: &[bool]) -> bool
     ensures { result ≡ true → a.now ≡ b.now }
 {
     a == b

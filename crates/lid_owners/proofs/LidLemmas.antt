@@ -15,24 +15,7 @@ use Rattle.audit_net.specs.Marked.{is_marked}
 use Rattle.audit_net.specs.Net.{NetState}
 use Rattle.audit_net.proofs.EndlessLemmas.{in_range}
 
--- ---- one mark more
-pub marked_more : (marks : List Bool) (i other : ℕ) → i < length marks → is_marked (slice_set marks i true) other ≡ (is_marked marks other || (i == other))
-marked_more marks i other within = elim (cases_Bool (i == other)) [
-  | inl here ↦
-      let same : other ≡ i = grind (arith, nat_tests, here) in
-      let now : slice_get (slice_set marks i true) i ≡ Some true = get_written marks i true (get_or marks i true) (slice_get-get_or marks i true within) in
-      ap (λ (n : ℕ). unwrap_or (slice_get (slice_set marks i true) n) false) same ∙ ap (λ (o : Option Bool). unwrap_or o false) now
-      ∙ sym (or_right (is_marked marks other) (i == other) here)
-  | inr apart ↦
-      let differ : other ≢ i = (λ same. let is : (i == other) ≡ true = eq-eqb i other (sym same) in false≢true (sym apart ∙ is)) in
-      ap (λ (o : Option Bool). unwrap_or o false) (get_other marks i other true differ)
-      ∙ sym (ap (λ (b : Bool). is_marked marks other || b) apart ∙ or_last (is_marked marks other))
-]
-  where
-    or_last : (b : Bool) → (b || false) ≡ b
-    or_last true = refl
-    or_last false = refl
-
+-- ---- marks of rows
 pub record AreMarked (before : List Bool) (rows : List Row) (index : ℕ) (marks : List Bool) : Type 0 where
   pub long : length marks ≡ length before
   pub marked : (lid : ℕ) → (is_marked marks lid || is_named (drop index rows) lid) ≡ (is_marked before lid || is_named rows lid)

@@ -9,5 +9,5 @@ returns c =
     let net = c.args.net.now in
     let places = switches net.plan.nodes in
     let ended = subst (λ (items : List ℕ). length items ≤ c.loop-place.place-index) c.switches-place-items.ensures c.loop-place-test.false in
-    c.loop-place.invariant ∙ ap (flat_map (λ place. map (nexts net c.args.lids.now) (channels_of net place))) (take_all c.loop-place.place-index places ended)
-    ∙ sym (map_flat (nexts net c.args.lids.now) (channels_of net) places)
+    c.loop-place.invariant ∙ ap (flat_map (λ place. map (nexts net c.args.courses.now) (channels_of net place))) (take_all c.loop-place.place-index places ended)
+    ∙ sym (map_flat (nexts net c.args.courses.now) (channels_of net) places)

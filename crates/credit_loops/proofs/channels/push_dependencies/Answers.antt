@@ -14,7 +14,7 @@ use Rattle.credit_loops.proofs.channels.push_dependencies.Goals as goal
 pub loop-number-preserved : goal.loop-number-preserved
 loop-number-preserved c =
     let net = c.args.net.now in
-    let lids = c.args.lids.now in
+    let courses = c.args.courses.now in
     let place = c.args.place in
     let n = c.loop-number.number in
     let before = c.args.graph.now.items in
@@ -24,9 +24,9 @@ loop-number-preserved c =
           let there = w.in-Some.there in
           let group = w.group_of.ensures ∙ ap (λ (all : List (List (ℕ × PortRef))). group_of all there.node) c.requires in
           rw w.graph-is
-          (one_more net lids place n before items w.push.new.self.items there c.loop-number.invariant (sym c.switch_behind.ensures ∙ w.in-Some.is)
-          (w.in_ok-push.ensures.items ∙ ap (λ (one : List ℕ). items ++ one ∷ []) (w.of.ensures ∙ w.in_ok-nexts.ensures ∙ ap (flat_map (next_if net lids (port place (n + 1)))) group)))
-      | in_default w ↦ rw w.graph-is (none_more net lids place n before items c.loop-number.invariant (sym c.switch_behind.ensures ∙ w.in_default.is))
+          (one_more net courses place n before items w.push.new.self.items there c.loop-number.invariant (sym c.switch_behind.ensures ∙ w.in-Some.is)
+          (w.in_ok-push.ensures.items ∙ ap (λ (one : List ℕ). items ++ one ∷ []) (w.of.ensures ∙ w.in_ok-nexts.ensures ∙ ap (flat_map (next_if net courses (port place (n + 1)))) group)))
+      | in_default w ↦ rw w.graph-is (none_more net courses place n before items c.loop-number.invariant (sym c.switch_behind.ensures ∙ w.in_default.is))
     ]
 
 pub returns : goal.returns
@@ -36,5 +36,5 @@ returns c =
     let before = c.args.graph.now.items in
     let end : c.loop-number.number ≡ ports_at net.plan.nodes place =
     le_antisymm c.loop-number.auto.number-end c.loop-number-test.false ∙ c.ports_at-number-end.ensures ∙ ap (λ (nodes : List Node). ports_at nodes place) c.nodes.ensures in
-    c.loop-number.invariant ∙ ap (λ (n : ℕ). before ++ map (nexts net c.args.lids.now) (flat_map (channel_behind net place) (range_with_len 0 n))) end
-    ∙ ap (λ (channels : List PortRef). before ++ map (nexts net c.args.lids.now) channels) (all_behind net place (ports_at net.plan.nodes place))
+    c.loop-number.invariant ∙ ap (λ (n : ℕ). before ++ map (nexts net c.args.courses.now) (flat_map (channel_behind net place) (range_with_len 0 n))) end
+    ∙ ap (λ (channels : List PortRef). before ++ map (nexts net c.args.courses.now) channels) (all_behind net place (ports_at net.plan.nodes place))

@@ -13,9 +13,9 @@ use Rattle.audit_net.specs.Laws.{ComesBy, GoesTo}
 use Rattle.audit_net.specs.Net.{NetState}
 use Rattle.audit_net.proofs.EndlessLemmas.{below_at, below_map, is_listed, map_alike, same_at, turn_goes}
 use Rattle.audit_net.proofs.RoundLemmas.{AreGrowing, settled}
-use Rattle.cable_load.specs.Laws.{WaysAreWhole}
-use Rattle.cable_load.specs.Ways.{is_on, then_on, way_within}
-use Rattle.cable_load.proofs.WayLemmas.{next_on, stays_in, then_next}
+use Rattle.audit_net.specs.Laws.{WaysAreWhole}
+use Rattle.audit_net.specs.Ways.{is_on, then_on, way_within}
+use Rattle.audit_net.proofs.WayLemmas.{next_on, stays_in, then_next}
 
 abbrev on_way : NetState → (lid start count : ℕ) → ℕ → Bool
 on_way net lid start count place = is_on place (way_within net lid count start)
@@ -95,7 +95,7 @@ came_from net lid (suc count) start there on = elim (cases_Bool (start == there)
 ]
 
 -- ---- all on a way from a switch are switches
-are_switches : (net : NetState) (lid start count there : ℕ) → is_switch_at net.plan.nodes start ≡ true → on_way net lid start count there ≡ true
+pub are_switches : (net : NetState) (lid start count there : ℕ) → is_switch_at net.plan.nodes start ≡ true → on_way net lid start count there ≡ true
     → is_switch_at net.plan.nodes there ≡ true
 are_switches net lid start count there from on =
     stays_in net lid (is_switch_at net.plan.nodes) (λ p n is goes. turn_goes net lid p n goes) count start there from on

@@ -9,7 +9,7 @@ use Rattle.audit_net.specs.declared.following.Turn.TheVariants as turns
 use Rattle.audit_net.specs.Following.{turn}
 use Rattle.audit_net.specs.Laws.{GoesTo}
 use Rattle.audit_net.specs.Net.{NetState}
-use Rattle.cable_load.specs.Ways.{is_on, then_on, way_within}
+use Rattle.audit_net.specs.Ways.{is_on, then_on, way_within}
 
 -- ---- the switch that packets come to behind so many
 abbrev pub ComesTo : NetState → (lid start count at : ℕ) → Type 0
@@ -32,7 +32,7 @@ one_alone net lid at = ap (λ (rest : List ℕ). at ∷ rest) (nothing_on (turn 
 pub way_more : (net : NetState) (lid start count at : ℕ) → ComesTo net lid start count at → way_within net lid (count + 1) start ≡ way_within net lid count start ++ at ∷ []
 way_more net lid start count at comes = comes 1 ∙ ap (λ (rest : List ℕ). way_within net lid count start ++ rest) (one_alone net lid at)
 
-goes_step : (net : NetState) (lid at next more : ℕ) → GoesTo net lid at next → way_within net lid (suc more) at ≡ at ∷ way_within net lid more next
+pub goes_step : (net : NetState) (lid at next more : ℕ) → GoesTo net lid at next → way_within net lid (suc more) at ≡ at ∷ way_within net lid more next
 goes_step net lid at next more goes = ap (λ (turned : Turn). at ∷ then_on (λ n. way_within net lid more n) turned) goes
 
 pub comes_on : (net : NetState) (lid start count at next : ℕ) → ComesTo net lid start count at → GoesTo net lid at next → ComesTo net lid start (count + 1) next
@@ -43,7 +43,7 @@ comes_on net lid start count at next comes goes more =
     ∙ sym (append_assoc (way_within net lid count start) (at ∷ []) (way_within net lid more next))
     ∙ ap (λ (front : List ℕ). front ++ way_within net lid more next) (sym (way_more net lid start count at comes))
 
-stays_alone : (rest : ℕ → List ℕ) (turned : Turn) → ((next : ℕ) → turned ≡ turns.Goes next → ⊥) → then_on rest turned ≡ []
+pub stays_alone : (rest : ℕ → List ℕ) (turned : Turn) → ((next : ℕ) → turned ≡ turns.Goes next → ⊥) → then_on rest turned ≡ []
 stays_alone rest (turns.Goes next) stays = absurd (stays next refl)
 stays_alone rest (turns.Arrives there) stays = refl
 stays_alone rest turns.Hole stays = refl
