@@ -34,5 +34,7 @@ lane_verdicts_are_reported = record {
   lacks = refl;
   drops = refl;
   freed = refl;
+  without_paths = refl;
+  without_rows = refl;
   unsafe = refl;
 }

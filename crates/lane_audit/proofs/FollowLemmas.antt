@@ -13,7 +13,7 @@ use Rattle.audit_net.specs.declared.entry.Entry.{Entry}
 use Rattle.audit_net.specs.declared.entry.Entry.TheVariants.{Out, Missing, Unreported}
 use Rattle.audit_net.specs.Net.{NetState, entry}
 use Rattle.credit_loops.specs.Channels.{depends, is_out, leads_to, leaves_by}
-use Rattle.credit_loops.proofs.CycleLemmas.{any_of}
+use Rattle.audit_net.proofs.EndlessLemmas.{any_of}
 use Rattle.lid_owners.specs.declared.lids.Aim.{Aim}
 use Rattle.route_audit.specs.Verdict.{is_others}
 use Rattle.lane_audit.specs.declared.hop.Hop.{Hop}

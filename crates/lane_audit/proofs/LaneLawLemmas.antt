@@ -6,11 +6,10 @@ use Rattle.std.proofs.lemmas.List.Folds.{list_any-append}
 use Rattle.fabric_parts.specs.Cable.{is_same_port}
 use Rattle.fabric_parts.specs.declared.cable.PortRef.{PortRef}
 use Rattle.sl2vl_file.specs.declared.path.PathSl.{PathSl}
-use Rattle.credit_loops.specs.Channels.{channels, depends}
+use Rattle.credit_loops.specs.Channels.{channels, deadlock, depends}
 use Rattle.credit_loops.specs.Laws.{are_channels, is_cycle as is_channel_cycle, wait_round as wait_channel_round}
 use Rattle.credit_loops.proofs.CycleLawLemmas.{no_cycle_is_missed}
 use Rattle.audit_net.specs.Net.{NetState}
-use Rattle.route_audit.specs.Audit.{credit_loop}
 use Rattle.lane_audit.specs.declared.lane.Lane.{Lane}
 use Rattle.lane_audit.specs.Deadlock.{lane_deadlock}
 use Rattle.lane_audit.specs.Hops.{traces}
@@ -64,7 +63,7 @@ cycle_depends : (net : NetState) (tables : TablesState) (paths : List PathSl) (r
 cycle_depends net tables paths [] round = absurd (false≢true round)
 cycle_depends net tables paths (a ∷ rest) round = round_depends net tables paths a a rest round
 
-none_by_lanes : (net : NetState) (tables : TablesState) (paths : List PathSl) → credit_loop net tables.aims ≡ None → lane_deadlock net tables.aims (traces net tables paths) ≡ None
+none_by_lanes : (net : NetState) (tables : TablesState) (paths : List PathSl) → deadlock net (other_lids net tables.aims) ≡ None → lane_deadlock net tables.aims (traces net tables paths) ≡ None
 none_by_lanes net tables paths none = by (lane_deadlock net tables.aims (traces net tables paths)) refl
   where
     by : (found : Option (List Lane)) → lane_deadlock net tables.aims (traces net tables paths) ≡ found → found ≡ None

@@ -1,5 +1,5 @@
 -- Each line on virtual lanes stands in the text, and what a wrong rule leaves out.
-use Rattle.std.proofs.Common.{◌≡◌, ap, refl, sym, subst, ℕ, ◌≤◌, List, [], ◌∷◌, ◌++◌, filter, map, slice_get, Some, arith}
+use Rattle.std.proofs.Common.{◌≡◌, ap, refl, sym, subst, ℕ, ◌≤◌, Bool, true, List, [], ◌∷◌, ◌++◌, filter, map, slice_get, Some, arith}
 use Rattle.std.specs.Fmt.{digits}
 use Rattle.std.specs.Str.Iter.{HasSubslice}
 use Rattle.std.proofs.lemmas.List.{append_assoc}
@@ -20,13 +20,13 @@ use Rattle.lane_audit.specs.Lines.{count_line, counts_line, crossing_lines, cros
 use Rattle.lane_audit.specs.Records.{owned, sls, vls}
 use Rattle.lane_audit.specs.WrongRules.{RoutesArePrintedToo}
 
-module _ (net : NetState) (lanes : LanesState) where
+module _ (whole : Bool) (net : NetState) (lanes : LanesState) where
   abbrev text : List ℕ
-  text = (audit_with net lanes).text
+  text = (audit_with whole net lanes).text
 
   in_lanes : (line : List ℕ) → HasSubslice (lane_findings net lanes).text line → HasSubslice text line
   unfolding audit_with
-  in_lanes line stands = stands_longer _ _ (stands_behind _ (findings_of net).text stands)
+  in_lanes line stands = stands_longer _ _ (stands_behind _ (findings_of whole net).text stands)
 
   in_crossings : (line : List ℕ) → HasSubslice (crossing_lines net (all_traces net lanes)) line → HasSubslice text line
   unfolding lane_findings lane_text
@@ -59,15 +59,15 @@ module _ (net : NetState) (lanes : LanesState) where
       in_crossings line
       (stands_behind _ _ (stands_of_all (dropped_lines net (all_traces net lanes)) line (crossings net) index here there (stands_itself line)))
 
-  routes_printed : (rest : List ℕ) × (text ≡ (findings_of net).text ++ rest)
+  routes_printed : (rest : List ℕ) × (text ≡ (findings_of whole net).text ++ rest)
   unfolding audit_with
   routes_printed =
       let found = (lane_findings net lanes).text in
-      let closing = closing_lines (findings_of net).verdict (lane_findings net lanes).verdict in
-      (found ++ closing, append_assoc (findings_of net).text found closing)
+      let closing = closing_lines (findings_of whole net).verdict (lane_findings net lanes).verdict in
+      (found ++ closing, append_assoc (findings_of whole net).text found closing)
 
 pub lanes_are_printed : LanesArePrinted
-lanes_are_printed = record { paths = path_printed; rows = row_printed; drops = drop_printed; routes = routes_printed }
+lanes_are_printed whole = record { paths = path_printed whole; rows = row_printed whole; drops = drop_printed whole; routes = routes_printed whole }
 
 -- ---- a cable of a node with a long name, that joins no switch; nothing is known of any LID
 none_known : (xs : List ℕ) → filter (is_known_lid two_loose) xs ≡ []

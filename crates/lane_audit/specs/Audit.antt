@@ -1,6 +1,6 @@
 -- The audit of LFTs, SL-to-VL mapping tables and path records over a topology or a discovery: what is printed, and whether the
 -- routes are safe.
-use Rattle.std.specs.Prelude.{ℕ, List, ◌++◌, Option}
+use Rattle.std.specs.Prelude.{ℕ, Bool, List, ◌++◌, Option}
 use Rattle.dump_file.specs.Dump.{DumpState}
 use Rattle.netdiscover_file.specs.Discovery.{DiscoveryState}
 use Rattle.sl2vl_file.specs.Lanes.{LanesState}
@@ -18,7 +18,7 @@ use Rattle.lane_audit.specs.declared.verdict.LaneVerdict.{LaneVerdict}
 use Rattle.lane_audit.specs.Deadlock.{lane_deadlock}
 use Rattle.lane_audit.specs.Hops.{traces}
 use Rattle.lane_audit.specs.Lines.{counts_line, crossing_lines, freed_line, judged_line, no_path_lines, ring_line}
-use Rattle.lane_audit.specs.Verdict.{all_are_safe, all_verdict_line, lane_verdict}
+use Rattle.lane_audit.specs.Verdict.{all_are_safe, all_verdict_line, frees, lane_verdict}
 
 -- what is found of lanes: the lines, and what the verdict rests on
 pub record LaneFindings : Type 0 where
@@ -38,9 +38,9 @@ found_with net aims paths all = found_by net aims paths all (lane_deadlock net a
 unfoldable pub lane_findings : NetState → LanesState → LaneFindings
 lane_findings net lanes = found_with net (aims net) lanes.paths (traces net (record { aims = aims net; rows = lanes.rows }) lanes.paths)
 
--- behind what an audit without them prints before its verdict
+-- behind what an audit without them prints before its verdict, with all lines by switch and LID or with their number
 unfoldable pub closing_lines : Verdict → LaneVerdict → List ℕ
-closing_lines routes lanes = freed_line routes.is_free lanes.is_free ++ judged_line ++ all_verdict_line routes lanes
+closing_lines routes lanes = freed_line routes.is_free (frees lanes) ++ judged_line ++ all_verdict_line routes lanes
 
 abbrev pub with_lanes : FindingsState → LaneFindings → AuditState
 with_lanes routes lanes = record {
@@ -48,11 +48,11 @@ with_lanes routes lanes = record {
   is_safe = all_are_safe routes.verdict lanes.verdict;
 }
 
-unfoldable pub audit_with : NetState → LanesState → AuditState
-audit_with net lanes = with_lanes (findings_of net) (lane_findings net lanes)
+unfoldable pub audit_with : Bool → NetState → LanesState → AuditState
+audit_with whole net lanes = with_lanes (findings_of whole net) (lane_findings net lanes)
 
-abbrev pub audit_lanes : TopologyState → DumpState → LanesState → AuditState
-audit_lanes topology dump lanes = audit_with (record { plan = plan_of topology; dump = dump }) lanes
+abbrev pub audit_lanes : Bool → TopologyState → DumpState → LanesState → AuditState
+audit_lanes whole topology dump lanes = audit_with whole (record { plan = plan_of topology; dump = dump }) lanes
 
-abbrev pub audit_lanes_found : DiscoveryState → DumpState → LanesState → AuditState
-audit_lanes_found found dump lanes = audit_with (record { plan = plan_found found; dump = dump }) lanes
+abbrev pub audit_lanes_found : Bool → DiscoveryState → DumpState → LanesState → AuditState
+audit_lanes_found whole found dump lanes = audit_with whole (record { plan = plan_found found; dump = dump }) lanes

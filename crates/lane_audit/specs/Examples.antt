@@ -16,13 +16,13 @@ use Rattle.audit_net.specs.Net.{NetState}
 use Rattle.audit_net.specs.SmallNets.{a_row}
 use Rattle.audit_plan.specs.Plan.{plan_of}
 use Rattle.lid_owners.specs.declared.lids.Aim.{Aim}
-use Rattle.route_audit.specs.Audit.{credit_loop}
+use Rattle.route_audit.specs.Loops.{credit_loop}
 use Rattle.route_audit.specs.declared.verdict.Verdict.{Verdict}
 use Rattle.route_audit.specs.Examples.{a_verdict}
 use Rattle.lane_audit.specs.declared.hop.Hop.{Hop}
 use Rattle.lane_audit.specs.declared.lane.Lane.{Lane}
 use Rattle.lane_audit.specs.declared.verdict.LaneVerdict.{LaneVerdict}
-use Rattle.lane_audit.specs.Audit.{lane_text, with_lanes}
+use Rattle.lane_audit.specs.Audit.{closing_lines, lane_text, with_lanes}
 use Rattle.lane_audit.specs.Deadlock.{deadlock_among}
 use Rattle.lane_audit.specs.Hops.{hops_of, is_dropped, lacks_row, some_hop, traces}
 use Rattle.lane_audit.specs.Lanes.{lane, waits}
@@ -182,5 +182,8 @@ pub record LaneVerdictsAreReported : Type 0 where
             codes "routes\nlanes\n# lanes: by virtual lanes the deadlock above does not happen\n" ++ judged ++ codes "verdict: safe" ++ the_rest;
         is_safe = true;
       }
+  -- unless a path record or a row is missing, of which nothing is known
+  pub without_paths : closing_lines looping_routes (record all_is_well { has_paths = false }) ≡ judged ++ codes "verdict: not safe (unknown)" ++ the_rest
+  pub without_rows : closing_lines looping_routes (record all_is_well { has_rows = false }) ≡ judged ++ codes "verdict: not safe (unknown)" ++ the_rest
   pub unsafe : with_lanes (record { text = []; verdict = safe_routes }) (record { text = []; verdict = record all_is_well { drops = true } })
       ≡ record { text = judged ++ codes "verdict: not safe (dropped)" ++ the_rest; is_safe = false }

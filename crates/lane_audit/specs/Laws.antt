@@ -7,11 +7,12 @@ use Rattle.fabric_parts.specs.declared.cable.PortRef.{PortRef}
 use Rattle.sl2vl_file.specs.declared.path.PathSl.{PathSl}
 use Rattle.sl2vl_file.specs.Lanes.{LanesState}
 use Rattle.topo_file.specs.Node.{is_switch_at}
-use Rattle.credit_loops.specs.Channels.{depends}
+use Rattle.credit_loops.specs.Channels.{deadlock, depends}
 use Rattle.audit_net.specs.Net.{NetState}
 use Rattle.lid_owners.specs.declared.lids.Aim.{Aim}
 use Rattle.lid_owners.specs.Lids.{aims}
-use Rattle.route_audit.specs.Audit.{credit_loop, findings_of, lids_of}
+use Rattle.route_audit.specs.Audit.{findings_of}
+use Rattle.route_audit.specs.Loops.{lids_of}
 use Rattle.route_audit.specs.Laws.{has_word}
 use Rattle.route_audit.specs.Verdict.{is_others, leads, verdict_by}
 use Rattle.route_audit.specs.declared.verdict.Verdict.{Verdict}
@@ -88,8 +89,8 @@ Waiting = NetState → TablesState → List PathSl → Lane → Lane → Bool
 pub record LanesFollowChannels (waiting : Waiting) (reports : Reports) : Type 0 where
   pub waits : (net : NetState) (tables : TablesState) (paths : List PathSl) (a b : Lane) → waiting net tables paths a b ≡ true
       → depends net (other_lids net tables.aims) a.at b.at ≡ true
-  -- so if there is no credit loop by the entries, there is none by lanes
-  pub free : (net : NetState) (tables : TablesState) (paths : List PathSl) → credit_loop net tables.aims ≡ None
+  -- so if these LIDs make no credit loop by the entries, each of which counts at all switches, there is none by lanes
+  pub free : (net : NetState) (tables : TablesState) (paths : List PathSl) → deadlock net (other_lids net tables.aims) ≡ None
       → reports net tables.aims (traces net tables paths) ≡ None
 
 abbrev pub waits_by_records : Waiting
@@ -168,7 +169,7 @@ all_traces net lanes = traces net (record { aims = aims net; rows = lanes.rows }
 
 -- the text has each line: of each LID to which paths lack a record, and of each two ports of a switch for which a row is lacking, or
 -- between which packets are dropped
-pub record PrintsLanes (text : NetState → LanesState → List ℕ) : Type 0 where
+pub record PrintsLanes (whole : Bool) (text : NetState → LanesState → List ℕ) : Type 0 where
   pub paths : (net : NetState) (lanes : LanesState) (index : ℕ) (source : OwnedLid) → slice_get (owned net (aims net)) index ≡ Some source
       → HasSubslice (text net lanes) (no_path_line net lanes.paths (owned net (aims net)) source)
   pub rows : (net : NetState) (lanes : LanesState) (index : ℕ) (here : Crossing) → slice_get (crossings net) index ≡ Some here
@@ -176,7 +177,7 @@ pub record PrintsLanes (text : NetState → LanesState → List ℕ) : Type 0 wh
   pub drops : (net : NetState) (lanes : LanesState) (index : ℕ) (here : Crossing) → slice_get (crossings net) index ≡ Some here
       → HasSubslice (text net lanes) (dropped_lines net (all_traces net lanes) here)
   -- it begins with what an audit without lanes prints before its verdict
-  pub routes : (net : NetState) (lanes : LanesState) → (rest : List ℕ) × (text net lanes ≡ (findings_of net).text ++ rest)
+  pub routes : (net : NetState) (lanes : LanesState) → (rest : List ℕ) × (text net lanes ≡ (findings_of whole net).text ++ rest)
 
 abbrev pub LanesArePrinted : Type 0
-LanesArePrinted = PrintsLanes (λ net lanes. (audit_with net lanes).text)
+LanesArePrinted = (whole : Bool) → PrintsLanes whole (λ net lanes. (audit_with whole net lanes).text)

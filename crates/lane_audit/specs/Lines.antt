@@ -98,7 +98,7 @@ numbers_words sls vls = codes ", SLs" ++ number_words sls ++ codes ", VLs" ++ nu
 unfoldable pub count_line : List Bool → (sls vls : List ℕ) → List ℕ
 count_line all sls vls = pairs_words all ++ recorded_words all ++ numbers_words sls vls
 
--- by the entries alone there is a credit loop, and by lanes there is none
+-- by the entries alone there is a credit loop, and by lanes there is none, as is known of each pair and each hop
 abbrev pub freed_line : (by_entries by_lanes : Bool) → List ℕ
 freed_line false true = codes "# lanes: by virtual lanes the deadlock above does not happen\n"
 freed_line _ _ = []

@@ -28,6 +28,10 @@ joined routes lanes = record routes { is_free = lanes.is_free; is_known = routes
 abbrev pub all_are_safe : Verdict → LaneVerdict → Bool
 all_are_safe routes lanes = verdict_is_safe (joined routes lanes) && not lanes.drops
 
+-- by lanes there is no cycle, and all that packets may wait for is known
+abbrev pub frees : LaneVerdict → Bool
+frees lanes = lanes.is_free && (lanes.has_paths && lanes.has_rows)
+
 -- `verdict: not safe (deadlock, unknown, dropped), by virtual lanes; ..`
 unfoldable pub all_reasons : Verdict → LaneVerdict → List ℕ
 all_reasons routes lanes = with_reason (not lanes.drops) (codes "dropped") (reasons (joined routes lanes))

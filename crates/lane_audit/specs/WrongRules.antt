@@ -15,7 +15,7 @@ use Rattle.audit_net.specs.Net.{NetState}
 use Rattle.audit_net.specs.SmallNets.{a_table}
 use Rattle.audit_plan.specs.Plan.{plan_of}
 use Rattle.lid_owners.specs.declared.lids.Aim.{Aim}
-use Rattle.route_audit.specs.Audit.{credit_loop, lids_of}
+use Rattle.route_audit.specs.Loops.{credit_loop, lids_of}
 use Rattle.route_audit.specs.Verdict.{reasons, with_reason}
 use Rattle.route_audit.specs.declared.verdict.Verdict.{Verdict}
 use Rattle.lane_audit.specs.declared.hop.Hop.{Hop}
@@ -226,4 +226,4 @@ abbrev pub lanes_alone : NetState → LanesState → List ℕ
 lanes_alone net lanes = (lane_findings net lanes).text
 
 abbrev pub RoutesArePrintedToo : Type 0
-RoutesArePrintedToo = PrintsLanes lanes_alone → ⊥
+RoutesArePrintedToo = PrintsLanes true lanes_alone → ⊥

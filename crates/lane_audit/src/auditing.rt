@@ -141,7 +141,7 @@ fn push_closing(
 ) -> Result<(), AllocError>
     ensures { OnOk result (text.new.items ≡ text.old.items ++ closing_lines routes lanes) }
 {
-    push_comments(text, routes.is_free(), lanes.is_free)?;
+    push_comments(text, routes.is_free(), lanes.frees())?;
     push_verdict(alloc, text, routes, lanes)
 }
 
@@ -155,36 +155,43 @@ fn with_lanes(alloc: Global, routes: Findings, lanes: &LaneFindings) -> Result<A
 }
 
 #[tactic(auto, unfolding(crate::specs::Audit::audit_with))]
-fn audit_with(alloc: Global, net: &Net<'_>, lanes: &Lanes) -> Result<Audit, AllocError>
-    ensures { IfOk result (λ found. found ≡ audit_with net.now lanes.now) }
+fn audit_with(alloc: Global, net: &Net<'_>, lanes: &Lanes, all: bool) -> Result<Audit, AllocError>
+    ensures { IfOk result (λ found. found ≡ audit_with all net.now lanes.now) }
 {
-    let routes = findings(net, alloc)?;
+    let routes = findings(net, alloc, all)?;
     let found = lane_findings(alloc, net, lanes)?;
     with_lanes(alloc, routes, &found)
 }
 
-fn audited(alloc: Global, plan: &Plan, dump: &Dump, lanes: &Lanes) -> Result<Audit, AllocError>
-    ensures { IfOk result (λ found. found ≡ audit_with (record { plan = plan.now; dump = dump.now }) lanes.now) }
+fn audited(
+    alloc: Global,
+    plan: &Plan,
+    dump: &Dump,
+    lanes: &Lanes,
+    all: bool,
+) -> Result<Audit, AllocError>
+    ensures { IfOk result (λ found. found ≡ audit_with all (record { plan = plan.now; dump = dump.now }) lanes.now) }
 {
     let net = Net::new(alloc, plan, dump)?;
-    audit_with(alloc, &net, lanes)
+    audit_with(alloc, &net, lanes, all)
 }
 
 /// Judges the LFTs that a dump shows over a topology, by the virtual lanes that SL-to-VL mapping tables and path records give their
 /// packets. It can only run out of memory.
 ///
-/// What is reported is stated in `specs/Audit.antt`: what an audit of the LFTs alone prints before its verdict, then a cycle of lanes
-/// that wait for one another, what records and tables lack, counts, and the verdict by lanes. Packets of each record are followed once.
+/// What is reported is stated in `specs/Audit.antt`: what an audit of the LFTs alone prints before its verdict (with `all`, each line
+/// by switch and LID), then a cycle of lanes that wait for one another, what records and tables lack, counts, and the verdict by lanes. Packets of each record are followed once.
 pub fn audit_lanes(
     alloc: Global,
     topology: &LargeTopology,
     dump: &Dump,
     lanes: &Lanes,
+    all: bool,
 ) -> Result<Audit, AllocError>
-    ensures { IfOk result (λ found. found ≡ audit_lanes topology.now dump.now lanes.now) }
+    ensures { IfOk result (λ found. found ≡ audit_lanes all topology.now dump.now lanes.now) }
 {
     let plan = Plan::of(alloc, topology)?;
-    audited(alloc, &plan, dump, lanes)
+    audited(alloc, &plan, dump, lanes, all)
 }
 
 /// The same over a discovery. It can only run out of memory.
@@ -193,9 +200,10 @@ pub fn audit_lanes_found(
     found: &Discovery,
     dump: &Dump,
     lanes: &Lanes,
+    all: bool,
 ) -> Result<Audit, AllocError>
-    ensures { IfOk result (λ audit. audit ≡ audit_lanes_found found.now dump.now lanes.now) }
+    ensures { IfOk result (λ audit. audit ≡ audit_lanes_found all found.now dump.now lanes.now) }
 {
     let plan = Plan::found(alloc, found)?;
-    audited(alloc, &plan, dump, lanes)
+    audited(alloc, &plan, dump, lanes, all)
 }

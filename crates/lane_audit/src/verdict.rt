@@ -2,7 +2,7 @@
 
 ghost use Rattle.std.specs.Prelude.{◌≡◌, ◌++◌, IfOk, OnOk, option_map};
 ghost use Rattle.std.specs.List.{list_all};
-ghost use Rattle.lane_audit.specs.Verdict.{all_are_safe, all_reasons, all_verdict_line, all_words, joined, lane_verdict};
+ghost use Rattle.lane_audit.specs.Verdict.{all_are_safe, all_reasons, all_verdict_line, all_words, frees, joined, lane_verdict};
 ghost use Rattle.lane_audit.specs.Records.{owned, records};
 
 use crate::hop::Trace;
@@ -18,13 +18,22 @@ use std::alloc::{AllocError, Global};
 #[derive(Clone, Copy)]
 pub(crate) struct LaneVerdict {
     /// No lanes wait for one another in a cycle.
-    pub(crate) is_free: bool,
+    is_free: bool,
     /// Each two end ports have a path record.
     has_paths: bool,
     /// Of each hop some row says the VL.
     has_rows: bool,
     /// Some packets are dropped.
     drops: bool,
+}
+
+impl LaneVerdict {
+    /// Whether packets of path records wait for no cycle, and it is known of each pair and each hop.
+    pub(crate) fn frees(self) -> bool
+        ensures { result ≡ frees self }
+    {
+        self.is_free && self.has_paths && self.has_rows
+    }
 }
 
 fn all_are(recorded: &[bool]) -> bool

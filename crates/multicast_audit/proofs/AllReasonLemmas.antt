@@ -99,11 +99,14 @@ found_without word holds reason others plain other =
 
 -- ---- the words that routes bring
 of_routes : (word : List ℕ) (routes : Verdict) (multicast : MulticastVerdict) → is_plain word ≡ true → found_in word (codes "multicast-loop") ≡ false
-    → found_in word (codes "multicast-copies") ≡ false → has_word word (all_reasons routes multicast) ≡ has_word word (reasons (joined routes multicast))
+    → found_in word (codes "multicast-copies") ≡ false → found_in word (codes "multicast-cut") ≡ false
+    → has_word word (all_reasons routes multicast) ≡ has_word word (reasons (joined routes multicast))
 unfolding all_reasons
-of_routes word routes multicast plain no_loop no_copies =
+of_routes word routes multicast plain no_loop no_copies no_cut =
     let inner = with_reason (not multicast.has_loops) (codes "multicast-loop") (reasons (joined routes multicast)) in
-    has_is word (all_reasons routes multicast) ∙ found_without word (not multicast.has_copies) (codes "multicast-copies") inner plain no_copies
+    let outer = with_reason (not multicast.has_copies) (codes "multicast-copies") inner in
+    has_is word (all_reasons routes multicast) ∙ found_without word (not multicast.has_cuts) (codes "multicast-cut") outer plain no_cut
+    ∙ found_without word (not multicast.has_copies) (codes "multicast-copies") inner plain no_copies
     ∙ found_without word (not multicast.has_loops) (codes "multicast-loop") (reasons (joined routes multicast)) plain no_loop
     ∙ sym (has_is word (reasons (joined routes multicast)))
 
@@ -130,7 +133,9 @@ of_loops routes multicast =
     let word = codes "multicast-loop" in
     let verdict = joined routes multicast in
     let inner = with_reason (not multicast.has_loops) word (reasons verdict) in
-    has_is word (all_reasons routes multicast) ∙ found_without word (not multicast.has_copies) (codes "multicast-copies") inner refl refl
+    let outer = with_reason (not multicast.has_copies) (codes "multicast-copies") inner in
+    has_is word (all_reasons routes multicast) ∙ found_without word (not multicast.has_cuts) (codes "multicast-cut") outer refl refl
+    ∙ found_without word (not multicast.has_copies) (codes "multicast-copies") inner refl refl
     ∙ found_with word (not multicast.has_loops) word (reasons verdict) refl
     ∙ ap (λ (b : Bool). b || (not (not multicast.has_loops) && true)) (not_of_routes word verdict refl refl refl refl refl refl) ∙ twice_not multicast.has_loops
 
@@ -140,36 +145,54 @@ of_copies routes multicast =
     let word = codes "multicast-copies" in
     let verdict = joined routes multicast in
     let inner = with_reason (not multicast.has_loops) (codes "multicast-loop") (reasons verdict) in
-    has_is word (all_reasons routes multicast) ∙ found_with word (not multicast.has_copies) word inner refl
+    let outer = with_reason (not multicast.has_copies) word inner in
+    has_is word (all_reasons routes multicast) ∙ found_without word (not multicast.has_cuts) (codes "multicast-cut") outer refl refl
+    ∙ found_with word (not multicast.has_copies) word inner refl
     ∙ ap (λ (b : Bool). b || (not (not multicast.has_copies) && true))
     (found_without word (not multicast.has_loops) (codes "multicast-loop") (reasons verdict) refl refl ∙ not_of_routes word verdict refl refl refl refl refl refl)
     ∙ twice_not multicast.has_copies
 
+of_cuts : (routes : Verdict) (multicast : MulticastVerdict) → has_word (codes "multicast-cut") (all_reasons routes multicast) ≡ multicast.has_cuts
+unfolding all_reasons
+of_cuts routes multicast =
+    let word = codes "multicast-cut" in
+    let verdict = joined routes multicast in
+    let inner = with_reason (not multicast.has_loops) (codes "multicast-loop") (reasons verdict) in
+    let outer = with_reason (not multicast.has_copies) (codes "multicast-copies") inner in
+    has_is word (all_reasons routes multicast) ∙ found_with word (not multicast.has_cuts) word outer refl
+    ∙ ap (λ (b : Bool). b || (not (not multicast.has_cuts) && true))
+    (found_without word (not multicast.has_copies) (codes "multicast-copies") inner refl refl
+    ∙ found_without word (not multicast.has_loops) (codes "multicast-loop") (reasons verdict) refl refl ∙ not_of_routes word verdict refl refl refl refl refl refl)
+    ∙ twice_not multicast.has_cuts
+
 -- ---- what is not safe has one
-and_not_first : (a b c : Bool) → (a && (b && c)) ≡ false → b ≡ true → c ≡ true → a ≡ false
-and_not_first true true true is first second = is
-and_not_first true true false is first second = absurd (false≢true second)
-and_not_first true false c is first second = absurd (false≢true first)
-and_not_first false b c is first second = refl
+and_not_first : (a b c d : Bool) → (a && (b && (c && d))) ≡ false → b ≡ true → c ≡ true → d ≡ true → a ≡ false
+and_not_first true true true true is first second third = is
+and_not_first true true true false is first second third = absurd (false≢true third)
+and_not_first true true false d is first second third = absurd (false≢true second)
+and_not_first true false c d is first second third = absurd (false≢true first)
+and_not_first false b c d is first second third = refl
 
 some_of_all : (net : NetState) (all : List Aim) (ring : Option (List PortRef)) (multicast : MulticastVerdict) → all_are_safe (verdict_by net all ring) multicast ≡ false
     → all_reasons (verdict_by net all ring) multicast ≡ [] → ⊥
 unfolding all_reasons
 some_of_all net all ring multicast unsafe none =
     let verdict = joined (verdict_by net all ring) multicast in
-    let copies = none_by (not multicast.has_copies) (codes "multicast-copies") _ (not_empty _ _) none in
+    let cuts = none_by (not multicast.has_cuts) (codes "multicast-cut") _ (not_empty _ _) none in
+    let copies = none_by (not multicast.has_copies) (codes "multicast-copies") _ (not_empty _ _) cuts.1 in
     let loops = none_by (not multicast.has_loops) (codes "multicast-loop") _ (not_empty _ _) copies.1 in
     some_reason verdict (reaches_or_loses net all ring)
-    (and_not_first (verdict_is_safe verdict) (not multicast.has_loops) (not multicast.has_copies) unsafe loops.0 copies.0) loops.1
+    (and_not_first (verdict_is_safe verdict) (not multicast.has_loops) (not multicast.has_copies) (not multicast.has_cuts) unsafe loops.0 copies.0 cuts.0) loops.1
 
 pub all_reasons_are_named : AllReasonsAreNamed
 all_reasons_are_named = record {
   some = some_of_all;
-  lids = λ routes multicast. of_routes (codes "no-lid") routes multicast refl refl refl ∙ unsafe_routes_have_a_reason.lids (joined routes multicast);
-  pairs = λ routes multicast. of_routes (codes "unreached") routes multicast refl refl refl ∙ unsafe_routes_have_a_reason.pairs (joined routes multicast);
-  waits = λ routes multicast. of_routes (codes "deadlock") routes multicast refl refl refl ∙ unsafe_routes_have_a_reason.loops (joined routes multicast);
-  names = λ routes multicast. of_routes (codes "mismatch") routes multicast refl refl refl ∙ unsafe_routes_have_a_reason.names (joined routes multicast);
-  entries = λ routes multicast. of_routes (codes "unknown") routes multicast refl refl refl ∙ unsafe_routes_have_a_reason.entries (joined routes multicast);
+  lids = λ routes multicast. of_routes (codes "no-lid") routes multicast refl refl refl refl ∙ unsafe_routes_have_a_reason.lids (joined routes multicast);
+  pairs = λ routes multicast. of_routes (codes "unreached") routes multicast refl refl refl refl ∙ unsafe_routes_have_a_reason.pairs (joined routes multicast);
+  waits = λ routes multicast. of_routes (codes "deadlock") routes multicast refl refl refl refl ∙ unsafe_routes_have_a_reason.loops (joined routes multicast);
+  names = λ routes multicast. of_routes (codes "mismatch") routes multicast refl refl refl refl ∙ unsafe_routes_have_a_reason.names (joined routes multicast);
+  entries = λ routes multicast. of_routes (codes "unknown") routes multicast refl refl refl refl ∙ unsafe_routes_have_a_reason.entries (joined routes multicast);
   loops = of_loops;
   copies = of_copies;
+  cuts = of_cuts;
 }

@@ -24,7 +24,7 @@ use Rattle.multicast_audit.proofs.LoopLawLemmas.{kept_are, same_itself}
 use Rattle.multicast_audit.proofs.MeetLemmas.{again_found, again_on}
 
 -- ---- what is known of ports that are listed
-range_own : (net : NetState) (at : PortRef) (place low many : ℕ) → 1 ≤ low → low + many ≤ ports_at net.plan.nodes place + 1
+pub range_own : (net : NetState) (at : PortRef) (place low many : ℕ) → 1 ≤ low → low + many ≤ ports_at net.plan.nodes place + 1
     → list_any (is_same_port at) (map (port place) (range_with_len low many)) ≡ true → (at.node ≡ place) × (is_own_port net at ≡ true)
 range_own net at place low zero from to there = absurd (false≢true there)
 range_own net at place low (suc many) from to there = elim (cases_Bool (is_same_port at (port place low))) [
@@ -35,7 +35,7 @@ range_own net at place low (suc many) from to there = elim (cases_Bool (is_same_
   | inr other ↦ range_own net at place (low + 1) many (omega (arith, from)) (omega (arith, to)) (rw other at there)
 ]
 
-any_kept : (p : PortRef → Bool) (at : PortRef) (xs : List PortRef) → list_any (is_same_port at) (filter p xs) ≡ true → list_any (is_same_port at) xs ≡ true
+pub any_kept : (p : PortRef → Bool) (at : PortRef) (xs : List PortRef) → list_any (is_same_port at) (filter p xs) ≡ true → list_any (is_same_port at) xs ≡ true
 any_kept p at [] there = there
 any_kept p at (x ∷ xs) there = elim (cases_Bool (p x)) [
   | inl keeps ↦ elim (cases_Bool (is_same_port at x)) [
@@ -45,7 +45,7 @@ any_kept p at (x ∷ xs) there = elim (cases_Bool (p x)) [
   | inr drops ↦ or_right (is_same_port at x) _ (any_kept p at xs (rw drops at there))
 ]
 
-record IsOut (net : NetState) (masks : List (List ℕ)) (here out : PortRef) : Type 0 where
+pub record IsOut (net : NetState) (masks : List (List ℕ)) (here out : PortRef) : Type 0 where
   pub node : out.node ≡ here.node
   pub own : is_own_port net out ≡ true
   pub leaving : leaves net masks out ≡ true
@@ -55,7 +55,7 @@ not_is : (b : Bool) → not b ≡ true → b ≡ false
 not_is false is = refl
 not_is true is = absurd (false≢true is)
 
-is_out : (net : NetState) (masks : List (List ℕ)) (here out : PortRef) → list_any (is_same_port out) (outs net masks here) ≡ true → IsOut net masks here out
+pub is_out : (net : NetState) (masks : List (List ℕ)) (here out : PortRef) → list_any (is_same_port out) (outs net masks here) ≡ true → IsOut net masks here out
 is_out net masks here out there =
     let passes = λ (one : PortRef). not (here.port == one.port) && leaves net masks one in
     let kept = and_parts (not (here.port == out.port)) _ (kept_are passes passes (λ x is. is) out (ports_of net here.node) there) in
@@ -63,7 +63,7 @@ is_out net masks here out there =
     record { node = mine.0; own = mine.1; leaving = kept.1; apart = not_is _ kept.0 }
 
 -- a port that leaves leads to the switch behind it
-leads_behind : (net : NetState) (masks : List (List ℕ)) (at : PortRef) → leaves net masks at ≡ true → leads_to net at (node_behind net at) ≡ true
+pub leads_behind : (net : NetState) (masks : List (List ℕ)) (at : PortRef) → leaves net masks at ≡ true → leads_to net at (node_behind net at) ≡ true
 leads_behind net masks at leaving = by (far_end net.plan.cables at) refl (and_parts (is_set masks at) _ leaving).1
   where
     by : (there : Option PortRef) → far_end net.plan.cables at ≡ there → option_map_or (λ end. is_switch_at net.plan.nodes end.node) there false ≡ true
@@ -354,11 +354,11 @@ hops_twice net masks place count (suc n) front met found was paths differ is =
         }) paths differ first)
 
 -- ---- from an entrance
-record IsFirst (net : NetState) (masks : List (List ℕ)) (places : List ℕ) (copy : SecondCopy) : Type 0 where
+pub record IsFirst (net : NetState) (masks : List (List ℕ)) (places : List ℕ) (copy : SecondCopy) : Type 0 where
   pub among : list_any (λ n. n == copy.from) places ≡ true
   pub second : second_copy net masks copy.from ≡ Some copy.at
 
-first_is : (net : NetState) (masks : List (List ℕ)) (places : List ℕ) (copy : SecondCopy) → first_copy net masks places ≡ Some copy → IsFirst net masks places copy
+pub first_is : (net : NetState) (masks : List (List ℕ)) (places : List ℕ) (copy : SecondCopy) → first_copy net masks places ≡ Some copy → IsFirst net masks places copy
 first_is net masks [] copy is = cc
 first_is net masks (place ∷ places) copy is = by (second_copy net masks place) refl is (λ later. first_is net masks places copy later)
   where

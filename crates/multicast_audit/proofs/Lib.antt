@@ -4,6 +4,9 @@ pub mod MeetLemmas
 pub mod LoopLawLemmas
 pub mod CopyLawLemmas
 pub mod CopyFoundLemmas
+pub mod CutLemmas
+pub mod CutLawLemmas
+pub mod SafeMulticastLemmas
 pub mod AllReasonLemmas
 pub mod WrongMaskLemmas
 pub mod MulticastExampleLemmas

@@ -14,7 +14,7 @@ use Rattle.audit_net.specs.Attached.{ports_of}
 use Rattle.credit_loops.specs.Laws.{is_cycle, wait_round}
 use Rattle.audit_net.specs.Net.{NetState}
 use Rattle.credit_loops.proofs.CycleLawLemmas.{are_among, no_ring_missed, rings_wait}
-use Rattle.credit_loops.proofs.CycleLemmas.{any_of}
+use Rattle.audit_net.proofs.EndlessLemmas.{any_of}
 use Rattle.audit_net.proofs.EndlessLemmas.{is_listed}
 use Rattle.route_audit.proofs.SafeLemmas.{same_port}
 use Rattle.multicast_audit.specs.Laws.{MaskLoopsGoRound, NoMaskLoopIsMissed, is_own_port}
@@ -41,7 +41,7 @@ own_listed net at own =
     let parts = and_parts (nat_le 1 at.port) _ own in
     port_listed at 1 (ports_at net.plan.nodes at.node) (grind (arith, nat_tests, parts.0)) (grind (arith, nat_tests, parts.1))
 
-kept_listed : (p : PortRef → Bool) (at : PortRef) (xs : List PortRef) → p at ≡ true → list_any (is_same_port at) xs ≡ true → list_any (is_same_port at) (filter p xs) ≡ true
+pub kept_listed : (p : PortRef → Bool) (at : PortRef) (xs : List PortRef) → p at ≡ true → list_any (is_same_port at) xs ≡ true → list_any (is_same_port at) (filter p xs) ≡ true
 kept_listed p at [] passes there = absurd (false≢true there)
 kept_listed p at (x ∷ xs) passes there = elim (cases_Bool (is_same_port at x)) [
   | inl here ↦
@@ -60,7 +60,7 @@ out_listed net masks number at own leaving other =
     kept_listed (λ out. not (number == out.port) && leaves net masks out) at (ports_of net at.node)
     (and_from (not (number == at.port)) _ (ap not other) leaving) (own_listed net at own)
 
-out_among : (net : NetState) (masks : List (List ℕ)) (at : PortRef) → is_switch_at net.plan.nodes at.node ≡ true → is_own_port net at ≡ true → leaves net masks at ≡ true
+pub out_among : (net : NetState) (masks : List (List ℕ)) (at : PortRef) → is_switch_at net.plan.nodes at.node ≡ true → is_own_port net at ≡ true → leaves net masks at ≡ true
     → list_any (is_same_port at) (all_outs net masks) ≡ true
 out_among net masks at switch own leaving =
     let parts = and_parts (nat_le 1 at.port) _ own in
@@ -70,7 +70,7 @@ out_among net masks at switch own leaving =
     (out_listed net masks 0 at own leaving other)
 
 -- ---- all of a loop are among them
-switch_behind : (net : NetState) (masks : List (List ℕ)) (a b : PortRef) → leaves net masks a ≡ true → goes_on net masks a b ≡ true → is_switch_at net.plan.nodes b.node ≡ true
+pub switch_behind : (net : NetState) (masks : List (List ℕ)) (a b : PortRef) → leaves net masks a ≡ true → goes_on net masks a b ≡ true → is_switch_at net.plan.nodes b.node ≡ true
 switch_behind net masks a b leaving goes = by (far_end net.plan.cables a) (and_parts (is_set masks a) _ leaving).1 (and_parts (comes_to net a b) _ goes).0
   where
     by : (there : Option PortRef) → option_map_or (λ end. is_switch_at net.plan.nodes end.node) there false ≡ true → option_map_or (λ end. turns end b) there false ≡ true

@@ -3,7 +3,7 @@ use Rattle.std.proofs.Common.{refl}
 use Rattle.std.specs.Fmt.{digits}
 use Rattle.route_audit.specs.Verdict.{reasons}
 use Rattle.multicast_audit.specs.Examples.{MasksAreFound, MulticastLinesAreReported, MulticastVerdictsAreReported}
-use Rattle.multicast_audit.specs.Lines.{copy_text, copy_words, found_words, mask_line, members_line, mlids_line, mlids_words, multicast_lines, no_mft_text, ring_text, strange_mft_line}
+use Rattle.multicast_audit.specs.Lines.{copy_text, copy_words, cut_text, cut_words, found_words, mask_line, members_line, mlids_line, mlids_words, multicast_lines, no_mft_text, ring_text, strange_mft_line}
 use Rattle.multicast_audit.specs.Masks.{mlids_of}
 use Rattle.multicast_audit.specs.Verdict.{all_reasons, all_verdict_line, all_words}
 
@@ -12,7 +12,7 @@ unfolding mlids_of
 masks_are_found = record { of_both = refl; of_one = refl; of_an_adapter = refl; mlids = refl }
 
 pub multicast_lines_are_reported : MulticastLinesAreReported
-unfolding copy_text copy_words digits found_words mask_line members_line mlids_line mlids_words multicast_lines no_mft_text ring_text strange_mft_line
+unfolding copy_text copy_words cut_text cut_words digits found_words mask_line members_line mlids_line mlids_words multicast_lines no_mft_text ring_text strange_mft_line
 multicast_lines_are_reported = record {
   no_mft = refl;
   has_mft = refl;
@@ -24,6 +24,7 @@ multicast_lines_are_reported = record {
   no_port = refl;
   ring = refl;
   copy = refl;
+  cut = refl;
   counts = refl;
   all = refl;
 }
@@ -36,10 +37,12 @@ multicast_verdicts_are_reported = record {
   of_a_strange_mft = refl;
   of_copies = refl;
   of_loops = refl;
+  of_cuts = refl;
   safe = refl;
   same = refl;
   known = refl;
   copies = refl;
+  cuts = refl;
   whole = refl;
   unsafe = refl;
 }

@@ -1,5 +1,5 @@
 -- Each line on multicast stands in the text, and what wrong rules leave out.
-use Rattle.std.proofs.Common.{◌≡◌, ◌∙◌, ap, refl, subst, ℕ, ◌≤◌, List, [], ◌∷◌, ◌++◌, codes, decimal, filter, flat_map, length, map, slice_get, Some, option_map, arith}
+use Rattle.std.proofs.Common.{◌≡◌, ◌∙◌, ap, refl, subst, ℕ, ◌≤◌, Bool, List, [], ◌∷◌, ◌++◌, codes, decimal, filter, flat_map, length, map, slice_get, Some, option_map, arith}
 use Rattle.std.specs.List.{range_with_len}
 use Rattle.std.specs.Str.Iter.{HasSubslice}
 use Rattle.std.proofs.lemmas.List.{append_assoc}
@@ -20,13 +20,13 @@ use Rattle.multicast_audit.specs.Masks.{is_used, mlids_of}
 use Rattle.multicast_audit.specs.Verdict.{all_verdict_line, multicast_verdict}
 use Rattle.multicast_audit.specs.WrongRules.{OtherMftsHaveALine, PortsOfMasksHaveALine, mlids_alone}
 
-module _ (net : NetState) (tables : List MaskTable) where
+module _ (whole : Bool) (net : NetState) (tables : List MaskTable) where
   abbrev text : List ℕ
-  text = (audit_with net tables).text
+  text = (audit_with whole net tables).text
 
   in_lines : (line : List ℕ) → HasSubslice (multicast_lines net tables (all_found net tables)) line → HasSubslice text line
   unfolding audit_with
-  in_lines line stands = stands_longer _ _ (stands_behind _ (findings_of net).text stands)
+  in_lines line stands = stands_longer _ _ (stands_behind _ (findings_of whole net).text stands)
 
   table_printed : (index place : ℕ) → slice_get (switches net.plan.nodes) index ≡ Some place → HasSubslice text (no_mft_line net tables place)
   unfolding multicast_lines
@@ -90,20 +90,20 @@ module _ (net : NetState) (tables : List MaskTable) where
           stands_longer _ _ (stands_longer _ _ (stands_behind _ _
           (stands_of_all (found_lines net) line (all_found net tables) index (found_of net tables mlid) found (stands_itself line))))
 
-  routes_printed : (rest : List ℕ) × (text ≡ (findings_of net).text ++ rest)
+  routes_printed : (rest : List ℕ) × (text ≡ (findings_of whole net).text ++ rest)
   unfolding audit_with
   routes_printed = (
-    multicast_lines net tables (all_found net tables) ++ all_verdict_line (findings_of net).verdict (multicast_verdict net tables (all_found net tables)),
-    append_assoc (findings_of net).text (multicast_lines net tables (all_found net tables)) _,
+    multicast_lines net tables (all_found net tables) ++ all_verdict_line (findings_of whole net).verdict (multicast_verdict net tables (all_found net tables)),
+    append_assoc (findings_of whole net).text (multicast_lines net tables (all_found net tables)) _,
   )
 
 pub multicast_is_printed : MulticastIsPrinted
-multicast_is_printed = record {
-  no_tables = table_printed;
-  no_switches = switch_printed;
-  ports = port_printed;
-  mlids = mlid_printed;
-  routes = routes_printed;
+multicast_is_printed whole = record {
+  no_tables = table_printed whole;
+  no_switches = switch_printed whole;
+  ports = port_printed whole;
+  mlids = mlid_printed whole;
+  routes = routes_printed whole;
 }
 
 -- ---- an MFT of a switch, and no switch

@@ -5,10 +5,11 @@ use Rattle.audit_net.specs.SmallNets.{a_hole}
 use Rattle.mft_file.specs.declared.row.MaskRow.{MaskRow}
 use Rattle.mft_file.specs.declared.table.MaskTable.{MaskTable}
 use Rattle.text_parts.specs.Parts.{guid_text}
+use Rattle.multicast_audit.specs.declared.cuts.Cut.{Cut}
 use Rattle.multicast_audit.specs.declared.found.Found.{Found}
 use Rattle.multicast_audit.specs.declared.verdict.MulticastVerdict.{MulticastVerdict}
 use Rattle.multicast_audit.specs.Audit.{with_multicast}
-use Rattle.multicast_audit.specs.Lines.{copy_line, found_lines, loop_line, mask_lines_at, mask_port_line, members_line, mlid_text, mlids_line, multicast_lines, no_mft_line, strange_mft_line}
+use Rattle.multicast_audit.specs.Lines.{copy_line, cut_line, found_lines, loop_line, mask_lines_at, mask_port_line, members_line, mlid_text, mlids_line, multicast_lines, no_mft_line, strange_mft_line}
 use Rattle.multicast_audit.specs.Masks.{masks_of, mlids_of}
 use Rattle.multicast_audit.specs.Verdict.{all_verdict_line, multicast_verdict}
 use Rattle.multicast_audit.specs.WrongRules.{looping, safe_routes}
@@ -33,12 +34,15 @@ pub record MasksAreFound : Type 0 where
 
 -- ---- lines
 abbrev found : ℕ → Found
-found mlid = record { mlid = mlid; ring = None; copy = None }
+found mlid = record { mlid = mlid; ring = None; copy = None; cut = None }
+
+abbrev a_cut : Cut
+a_cut = record { from = port 0 1; at = port 1 2; more = 3 }
 
 abbrev some_found : List Found
 some_found =
     record (found 49152) { ring = Some (port 0 2 ∷ port 1 1 ∷ []); copy = Some (record { from = 0; at = 1 }) }
-    ∷ record (found 49153) { copy = Some (record { from = 1; at = 0 }) } ∷ found 49154 ∷ []
+    ∷ record (found 49153) { copy = Some (record { from = 1; at = 0 }) } ∷ record (found 49154) { cut = Some a_cut } ∷ []
 
 -- port 0 is the switch's own, port 2 of B has no cable, and a port 3 it does not have
 abbrev a_strange_mask : List MaskTable
@@ -56,18 +60,19 @@ pub record MulticastLinesAreReported : Type 0 where
   pub ring : loop_line a_hole 49152 (Some (port 0 2 ∷ port 1 1 ∷ [])) ≡ codes "multicast loop " ++ mlid_text 49152 ++ codes " A/2 B/1" ++ codes "\n"
   pub copy : copy_line a_hole 49153 (Some (record { from = 0; at = 1 }))
       ≡ codes "multicast copies " ++ mlid_text 49153 ++ codes " " ++ codes "B" ++ codes " from " ++ codes "A" ++ codes "\n"
-  pub counts : mlids_line some_found ≡ codes "multicast: 3 MLIDs, 1 with a loop, 2 with copies\n"
+  pub cut : cut_line a_hole 49153 (Some a_cut) ≡ codes "multicast cut " ++ mlid_text 49153 ++ codes " " ++ codes "B/2" ++ codes " from " ++ codes "h/1" ++ codes ", and " ++ codes "3" ++ codes " more\n"
+  pub counts : mlids_line some_found ≡ codes "multicast: 3 MLIDs, 1 with a loop, 2 with copies, 1 cut\n"
   -- all of them, in this order
   pub all : multicast_lines a_hole a_strange_mask some_found
       ≡ codes "multicast no-table A\n" ++ flat_map (strange_mft_line a_hole) a_strange_mask ++ flat_map (mask_lines_at a_hole a_strange_mask) (0 ∷ 1 ∷ [])
-      ++ flat_map (found_lines a_hole) some_found ++ codes "multicast: 3 MLIDs, 1 with a loop, 2 with copies\n" ++ members_line
+      ++ flat_map (found_lines a_hole) some_found ++ codes "multicast: 3 MLIDs, 1 with a loop, 2 with copies, 1 cut\n" ++ members_line
 
 -- ---- verdicts
 abbrev verdict_on : List MaskTable → List Found → MulticastVerdict
 verdict_on tables all = multicast_verdict a_hole tables all
 
 abbrev all_is_well : MulticastVerdict
-all_is_well = record { is_same = true; is_known = true; has_loops = false; has_copies = false }
+all_is_well = record { is_same = true; is_known = true; has_loops = false; has_copies = false; has_cuts = false }
 
 abbrev the_rest : List ℕ
 the_rest = codes ", as if all packets used one virtual lane; credit loops of multicast are not judged\n"
@@ -79,10 +84,12 @@ pub record MulticastVerdictsAreReported : Type 0 where
   pub of_copies : verdict_on two_mfts (found 49154 ∷ record (found 49153) { copy = Some (record { from = 1; at = 0 }) } ∷ [])
       ≡ record all_is_well { has_copies = true }
   pub of_loops : verdict_on two_mfts (record (found 49153) { ring = Some (port 0 2 ∷ []) } ∷ found 49154 ∷ []) ≡ looping
+  pub of_cuts : verdict_on two_mfts (found 49154 ∷ record (found 49153) { cut = Some a_cut } ∷ []) ≡ record all_is_well { has_cuts = true }
   pub safe : all_verdict_line safe_routes all_is_well ≡ codes "verdict: safe" ++ the_rest
   pub same : all_verdict_line safe_routes (record all_is_well { is_same = false }) ≡ codes "verdict: not safe (mismatch)" ++ the_rest
   pub known : all_verdict_line safe_routes (record all_is_well { is_known = false }) ≡ codes "verdict: not safe (unknown)" ++ the_rest
   pub copies : all_verdict_line safe_routes (record looping { has_copies = true }) ≡ codes "verdict: not safe (multicast-loop, multicast-copies)" ++ the_rest
+  pub cuts : all_verdict_line safe_routes (record all_is_well { has_cuts = true }) ≡ codes "verdict: not safe (multicast-cut)" ++ the_rest
   -- behind what is found of the routes stand the lines on multicast, and then the verdict on both
   pub whole : with_multicast a_hole two_mfts (record { text = codes "routes\n"; verdict = safe_routes }) []
       ≡ record { text = codes "routes\n" ++ multicast_lines a_hole two_mfts [] ++ all_verdict_line safe_routes all_is_well; is_safe = true }

@@ -1,28 +1,32 @@
 -- What is so of all fabrics and masks: the statements of the laws of `src/laws.rt`.
-use Rattle.std.specs.Prelude.{ℕ, ◌≡◌, ◌==◌, ◌&&◌, nat_le, Bool, true, false, not, List, [], ◌∷◌, ◌++◌, codes, slice_get, Option, Some, None}
-use Rattle.std.specs.List.{list_all}
+use Rattle.std.specs.Prelude.{ℕ, ◌≡◌, ◌==◌, ◌&&◌, nat_le, Bool, true, false, not, List, [], ◌∷◌, ◌++◌, codes, slice_get, Option, Some, None, is_some}
+use Rattle.std.specs.List.{list_all, list_any}
 use Rattle.std.specs.Str.Iter.{HasSubslice}
+use Rattle.fabric_parts.specs.Cable.{far_end}
 use Rattle.fabric_parts.specs.declared.cable.PortRef.{PortRef}
 use Rattle.mft_file.specs.declared.table.MaskTable.{MaskTable}
 use Rattle.topo_file.specs.Connectivity.{switches}
 use Rattle.topo_file.specs.Node.{is_switch_at, ports_at}
 use Rattle.credit_loops.specs.Channels.{leads_to}
 use Rattle.route_audit.specs.Audit.{findings_of}
-use Rattle.route_audit.specs.Laws.{has_word}
+use Rattle.route_audit.specs.Laws.{AreSafe, has_word}
+use Rattle.route_audit.specs.Lines.{has_switch}
 use Rattle.credit_loops.specs.Laws.{is_cycle}
 use Rattle.audit_net.specs.Net.{NetState}
 use Rattle.route_audit.specs.Verdict.{verdict_by}
 use Rattle.lid_owners.specs.declared.lids.Aim.{Aim}
 use Rattle.route_audit.specs.declared.verdict.Verdict.{Verdict}
 use Rattle.multicast_audit.specs.declared.copies.SecondCopy.{SecondCopy}
+use Rattle.multicast_audit.specs.declared.cuts.Cut.{Cut}
 use Rattle.multicast_audit.specs.declared.verdict.MulticastVerdict.{MulticastVerdict}
 use Rattle.multicast_audit.specs.Audit.{audit_with, found_of}
 use Rattle.multicast_audit.specs.Copies.{copy_of, takes_packets}
+use Rattle.multicast_audit.specs.Cuts.{cut_of}
 use Rattle.multicast_audit.specs.Lines.{found_lines, mask_port_line, mft_at, no_mft_line, strange_mft_line}
-use Rattle.multicast_audit.specs.Masks.{mlids_of}
+use Rattle.multicast_audit.specs.Masks.{masks_of, mlids_of}
 use Rattle.multicast_audit.specs.Loops.{loop_of}
 use Rattle.multicast_audit.specs.Verdict.{all_are_safe, all_reasons}
-use Rattle.multicast_audit.specs.Ways.{goes_on, leaves}
+use Rattle.multicast_audit.specs.Ways.{goes_on, is_set, leaves}
 
 -- the port is one that its switch has
 abbrev pub is_own_port : NetState → PortRef → Bool
@@ -80,6 +84,67 @@ MissesNoCopy reports =
 abbrev pub NoCopyIsMissed : Type 0
 NoCopyIsMissed = MissesNoCopy copy_of
 
+-- ---- groups that are cut
+-- an end port to which a mask leads, by the switch port to which it is attached
+pub record IsMember (net : NetState) (masks : List (List ℕ)) (at : PortRef) : Type 0 where
+  pub switch : is_switch_at net.plan.nodes at.node ≡ true
+  pub own : is_own_port net at ≡ true
+  pub set : is_set masks at ≡ true
+  pub end : PortRef
+  pub cable : far_end net.plan.cables at ≡ Some end
+  pub end_port : is_switch_at net.plan.nodes end.node ≡ false
+
+-- a packet from an end port at the one switch comes to the other
+abbrev pub ComesTo : NetState → List (List ℕ) → (place there : ℕ) → Type 0
+ComesTo net masks place there = (path : List PortRef) × (came_by net masks place path there ≡ true)
+
+-- a cut that is reported is of two members, and what the one sends does not come to the switch of the other
+abbrev pub ReportsCuts : (NetState → List (List ℕ) → Option Cut) → Type 0
+ReportsCuts reports =
+    (net : NetState) (masks : List (List ℕ)) (cut : Cut) → reports net masks ≡ Some cut
+    → IsMember net masks cut.from × IsMember net masks cut.at × (ComesTo net masks cut.from.node cut.at.node → ⊥)
+
+abbrev pub CutMembersAreApart : Type 0
+CutMembersAreApart = ReportsCuts cut_of
+
+-- if none is reported, what each member sends comes to each
+abbrev pub MissesNoCut : (NetState → List (List ℕ) → Option Cut) → Type 0
+MissesNoCut reports =
+    (net : NetState) (masks : List (List ℕ)) → reports net masks ≡ None → (from at : PortRef) → IsMember net masks from → IsMember net masks at
+    → ComesTo net masks from.node at.node
+
+abbrev pub NoCutIsMissed : Type 0
+NoCutIsMissed = MissesNoCut cut_of
+
+-- ---- what is safe
+-- the MLID is one that a row of an MFT names
+abbrev pub IsNamed : List MaskTable → ℕ → Type 0
+IsNamed tables mlid = list_any (λ other. other == mlid) (mlids_of tables) ≡ true
+
+pub record AreAllSafe (net : NetState) (tables : List MaskTable) : Type 0 where
+  pub routes : AreSafe net
+  -- each switch has an MFT, and each MFT is of a switch
+  pub mfts : (place : ℕ) → is_switch_at net.plan.nodes place ≡ true → is_some (mft_at net tables place) ≡ true
+  pub switches : (index : ℕ) (table : MaskTable) → slice_get tables index ≡ Some table → has_switch table.guid net.plan.nodes ≡ true
+  -- no packet to one of these MLIDs goes round, none comes to a switch by two paths, and what each member sends comes to each
+  pub loops : (mlid : ℕ) → IsNamed tables mlid → (ring : List PortRef) → list_all (is_own_port net) ring ≡ true
+      → is_cycle (goes_on net (masks_of net tables mlid)) ring ≡ false
+  pub copies : (mlid : ℕ) → IsNamed tables mlid → (place there : ℕ) → is_switch_at net.plan.nodes place ≡ true → takes_packets net place ≡ true
+      → ComesTwice net (masks_of net tables mlid) place there → ⊥
+  pub cuts : (mlid : ℕ) → IsNamed tables mlid → (from at : PortRef) → IsMember net (masks_of net tables mlid) from
+      → IsMember net (masks_of net tables mlid) at → ComesTo net (masks_of net tables mlid) from.node at.node
+
+-- this says so if and only if routes and multicast are safe
+pub record ReportsAllSafe (says : NetState → List MaskTable → Bool) : Type 0 where
+  pub safe : (net : NetState) (tables : List MaskTable) → says net tables ≡ true → AreAllSafe net tables
+  pub reported : (net : NetState) (tables : List MaskTable) → AreAllSafe net tables → says net tables ≡ true
+
+abbrev pub says_all_safe : NetState → List MaskTable → Bool
+says_all_safe net tables = (audit_with false net tables).is_safe
+
+abbrev pub SafeMulticastIsReported : Type 0
+SafeMulticastIsReported = ReportsAllSafe says_all_safe
+
 -- ---- the text
 -- a switch has this MFT, and a row of it this port
 pub record HasMaskPort (net : NetState) (tables : List MaskTable) (place mlid number : ℕ) : Type 0 where
@@ -94,7 +159,7 @@ pub record HasMaskPort (net : NetState) (tables : List MaskTable) (place mlid nu
   pub port : slice_get ports within ≡ Some number
 
 -- the text has each line: what the files lack, each port of a mask by which packets go nowhere, and what is found of each MLID
-pub record PrintsMulticast (text : NetState → List MaskTable → List ℕ) : Type 0 where
+pub record PrintsMulticast (whole : Bool) (text : NetState → List MaskTable → List ℕ) : Type 0 where
   pub no_tables : (net : NetState) (tables : List MaskTable) (index place : ℕ) → slice_get (switches net.plan.nodes) index ≡ Some place
       → HasSubslice (text net tables) (no_mft_line net tables place)
   pub no_switches : (net : NetState) (tables : List MaskTable) (index : ℕ) (table : MaskTable) → slice_get tables index ≡ Some table
@@ -104,10 +169,10 @@ pub record PrintsMulticast (text : NetState → List MaskTable → List ℕ) : T
   pub mlids : (net : NetState) (tables : List MaskTable) (index mlid : ℕ) → slice_get (mlids_of tables) index ≡ Some mlid
       → HasSubslice (text net tables) (found_lines net (found_of net tables mlid))
   -- it begins with what an audit without MFTs prints before its verdict
-  pub routes : (net : NetState) (tables : List MaskTable) → (rest : List ℕ) × (text net tables ≡ (findings_of net).text ++ rest)
+  pub routes : (net : NetState) (tables : List MaskTable) → (rest : List ℕ) × (text net tables ≡ (findings_of whole net).text ++ rest)
 
 abbrev pub MulticastIsPrinted : Type 0
-MulticastIsPrinted = PrintsMulticast (λ net tables. (audit_with net tables).text)
+MulticastIsPrinted = (whole : Bool) → PrintsMulticast whole (λ net tables. (audit_with whole net tables).text)
 
 -- ---- a verdict that is not safe has a reason, and each reason is named if and only if it holds
 pub record NamesAllReasons (words : Verdict → MulticastVerdict → List ℕ) : Type 0 where
@@ -122,6 +187,7 @@ pub record NamesAllReasons (words : Verdict → MulticastVerdict → List ℕ) :
       → has_word (codes "unknown") (words routes multicast) ≡ not ((routes.is_known && multicast.is_known) && not routes.lacks_entries)
   pub loops : (routes : Verdict) (multicast : MulticastVerdict) → has_word (codes "multicast-loop") (words routes multicast) ≡ multicast.has_loops
   pub copies : (routes : Verdict) (multicast : MulticastVerdict) → has_word (codes "multicast-copies") (words routes multicast) ≡ multicast.has_copies
+  pub cuts : (routes : Verdict) (multicast : MulticastVerdict) → has_word (codes "multicast-cut") (words routes multicast) ≡ multicast.has_cuts
 
 abbrev pub AllReasonsAreNamed : Type 0
 AllReasonsAreNamed = NamesAllReasons all_reasons

@@ -3,6 +3,8 @@ pub mod Ways
 pub mod Scanning
 pub mod Loops
 pub mod Copies
+pub mod Cuts
+pub mod Spreading
 pub mod Lines
 pub mod Verdict
 pub mod Audit

@@ -1,5 +1,5 @@
 -- The lines on multicast.
-use Rattle.std.specs.Prelude.{ℕ, ◌==◌, nat_lt, Bool, List, [], ◌∷◌, ◌++◌, codes, count_by, decimal, flat_map, is_none, is_some, length, slice_get, if◌then◌else◌, Option, Some, None}
+use Rattle.std.specs.Prelude.{ℕ, ◌==◌, nat_lt, Bool, List, [], ◌∷◌, ◌++◌, codes, count_by, decimal, flat_map, is_none, is_some, length, slice_get, unwrap_or, if◌then◌else◌, Option, Some, None}
 use Rattle.std.specs.Int.{w16, to_be_bytes}
 use Rattle.std.specs.Option.{option_and_then, option_map_or}
 use Rattle.fabric_parts.specs.Cable.{far_end, port}
@@ -10,9 +10,10 @@ use Rattle.text_parts.specs.Parts.{guid_text, hex_text}
 use Rattle.topo_file.specs.Connectivity.{switches}
 use Rattle.topo_file.specs.Node.{ports_at}
 use Rattle.route_audit.specs.Audit.{port_word}
-use Rattle.route_audit.specs.Lines.{has_switch, name_text}
+use Rattle.route_audit.specs.Lines.{has_switch, name_text, port_text}
 use Rattle.audit_net.specs.Net.{NetState}
 use Rattle.multicast_audit.specs.declared.copies.SecondCopy.{SecondCopy}
+use Rattle.multicast_audit.specs.declared.cuts.Cut.{Cut}
 use Rattle.multicast_audit.specs.declared.found.Found.{Found}
 use Rattle.multicast_audit.specs.Masks.{table_of}
 
@@ -84,28 +85,48 @@ abbrev pub copy_line : NetState → ℕ → Option SecondCopy → List ℕ
 copy_line net mlid (Some copy) = copy_text net mlid copy
 copy_line net mlid None = []
 
-abbrev pub found_lines : NetState → Found → List ℕ
-found_lines net found = loop_line net found.mlid found.ring ++ copy_line net found.mlid found.copy
+-- `multicast cut 0xc000 h3/1 from h1/1, and 2 more`: what h1/1 sends does not come to h3/1, nor to 2 more members
+abbrev pub end_behind : NetState → PortRef → PortRef
+end_behind net at = unwrap_or (far_end net.plan.cables at) at
 
--- ---- `multicast: 2 MLIDs, 1 with a loop, 0 with copies`
+unfoldable pub cut_words : NetState → ℕ → Cut → List ℕ
+cut_words net mlid cut = codes "multicast cut " ++ mlid_text mlid ++ codes " " ++ port_text net (end_behind net cut.at)
+
+unfoldable pub cut_text : NetState → ℕ → Cut → List ℕ
+cut_text net mlid cut =
+    cut_words net mlid cut ++ codes " from " ++ port_text net (end_behind net cut.from) ++ codes ", and " ++ decimal cut.more ++ codes " more\n"
+
+abbrev pub cut_line : NetState → ℕ → Option Cut → List ℕ
+cut_line net mlid (Some cut) = cut_text net mlid cut
+cut_line net mlid None = []
+
+abbrev pub found_lines : NetState → Found → List ℕ
+found_lines net found = loop_line net found.mlid found.ring ++ copy_line net found.mlid found.copy ++ cut_line net found.mlid found.cut
+
+-- ---- `multicast: 2 MLIDs, 1 with a loop, 0 with copies, 1 cut`
 abbrev pub has_ring : Found → Bool
 has_ring found = is_some found.ring
 
 abbrev pub has_copy : Found → Bool
 has_copy found = is_some found.copy
 
+abbrev pub has_cut : Found → Bool
+has_cut found = is_some found.cut
+
 unfoldable pub mlids_words : List Found → List ℕ
 mlids_words all = codes "multicast: " ++ decimal (length all) ++ codes " MLIDs, "
 
 unfoldable pub found_words : List Found → List ℕ
-found_words all = decimal (count_by has_ring all) ++ codes " with a loop, " ++ decimal (count_by has_copy all) ++ codes " with copies\n"
+found_words all =
+    decimal (count_by has_ring all) ++ codes " with a loop, " ++ decimal (count_by has_copy all) ++ codes " with copies, "
+    ++ decimal (count_by has_cut all) ++ codes " cut\n"
 
 unfoldable pub mlids_line : List Found → List ℕ
 mlids_line all = mlids_words all ++ found_words all
 
 -- ---- all of it
 unfoldable pub members_line : List ℕ
-members_line = codes "# multicast: members that no packet reaches are unknown, since MFTs do not say who is a member\n"
+members_line = codes "# multicast: a member to which no mask leads is unknown, since MFTs do not say who is a member\n"
 
 unfoldable pub multicast_lines : NetState → List MaskTable → List Found → List ℕ
 multicast_lines net tables all =

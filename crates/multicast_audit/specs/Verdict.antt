@@ -9,9 +9,9 @@ use Rattle.route_audit.specs.Verdict.{reasons, verdict_is_safe, with_reason}
 use Rattle.route_audit.specs.declared.verdict.Verdict.{Verdict}
 use Rattle.multicast_audit.specs.declared.found.Found.{Found}
 use Rattle.multicast_audit.specs.declared.verdict.MulticastVerdict.{MulticastVerdict}
-use Rattle.multicast_audit.specs.Lines.{has_copy, has_ring, mft_at}
+use Rattle.multicast_audit.specs.Lines.{has_copy, has_cut, has_ring, mft_at}
 
--- ---- what it rests on: each MFT is of a switch of the fabric, each switch has one, and no MLID has a loop or copies
+-- ---- what it rests on: each MFT is of a switch of the fabric, each switch has one, and no MLID has a loop, copies or a cut
 abbrev pub is_of_fabric : NetState → MaskTable → Bool
 is_of_fabric net table = has_switch table.guid net.plan.nodes
 
@@ -24,6 +24,7 @@ multicast_verdict net tables all = record {
   is_known = list_all (has_mft net tables) (switches net.plan.nodes);
   has_loops = list_any has_ring all;
   has_copies = list_any has_copy all;
+  has_cuts = list_any has_cut all;
 }
 
 -- ---- with that of the routes: both dumps name the same switches, and nothing is unknown by either
@@ -31,13 +32,14 @@ abbrev pub joined : Verdict → MulticastVerdict → Verdict
 joined routes multicast = record routes { is_same = routes.is_same && multicast.is_same; is_known = routes.is_known && multicast.is_known }
 
 abbrev pub all_are_safe : Verdict → MulticastVerdict → Bool
-all_are_safe routes multicast = verdict_is_safe (joined routes multicast) && (not multicast.has_loops && not multicast.has_copies)
+all_are_safe routes multicast = verdict_is_safe (joined routes multicast) && (not multicast.has_loops && (not multicast.has_copies && not multicast.has_cuts))
 
--- `verdict: not safe (deadlock, multicast-loop, multicast-copies), as if ..`
+-- `verdict: not safe (deadlock, multicast-loop, multicast-copies, multicast-cut), as if ..`
 unfoldable pub all_reasons : Verdict → MulticastVerdict → List ℕ
 all_reasons routes multicast =
-    with_reason (not multicast.has_copies) (codes "multicast-copies")
-    (with_reason (not multicast.has_loops) (codes "multicast-loop") (reasons (joined routes multicast)))
+    with_reason (not multicast.has_cuts) (codes "multicast-cut")
+    (with_reason (not multicast.has_copies) (codes "multicast-copies")
+    (with_reason (not multicast.has_loops) (codes "multicast-loop") (reasons (joined routes multicast))))
 
 unfoldable pub all_words : Verdict → MulticastVerdict → List ℕ
 all_words routes multicast = if all_are_safe routes multicast then codes "safe" else codes "not safe (" ++ all_reasons routes multicast ++ codes ")"

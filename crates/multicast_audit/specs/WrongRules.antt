@@ -1,6 +1,6 @@
 -- Wrong rules for what is reported of multicast, and the law that each breaks.
-use Rattle.std.specs.Prelude.{ℕ, ◌==◌, nat_lt, Bool, true, false, List, [], ◌∷◌, ◌++◌, codes, filter, flat_map, get_or, length, map, if◌then◌else◌, Option, Some, None, option_map}
-use Rattle.std.specs.List.{enumerate_from}
+use Rattle.std.specs.Prelude.{ℕ, ◌==◌, ◌&&◌, ◌||◌, nat_lt, Bool, true, false, not, List, [], ◌∷◌, ◌++◌, codes, filter, flat_map, get_or, length, map, if◌then◌else◌, Option, Some, None, option_map}
+use Rattle.std.specs.List.{enumerate_from, list_any}
 use Rattle.std.specs.Option.{option_map_or}
 use Rattle.fabric_parts.specs.Cable.{far_end, port}
 use Rattle.fabric_parts.specs.declared.cable.Cable.{Cable}
@@ -10,16 +10,19 @@ use Rattle.fabric_parts.specs.declared.node_type.NodeType.TheVariants.{ChannelAd
 use Rattle.topo_file.specs.Connectivity.{switches}
 use Rattle.topo_file.specs.declared.node.Node.{Node}
 use Rattle.credit_loops.specs.Cycle.{cycle}
+use Rattle.audit_net.specs.Attached.{ports_of}
 use Rattle.audit_net.specs.Net.{NetState}
 use Rattle.route_audit.specs.Verdict.{reasons}
 use Rattle.route_audit.specs.declared.verdict.Verdict.{Verdict}
 use Rattle.multicast_audit.specs.declared.copies.SecondCopy.{SecondCopy}
 use Rattle.multicast_audit.specs.declared.verdict.MulticastVerdict.{MulticastVerdict}
-use Rattle.multicast_audit.specs.Copies.{again, arrivals, copy_from, entrances, first_copy}
-use Rattle.multicast_audit.specs.Laws.{MissesNoCopy, MissesNoMaskLoop, NamesAllReasons, PrintsMulticast, ReportsCopies, ReportsMaskLoops}
+use Rattle.multicast_audit.specs.declared.cuts.Cut.{Cut}
+use Rattle.multicast_audit.specs.Copies.{again, arrivals, copy_from, entrances, first_copy, leads_to_end, node_behind}
+use Rattle.multicast_audit.specs.Cuts.{arrives, cut_by, cut_from, first_member, member_switches, members_at}
+use Rattle.multicast_audit.specs.Laws.{MissesNoCopy, MissesNoCut, MissesNoMaskLoop, NamesAllReasons, PrintsMulticast, ReportsAllSafe, ReportsCopies, ReportsCuts, ReportsMaskLoops}
 use Rattle.mft_file.specs.declared.table.MaskTable.{MaskTable}
 use Rattle.multicast_audit.specs.Audit.{all_found}
-use Rattle.multicast_audit.specs.Lines.{found_lines, no_mft_line, strange_mft_line}
+use Rattle.multicast_audit.specs.Lines.{found_lines, has_copy, has_ring, no_mft_line, strange_mft_line}
 use Rattle.multicast_audit.specs.Loops.{all_outs, loop_of}
 use Rattle.multicast_audit.specs.Verdict.{joined}
 use Rattle.multicast_audit.specs.Ways.{outs}
@@ -105,6 +108,76 @@ CopiesAreFollowed = MissesNoCopy copy_in_one_hop → ⊥
 abbrev pub round_the_corner : List (List ℕ)
 round_the_corner = (1 ∷ 2 ∷ []) ∷ [] ∷ (2 ∷ []) ∷ []
 
+-- ---- each end port counts as a member
+abbrev pub end_ports : NetState → List PortRef
+end_ports net = filter (leads_to_end net) (flat_map (ports_of net) (switches net.plan.nodes))
+
+abbrev pub first_end : NetState → PortRef
+first_end net = get_or (end_ports net) 0 (port 0 0)
+
+abbrev pub cut_of_ends : NetState → List (List ℕ) → Option Cut
+cut_of_ends net masks = cut_by (first_end net) (filter (λ at. not (arrives net (all_outs net masks) (first_end net).node at.node)) (end_ports net))
+
+abbrev pub MembersAreInMasks : Type 0
+MembersAreInMasks = ReportsCuts cut_of_ends → ⊥
+
+-- two switches with a cable between them, and an adapter at port 3 of each. The port of the one adapter is in a mask, or those of both
+abbrev pub two_apart : NetState
+two_apart =
+    fabric_of (node_of Switch 1 ∷ node_of Switch 2 ∷ node_of ChannelAdapter 3 ∷ node_of ChannelAdapter 4 ∷ [])
+    (cable_of (port 0 1) (port 1 1) ∷ cable_of (port 0 3) (port 2 1) ∷ cable_of (port 1 3) (port 3 1) ∷ [])
+
+abbrev pub one_member : List (List ℕ)
+one_member = (3 ∷ []) ∷ [] ∷ [] ∷ [] ∷ []
+
+abbrev pub two_members : List (List ℕ)
+two_members = (3 ∷ []) ∷ (3 ∷ []) ∷ [] ∷ [] ∷ []
+
+-- ---- a packet comes no further than to the next switch
+abbrev pub missed_at_once : NetState → List (List ℕ) → (place : ℕ) → List PortRef
+missed_at_once net masks place =
+    flat_map (λ there. if (place == there) || list_any (λ out. (out.node == place) && (node_behind net out == there)) (all_outs net masks) then [] else members_at net masks there)
+    (member_switches net masks)
+
+abbrev pub cut_at_once : NetState → List (List ℕ) → Option Cut
+cut_at_once net masks = cut_by (first_member net masks 0) (missed_at_once net masks 0)
+
+abbrev pub CutsAreFollowed : Type 0
+CutsAreFollowed = ReportsCuts cut_at_once → ⊥
+
+-- three switches in a row, and an adapter at port 3 of the first and of the third
+abbrev pub in_a_row : NetState
+in_a_row =
+    fabric_of (node_of Switch 1 ∷ node_of Switch 2 ∷ node_of Switch 3 ∷ node_of ChannelAdapter 4 ∷ node_of ChannelAdapter 5 ∷ [])
+    (cable_of (port 0 1) (port 1 1) ∷ cable_of (port 1 2) (port 2 1) ∷ cable_of (port 0 3) (port 3 1) ∷ cable_of (port 2 3) (port 4 1) ∷ [])
+
+abbrev pub both_ways_on : List (List ℕ)
+both_ways_on = (1 ∷ 3 ∷ []) ∷ (1 ∷ 2 ∷ []) ∷ (1 ∷ 3 ∷ []) ∷ []
+
+-- ---- it is enough that all receive what the first member sends
+abbrev pub cut_from_first : NetState → List (List ℕ) → Option Cut
+cut_from_first net masks = cut_from net masks (all_outs net masks) (member_switches net masks) (get_or (member_switches net masks) 0 0)
+
+abbrev pub EachMemberSends : Type 0
+EachMemberSends = MissesNoCut cut_from_first → ⊥
+
+-- the third switch sends nothing on
+abbrev pub one_way_on : List (List ℕ)
+one_way_on = (1 ∷ 3 ∷ []) ∷ (1 ∷ 2 ∷ []) ∷ (3 ∷ []) ∷ []
+
+-- ---- what is safe except for cuts is
+abbrev pub cuts_aside : NetState → List MaskTable → Bool
+cuts_aside net tables = not (list_any has_ring (all_found net tables)) && not (list_any has_copy (all_found net tables))
+
+abbrev pub CutsDecide : Type 0
+CutsDecide = ReportsAllSafe cuts_aside → ⊥
+
+abbrev pub mft_of : ℕ → MaskTable
+mft_of guid = record { line = 1; guid = guid; rows = record { mlid = 49152; ports = 3 ∷ [] } ∷ [] }
+
+abbrev pub cut_mfts : List MaskTable
+cut_mfts = mft_of 1 ∷ mft_of 2 ∷ []
+
 -- ---- what is wrong with multicast is no reason
 abbrev pub reasons_of_routes : Verdict → MulticastVerdict → List ℕ
 reasons_of_routes routes multicast = reasons (joined routes multicast)
@@ -116,18 +189,18 @@ abbrev pub safe_routes : Verdict
 safe_routes = record { has_lids = true; is_reached = true; is_free = true; is_same = true; is_known = true; loses = false; lacks_entries = false }
 
 abbrev pub looping : MulticastVerdict
-looping = record { is_same = true; is_known = true; has_loops = true; has_copies = false }
+looping = record { is_same = true; is_known = true; has_loops = true; has_copies = false; has_cuts = false }
 
 -- ---- what is found of MLIDs is printed alone, and not what the files lack
 abbrev pub mlids_alone : NetState → List MaskTable → List ℕ
 mlids_alone net tables = flat_map (found_lines net) (all_found net tables)
 
 abbrev pub OtherMftsHaveALine : Type 0
-OtherMftsHaveALine = PrintsMulticast mlids_alone → ⊥
+OtherMftsHaveALine = PrintsMulticast false mlids_alone → ⊥
 
 -- ---- what the files lack is printed alone, and no port of a mask
 abbrev pub files_alone : NetState → List MaskTable → List ℕ
 files_alone net tables = flat_map (no_mft_line net tables) (switches net.plan.nodes) ++ flat_map (strange_mft_line net) tables
 
 abbrev pub PortsOfMasksHaveALine : Type 0
-PortsOfMasksHaveALine = PrintsMulticast files_alone → ⊥
+PortsOfMasksHaveALine = PrintsMulticast false files_alone → ⊥

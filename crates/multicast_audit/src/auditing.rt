@@ -5,6 +5,7 @@ ghost use Rattle.multicast_audit.specs.Audit.{all_found, audit_multicast, audit_
 ghost use Rattle.multicast_audit.specs.Copies.{entrances};
 
 use crate::copies::{copy_of, entrances};
+use crate::cuts::cut_of;
 use crate::found::Found;
 use crate::lines::push_multicast;
 use crate::loops::loop_of;
@@ -31,7 +32,13 @@ fn found_by(
 {
     let ring = loop_of(alloc, net, masks)?;
     let copy = copy_of(alloc, net, masks, places)?;
-    Ok(Found { mlid, ring, copy })
+    let cut = cut_of(alloc, net, masks)?;
+    Ok(Found {
+        mlid,
+        ring,
+        copy,
+        cut,
+    })
 }
 
 fn found_of(
@@ -89,36 +96,43 @@ fn with_multicast(
 }
 
 #[tactic(auto, unfolding(crate::specs::Audit::audit_with))]
-fn audit_with(alloc: Global, net: &Net<'_>, mfts: &Mfts) -> Result<Audit, AllocError>
-    ensures { IfOk result (λ found. found ≡ audit_with net.now mfts.now.tables) }
+fn audit_with(alloc: Global, net: &Net<'_>, mfts: &Mfts, all: bool) -> Result<Audit, AllocError>
+    ensures { IfOk result (λ found. found ≡ audit_with all net.now mfts.now.tables) }
 {
-    let routes = findings(net, alloc)?;
-    let all = all_found(alloc, net, mfts)?;
-    with_multicast(alloc, net, mfts, routes, &all)
+    let routes = findings(net, alloc, all)?;
+    let found = all_found(alloc, net, mfts)?;
+    with_multicast(alloc, net, mfts, routes, &found)
 }
 
-fn audited(alloc: Global, plan: &Plan, dump: &Dump, mfts: &Mfts) -> Result<Audit, AllocError>
-    ensures { IfOk result (λ found. found ≡ audit_with (record { plan = plan.now; dump = dump.now }) mfts.now.tables) }
+fn audited(
+    alloc: Global,
+    plan: &Plan,
+    dump: &Dump,
+    mfts: &Mfts,
+    all: bool,
+) -> Result<Audit, AllocError>
+    ensures { IfOk result (λ found. found ≡ audit_with all (record { plan = plan.now; dump = dump.now }) mfts.now.tables) }
 {
     let net = Net::new(alloc, plan, dump)?;
-    audit_with(alloc, &net, mfts)
+    audit_with(alloc, &net, mfts, all)
 }
 
 /// Judges the LFTs and MFTs that two dumps show over a topology. It can only run out of memory.
 ///
-/// What is reported is stated in `specs/Audit.antt`: what an audit of the LFTs alone prints before its verdict, then what is
-/// wrong with the MFTs, then the verdict on both. Of each MLID a packet is followed from each switch to which an end port is
-/// attached, and loops are looked for among the ports of its masks.
+/// What is reported is stated in `specs/Audit.antt`: what an audit of the LFTs alone prints before its verdict (with `all`, each line
+/// by switch and LID), then what is wrong with the MFTs, then the verdict on both. Of each MLID a packet is followed from each switch to which an end port is
+/// attached, loops are looked for among the ports of its masks, and from each member it is looked where packets come to.
 pub fn audit_multicast(
     alloc: Global,
     topology: &LargeTopology,
     dump: &Dump,
     mfts: &Mfts,
+    all: bool,
 ) -> Result<Audit, AllocError>
-    ensures { IfOk result (λ found. found ≡ audit_multicast topology.now dump.now mfts.now) }
+    ensures { IfOk result (λ found. found ≡ audit_multicast all topology.now dump.now mfts.now) }
 {
     let plan = Plan::of(alloc, topology)?;
-    audited(alloc, &plan, dump, mfts)
+    audited(alloc, &plan, dump, mfts, all)
 }
 
 /// The same over a discovery. It can only run out of memory.
@@ -127,9 +141,10 @@ pub fn audit_multicast_found(
     found: &Discovery,
     dump: &Dump,
     mfts: &Mfts,
+    all: bool,
 ) -> Result<Audit, AllocError>
-    ensures { IfOk result (λ audit. audit ≡ audit_multicast_found found.now dump.now mfts.now) }
+    ensures { IfOk result (λ audit. audit ≡ audit_multicast_found all found.now dump.now mfts.now) }
 {
     let plan = Plan::found(alloc, found)?;
-    audited(alloc, &plan, dump, mfts)
+    audited(alloc, &plan, dump, mfts, all)
 }

@@ -24,7 +24,7 @@ pub struct SecondCopy {
 }
 
 /// Whether the port's cable leads to an end port.
-fn leads_to_end(net: &Net<'_>, at: PortRef) -> bool
+pub(crate) fn leads_to_end(net: &Net<'_>, at: PortRef) -> bool
     ensures { result ≡ leads_to_end net.now at }
 {
     match net.far_end(at) {
@@ -61,7 +61,7 @@ pub(crate) fn entrances(alloc: Global, net: &Net<'_>) -> Result<Vec<usize>, Allo
 }
 
 /// The node at the other end of the port's cable.
-fn node_behind(net: &Net<'_>, at: PortRef) -> usize
+pub(crate) fn node_behind(net: &Net<'_>, at: PortRef) -> usize
     ensures { result ≡ node_behind net.now at }
 {
     match net.far_end(at) {
@@ -71,7 +71,7 @@ fn node_behind(net: &Net<'_>, at: PortRef) -> usize
 }
 
 /// Marks a place, and returns whether it was marked.
-fn meet(met: &mut [bool], place: usize) -> bool
+pub(crate) fn meet(met: &mut [bool], place: usize) -> bool
     requires { place < length met.old }
     ensures before { result ≡ is_marked met.old place }
     ensures long { length met.new ≡ length met.old }
@@ -131,7 +131,7 @@ fn hop(
 }
 
 /// A mark for each node, of which that of this place alone is set.
-fn met_first(alloc: Global, nodes: usize, place: usize) -> Result<Vec<bool>, AllocError>
+pub(crate) fn met_first(alloc: Global, nodes: usize, place: usize) -> Result<Vec<bool>, AllocError>
     requires { place < nodes }
     ensures long { IfOk result (λ met. length met.items ≡ nodes) }
     ensures marked { IfOk result (λ met. (other : ℕ) → is_marked met.items other ≡ (place == other)) }

@@ -1,9 +1,10 @@
 //! What is found of an MLID.
 
 ghost use Rattle.std.specs.Prelude.{◌≡◌};
-ghost use Rattle.multicast_audit.specs.Lines.{has_copy, has_ring};
+ghost use Rattle.multicast_audit.specs.Lines.{has_copy, has_cut, has_ring};
 
 use crate::copies::SecondCopy;
+use crate::cuts::Cut;
 use fabric_parts::PortRef;
 use std::marker::Model;
 
@@ -47,6 +48,8 @@ pub struct Found {
     pub ring: Option<Ring>,
     /// A switch to which a packet comes twice, if there is one.
     pub copy: Option<SecondCopy>,
+    /// What a member sends and another does not receive, if there is such.
+    pub cut: Option<Cut>,
 }
 
 impl Found {
@@ -60,5 +63,11 @@ impl Found {
         ensures { result ≡ has_copy self.now }
     {
         self.copy.is_some()
+    }
+
+    pub(crate) fn has_cut(&self) -> bool
+        ensures { result ≡ has_cut self.now }
+    {
+        self.cut.is_some()
     }
 }

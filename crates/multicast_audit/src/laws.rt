@@ -1,6 +1,6 @@
 //! Laws of all fabrics and masks. The functions do nothing; their clauses are the theorems.
 
-ghost use Rattle.multicast_audit.specs.Laws.{AllReasonsAreNamed, CopiesComeTwice, MaskLoopsGoRound, MulticastIsPrinted, NoCopyIsMissed, NoMaskLoopIsMissed};
+ghost use Rattle.multicast_audit.specs.Laws.{AllReasonsAreNamed, CopiesComeTwice, CutMembersAreApart, MaskLoopsGoRound, MulticastIsPrinted, NoCopyIsMissed, NoCutIsMissed, NoMaskLoopIsMissed, SafeMulticastIsReported};
 
 /// A loop that is printed is one: packets to the MLID leave by each of its ports and then by the next, and after the last one by
 /// the first.
@@ -21,6 +21,22 @@ pub fn copies_come_twice()
 /// If none is printed, a packet from an end port comes to no switch by two paths, however long.
 pub fn no_copy_is_missed()
     ensures { NoCopyIsMissed }
+{}
+
+/// If a cut is printed, both are end ports to which masks lead, and what the one sends does not come to the other.
+pub fn cut_members_are_apart()
+    ensures { CutMembersAreApart }
+{}
+
+/// If none is printed, what each end port sends to which masks lead comes to each other one, however long the path.
+pub fn no_cut_is_missed()
+    ensures { NoCutIsMissed }
+{}
+
+/// The verdict is safe if and only if the routes are, each switch has an MFT and each MFT a switch, no packet to an MLID loops or comes to
+/// a switch by two paths, and what each end port sends to which masks lead comes to each other one.
+pub fn safe_multicast_is_reported()
+    ensures { SafeMulticastIsReported }
 {}
 
 /// A verdict that is not safe names a reason, and it names each reason if and only if that holds.

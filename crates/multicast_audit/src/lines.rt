@@ -3,17 +3,18 @@
 ghost use Rattle.std.specs.Prelude.{◌≡◌, ◌++◌, count_by, flat_map, OnOk};
 ghost use Rattle.std.specs.Option.{option_copied};
 ghost use Rattle.topo_file.specs.Connectivity.{switches};
-ghost use Rattle.multicast_audit.specs.Lines.{copy_line, copy_text, copy_words, found_lines, found_words, has_copy, has_ring, is_past, is_uncabled, loop_line, mask_line, mask_lines_at, mask_port_line, mask_row_lines};
+ghost use Rattle.multicast_audit.specs.Lines.{copy_line, copy_text, copy_words, cut_line, cut_text, cut_words, end_behind, found_lines, found_words, has_copy, has_cut, has_ring, is_past, is_uncabled, loop_line, mask_line, mask_lines_at, mask_port_line, mask_row_lines};
 ghost use Rattle.multicast_audit.specs.Lines.{mask_table_lines, members_line, mft_at, mlid_text, mlids_line, mlids_words, multicast_lines, no_mft_line, no_mft_text, ring_text, strange_mft_line};
 
 use crate::copies::SecondCopy;
+use crate::cuts::Cut;
 use crate::found::{Found, Ring};
 use crate::masks::table_of;
 use audit_net::Net;
 use audit_plan::ports_at;
 use fabric_parts::PortRef;
 use mft_file::{MaskRow, MaskTable, Mfts};
-use route_audit::{has_switch, push_name, push_port_words};
+use route_audit::{has_switch, push_name, push_port, push_port_words};
 use std::alloc::AllocError;
 use text_parts::{push_decimal, push_guid, push_hex};
 
@@ -268,11 +269,58 @@ fn push_copy(
     }
 }
 
+/// The port at the other end of the cable of this one.
+fn end_behind(net: &Net<'_>, at: PortRef) -> PortRef
+    ensures { result ≡ end_behind net.now at }
+{
+    match net.far_end(at) {
+        Some(end) => end,
+        None => at,
+    }
+}
+
+#[tactic(auto, unfolding(crate::specs::Lines::cut_words))]
+fn push_cut_words(net: &Net<'_>, text: &mut Vec<u8>, mlid: u16, cut: Cut) -> Result<(), AllocError>
+    ensures { OnOk result (text.new.items ≡ text.old.items ++ cut_words net.now mlid cut) }
+{
+    text.extend_from_slice(b"multicast cut ")?;
+    push_mlid(text, mlid)?;
+    text.extend_from_slice(b" ")?;
+    push_port(net, text, end_behind(net, cut.at))
+}
+
+#[tactic(auto, unfolding(crate::specs::Lines::cut_text))]
+fn push_cut_text(net: &Net<'_>, text: &mut Vec<u8>, mlid: u16, cut: Cut) -> Result<(), AllocError>
+    ensures { OnOk result (text.new.items ≡ text.old.items ++ cut_text net.now mlid cut) }
+{
+    push_cut_words(net, text, mlid, cut)?;
+    text.extend_from_slice(b" from ")?;
+    push_port(net, text, end_behind(net, cut.from))?;
+    text.extend_from_slice(b", and ")?;
+    push_decimal(text, cut.more)?;
+    text.extend_from_slice(b" more\n")
+}
+
+fn push_cut(
+    net: &Net<'_>,
+    text: &mut Vec<u8>,
+    mlid: u16,
+    cut: Option<Cut>,
+) -> Result<(), AllocError>
+    ensures { OnOk result (text.new.items ≡ text.old.items ++ cut_line net.now mlid cut) }
+{
+    match cut {
+        Some(cut) => push_cut_text(net, text, mlid, cut),
+        None => Ok(()),
+    }
+}
+
 fn push_found(net: &Net<'_>, text: &mut Vec<u8>, found: &Found) -> Result<(), AllocError>
     ensures { OnOk result (text.new.items ≡ text.old.items ++ found_lines net.now found.now) }
 {
     push_loop(net, text, found.mlid, &found.ring)?;
-    push_copy(net, text, found.mlid, found.copy)
+    push_copy(net, text, found.mlid, found.copy)?;
+    push_cut(net, text, found.mlid, found.cut)
 }
 
 fn push_all_found(net: &Net<'_>, text: &mut Vec<u8>, all: &[Found]) -> Result<(), AllocError>
@@ -296,6 +344,12 @@ fn copy_count(all: &[Found]) -> usize
     all.iter().filter(|found| found.has_copy()).count()
 }
 
+fn cut_count(all: &[Found]) -> usize
+    ensures { result ≡ count_by has_cut all.now }
+{
+    all.iter().filter(|found| found.has_cut()).count()
+}
+
 fn push_mlids_words(text: &mut Vec<u8>, all: &[Found]) -> Result<(), AllocError>
     ensures { OnOk result (text.new.items ≡ text.old.items ++ mlids_words all.now) }
 {
@@ -311,7 +365,9 @@ fn push_found_words(text: &mut Vec<u8>, all: &[Found]) -> Result<(), AllocError>
     push_decimal(text, ring_count(all))?;
     text.extend_from_slice(b" with a loop, ")?;
     push_decimal(text, copy_count(all))?;
-    text.extend_from_slice(b" with copies\n")?;
+    text.extend_from_slice(b" with copies, ")?;
+    push_decimal(text, cut_count(all))?;
+    text.extend_from_slice(b" cut\n")?;
     Ok(())
 }
 
@@ -328,7 +384,7 @@ fn push_members(text: &mut Vec<u8>) -> Result<(), AllocError>
     ensures { OnOk result (text.new.items ≡ text.old.items ++ members_line) }
 {
     text.extend_from_slice(
-        b"# multicast: members that no packet reaches are unknown, since MFTs do not say who is a member\n",
+        b"# multicast: a member to which no mask leads is unknown, since MFTs do not say who is a member\n",
     )
 }
 

@@ -13,7 +13,11 @@ use mft_file::Ports;
 use std::alloc::{AllocError, Global};
 
 /// All ports by which packets leave a switch for another one.
-fn all_outs(alloc: Global, net: &Net<'_>, masks: &[Ports]) -> Result<Vec<PortRef>, AllocError>
+pub(crate) fn all_outs(
+    alloc: Global,
+    net: &Net<'_>,
+    masks: &[Ports],
+) -> Result<Vec<PortRef>, AllocError>
     ensures { IfOk result (λ all. all.items ≡ all_outs net.now masks.now) }
 {
     let mut all = Vec::new(alloc);
@@ -56,7 +60,7 @@ fn graph_of(alloc: Global, net: &Net<'_>, all: &[PortRef]) -> Result<Vec<NextLis
 }
 
 /// The port there, or no port of a switch if there is none.
-fn port_at(all: &[PortRef], place: usize) -> PortRef
+pub(crate) fn port_at(all: &[PortRef], place: usize) -> PortRef
     ensures { result ≡ get_or all.now place (port 0 0) }
 {
     match all.get(place) {

@@ -3,7 +3,7 @@
 ghost use Rattle.std.specs.Prelude.{◌≡◌, ◌++◌, IfOk, OnOk};
 ghost use Rattle.std.specs.List.{list_all, list_any};
 ghost use Rattle.topo_file.specs.Connectivity.{switches};
-ghost use Rattle.multicast_audit.specs.Lines.{has_copy, has_ring};
+ghost use Rattle.multicast_audit.specs.Lines.{has_copy, has_cut, has_ring};
 ghost use Rattle.multicast_audit.specs.Verdict.{all_are_safe, all_reasons, all_verdict_line, all_words, has_mft, is_of_fabric, joined, multicast_verdict};
 
 use crate::found::Found;
@@ -24,6 +24,8 @@ pub(crate) struct MulticastVerdict {
     has_loops: bool,
     /// Packets to some MLID come to a switch twice.
     has_copies: bool,
+    /// What some end port to which masks lead sends does not come to another one.
+    has_cuts: bool,
 }
 
 fn is_of_fabric(net: &Net<'_>, table: &MaskTable) -> bool
@@ -64,6 +66,12 @@ fn some_have_copies(all: &[Found]) -> bool
     all.iter().any(|found| found.has_copy())
 }
 
+fn some_have_cuts(all: &[Found]) -> bool
+    ensures { result ≡ list_any has_cut all.now }
+{
+    all.iter().any(|found| found.has_cut())
+}
+
 /// The verdict on multicast, by what is found of each MLID.
 pub(crate) fn multicast_verdict(net: &Net<'_>, mfts: &Mfts, all: &[Found]) -> MulticastVerdict
     ensures { result ≡ multicast_verdict net.now mfts.now.tables all.now }
@@ -73,6 +81,7 @@ pub(crate) fn multicast_verdict(net: &Net<'_>, mfts: &Mfts, all: &[Found]) -> Mu
         is_known: all_have_mfts(net, mfts),
         has_loops: some_have_rings(all),
         has_copies: some_have_copies(all),
+        has_cuts: some_have_cuts(all),
     }
 }
 
@@ -86,7 +95,10 @@ fn joined(routes: Verdict, multicast: MulticastVerdict) -> Verdict
 pub(crate) fn all_are_safe(routes: Verdict, multicast: MulticastVerdict) -> bool
     ensures { result ≡ all_are_safe routes multicast }
 {
-    joined(routes, multicast).is_safe() && !multicast.has_loops && !multicast.has_copies
+    joined(routes, multicast).is_safe()
+        && !multicast.has_loops
+        && !multicast.has_copies
+        && !multicast.has_cuts
 }
 
 #[tactic(auto, unfolding(crate::specs::Verdict::all_reasons))]
@@ -100,6 +112,7 @@ fn all_reasons(
     let mut text = reasons(alloc, joined(routes, multicast))?;
     add_reason(&mut text, !multicast.has_loops, b"multicast-loop")?;
     add_reason(&mut text, !multicast.has_copies, b"multicast-copies")?;
+    add_reason(&mut text, !multicast.has_cuts, b"multicast-cut")?;
     Ok(text)
 }
 

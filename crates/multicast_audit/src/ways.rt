@@ -19,7 +19,7 @@ fn has_port(mask: &[u8], number: u8) -> bool
 }
 
 /// Whether the port is in the mask of its switch.
-fn is_set(masks: &[Ports], at: PortRef) -> bool
+pub(crate) fn is_set(masks: &[Ports], at: PortRef) -> bool
     ensures { result ≡ is_set masks.now at }
 {
     match masks.get(at.node) {

@@ -2,6 +2,7 @@
 //! Each function does nothing: its contract says that with this rule the law is false.
 
 ghost use Rattle.multicast_audit.specs.WrongRules.{OtherMftsHaveALine, PortsOfMasksHaveALine};
+ghost use Rattle.multicast_audit.specs.WrongRules.{CutsAreFollowed, CutsDecide, EachMemberSends, MembersAreInMasks};
 ghost use Rattle.multicast_audit.specs.WrongRules.{CopiesAreFollowed, MulticastIsAReason, PacketsDoNotGoBack, PacketsEnterAtEndPorts, TwoPortsLoop};
 
 /// If a packet may go back by the port by which it came in, a cable between two switches is reported as a loop, and is none.
@@ -22,6 +23,26 @@ pub fn packets_enter_at_end_ports()
 /// If copies are followed for one hop, one that comes by another switch is missed.
 pub fn copies_are_followed()
     ensures { CopiesAreFollowed }
+{}
+
+/// If each end port counts as a member, a cut is reported of one to which no mask leads.
+pub fn members_are_in_masks()
+    ensures { MembersAreInMasks }
+{}
+
+/// If packets come no further than to the next switch, a cut is reported of members that receive what the other sends.
+pub fn cuts_are_followed()
+    ensures { CutsAreFollowed }
+{}
+
+/// If it is enough that all receive what the first member sends, the cut of another sender is missed.
+pub fn each_member_sends()
+    ensures { EachMemberSends }
+{}
+
+/// If only loops and copies are asked for, a group that is cut is safe.
+pub fn cuts_decide()
+    ensures { CutsDecide }
 {}
 
 /// If the reasons are those of the routes alone, a loop of multicast has none.

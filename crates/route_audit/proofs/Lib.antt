@@ -1,4 +1,6 @@
 pub mod LineLemmas
+pub mod CarriesLemmas
+pub mod LoopLemmas
 pub mod TroubleLemmas
 pub mod ClosingLemmas
 pub mod WrongLemmas
@@ -8,3 +10,6 @@ pub mod ExampleLemmas
 pub mod CountLemmas
 pub mod ReasonLemmas
 pub mod PrintedLemmas
+pub mod DecidingLemmas
+pub mod EachReasonLemmas
+pub mod WrongLineLemmas

@@ -20,8 +20,8 @@ use Rattle.audit_net.specs.declared.following.Turn.TheVariants as turns
 use Rattle.lid_owners.specs.declared.lids.Aim.{Aim}
 use Rattle.route_audit.specs.declared.pairs.Pair.{Pair}
 use Rattle.audit_net.specs.Attached.{carries_host, leads_to_host}
-use Rattle.route_audit.specs.Audit.{audit_of, credit_loop}
-use Rattle.credit_loops.specs.Channels.{deadlock}
+use Rattle.route_audit.specs.Audit.{audit_of}
+use Rattle.route_audit.specs.Loops.{courses_of, credit_loop}
 use Rattle.audit_net.specs.Following.{end_from, fate_by, turn}
 use Rattle.route_audit.specs.Laws.{AreSafe, CarriesAHost, IsOfKind, LeadThere, LeadingRoutesAreReported, NameTheSame, SafeRoutesAreReported, other_lids, says_lead, says_safe}
 use Rattle.lid_owners.specs.Laws.{end_port_of}
@@ -29,20 +29,22 @@ use Rattle.lid_owners.specs.Lids.{aim_of, aims, all_lids, has_lid, have_lids, is
 use Rattle.audit_net.specs.Net.{NetState, has_table, row_at}
 use Rattle.audit_plan.specs.Plan.{is_host}
 use Rattle.route_audit.specs.Pairs.{all_reached, between_hosts, is_between_hosts, is_fate, pair_at, pair_to, pairs_at, pairs_by}
-use Rattle.route_audit.specs.Verdict.{goes_on_known, have_tables, is_known, is_unknown, knows_all, knows_entries, knows_next, name_the_same}
-use Rattle.credit_loops.proofs.CycleLawLemmas.{reported_loops_wait}
+use Rattle.route_audit.specs.Verdict.{goes_on_known, have_tables, is_known, is_others, is_unknown, knows_all, knows_entries, knows_next, name_the_same}
+use Rattle.credit_loops.proofs.CycleLawLemmas.{reported_loops_wait_on_courses}
 use Rattle.audit_net.proofs.EndlessLemmas.{in_kept, ways_are_followed}
 use Rattle.route_audit.proofs.SafeLemmas.{flat_mapped, has_end, reported_is_safe, reported_leads}
 use Rattle.lid_owners.proofs.LidLemmas.{in_lids}
+use Rattle.route_audit.proofs.CarriesLemmas.{carried}
+use Rattle.route_audit.proofs.LoopLemmas.{cycle_is_loop}
 
-itself : (at : PortRef) → is_same_port at at ≡ true
+pub itself : (at : PortRef) → is_same_port at at ≡ true
 itself at =
     let node : (at.node == at.node) ≡ true = eq-eqb at.node at.node refl in
     let number : (at.port == at.port) ≡ true = eq-eqb at.port at.port refl in
     rw (node, number) refl
 
 -- ---- the dump and the topology name the same
-all_kept : (p test : ℕ → Bool) (xs : List ℕ) → ((x : ℕ) → test x ≡ true → p x ≡ true) → list_all p (filter test xs) ≡ true
+pub all_kept : (p test : ℕ → Bool) (xs : List ℕ) → ((x : ℕ) → test x ≡ true → p x ≡ true) → list_all p (filter test xs) ≡ true
 all_kept p test [] each = refl
 all_kept p test (x ∷ xs) each = elim (cases_Bool (test x)) [
   | inl kept ↦ rw kept (and_from (p x) _ (each x kept) (all_kept p test xs each))
@@ -118,7 +120,7 @@ all_same net same =
     (and_from (list_all (is_known net) net.dump.tables) _ (each_table (is_known net) net.dump.tables same.switches) (none_lacks net same))
 
 -- ---- each port of an adapter that has a cable has a LID
-in_mapped : (net : NetState) (end : PortRef) (lid : ℕ) (lids : List ℕ) → list_any (λ n. n == lid) lids ≡ true → is_of end (aim_of net lid) ≡ true
+pub in_mapped : (net : NetState) (end : PortRef) (lid : ℕ) (lids : List ℕ) → list_any (λ n. n == lid) lids ≡ true → is_of end (aim_of net lid) ≡ true
     → list_any (is_of end) (map (aim_of net) lids) ≡ true
 in_mapped net end lid [] there is = absurd (false≢true there)
 in_mapped net end lid (n ∷ lids) there is = elim (cases_Bool (n == lid)) [
@@ -190,36 +192,6 @@ pair_fine net place lid (Some end) ends = elim (cases_Bool (is_host net.plan end
   ]
 ]
 
--- a switch that carries a host has a port with a cable to one
-some_port : (test : PortRef → Bool) (place first count : ℕ) → list_any test (map (port place) (range_with_len first count)) ≡ true
-    → (number : ℕ) × (first ≤ number) × (number < first + count) × (test (port place number) ≡ true)
-some_port test place first zero some = absurd (false≢true some)
-some_port test place first (suc count) some = elim (cases_Bool (test (port place first))) [
-  | inl here ↦ (first, omega arith, omega arith, here)
-  | inr other ↦
-      let rest = some_port test place (first + 1) count (rw other at some) in
-      (rest.0, (let low = rest.1 in omega (arith, low)), (let high = rest.2 in omega (arith, high)), rest.3)
-]
-
-pub carried : (net : NetState) (place : ℕ) → is_switch_at net.plan.nodes place ≡ true → carries_host net place ≡ true → CarriesAHost net place
-carried net place switch some = by found.0 found.1 found.2 (far_end net.plan.cables (port place found.0)) refl found.3
-  where
-    found : (number : ℕ) × (1 ≤ number) × (number < 1 + ports_at net.plan.nodes place) × (leads_to_host net (port place number) ≡ true)
-    found = some_port (leads_to_host net) place 1 (ports_at net.plan.nodes place) some
-
-    by : (number : ℕ) → 1 ≤ number → number < 1 + ports_at net.plan.nodes place → (o : Option PortRef) → far_end net.plan.cables (port place number) ≡ o
-        → option_map_or (λ there. is_host net.plan there.node) o false ≡ true → CarriesAHost net place
-    by number low high None far leads = absurd (false≢true leads)
-    by number low high (Some at) far leads = record {
-      switch = switch;
-      number = number;
-      low = low;
-      high = omega (arith, high);
-      at = at;
-      cable = far;
-      host = leads;
-    }
-
 all_pairs : (net : NetState) → LeadThere net → all_reached (between_hosts (pairs_by net (aims net))) ≡ true
 unfolding all_lids
 all_pairs net safe =
@@ -233,16 +205,16 @@ all_pairs net safe =
 
 -- ---- and no cycle is reported
 no_ring : (net : NetState) → AreSafe net → is_none (credit_loop net (aims net)) ≡ true
-no_ring net safe = by (deadlock net (other_lids net)) refl
+no_ring net safe = by (credit_loop net (aims net)) refl
   where
-    by : (o : Option (List PortRef)) → deadlock net (other_lids net) ≡ o → is_none o ≡ true
+    by : (o : Option (List PortRef)) → credit_loop net (aims net) ≡ o → is_none o ≡ true
     by None is = refl
     by (Some ring) is =
-        let cycle = reported_loops_wait net (other_lids net) ring is in
-        absurd (false≢true (sym (safe.free ring cycle.0) ∙ cycle.1))
+        let cycle = reported_loops_wait_on_courses net (courses_of net (filter (is_others net) (aims net))) ring is in
+        absurd (safe.free ring cycle.0 (cycle_is_loop net ring cycle.1))
 
 -- ---- and where a switch sends a LID to another, the entry there is known
-unknown_is : (turned : Turn) → is_unknown turned ≡ true → turned ≡ turns.Unknown
+pub unknown_is : (turned : Turn) → is_unknown turned ≡ true → turned ≡ turns.Unknown
 unknown_is turns.Unknown is = refl
 unknown_is (turns.Goes next) is = absurd (false≢true is)
 unknown_is (turns.Arrives there) is = absurd (false≢true is)

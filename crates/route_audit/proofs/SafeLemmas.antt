@@ -15,17 +15,18 @@ use Rattle.dump_file.specs.Table.{place_of, rows_of}
 use Rattle.fabric_parts.specs.Cable.{ends_at, is_cabled, is_same_port, port}
 use Rattle.fabric_parts.specs.declared.cable.Cable.{Cable}
 use Rattle.fabric_parts.specs.declared.cable.PortRef.{PortRef}
-use Rattle.step_results.proofs.ListLemmas.{all_there, any_map, list_any_weaker}
+use Rattle.step_results.proofs.ListLemmas.{all_there, list_any_weaker}
 use Rattle.topo_file.specs.Connectivity.{switches}
-use Rattle.topo_file.specs.Node.{is_switch_at, ports_at}
+use Rattle.topo_file.specs.Node.{is_switch_at}
 use Rattle.topo_file.specs.declared.node.Node.{Node}
 use Rattle.audit_net.specs.declared.following.Fate.TheVariants as fates
 use Rattle.audit_net.specs.declared.following.Turn.{Turn}
 use Rattle.audit_net.specs.declared.following.Turn.TheVariants as turns
 use Rattle.lid_owners.specs.declared.lids.Aim.{Aim}
 use Rattle.route_audit.specs.declared.pairs.Pair.{Pair}
-use Rattle.audit_net.specs.Attached.{carries_host, leads_to_host}
-use Rattle.route_audit.specs.Audit.{audit_of, credit_loop}
+use Rattle.audit_net.specs.Attached.{carries_host}
+use Rattle.route_audit.specs.Audit.{audit_of}
+use Rattle.route_audit.specs.Loops.{courses_of, credit_loop}
 use Rattle.audit_net.specs.Following.{end_from, fate_by, switch_total, turn}
 use Rattle.route_audit.specs.Laws.{AreSafe, CarriesAHost, IsAdaptersEnd, IsOfKind, LeadThere, NameTheSame, other_lids, says_lead, says_safe}
 use Rattle.audit_net.specs.Laws.{EndsBy}
@@ -34,10 +35,12 @@ use Rattle.lid_owners.specs.Lids.{aim_of, aims, all_lids, end_by, has_lid, have_
 use Rattle.audit_plan.specs.Plan.{is_host, port_of}
 use Rattle.audit_net.specs.Net.{NetState, has_table, row_at, row_of, table_of}
 use Rattle.route_audit.specs.Pairs.{all_reached, between_hosts, is_between_hosts, is_fate, pair_at, pair_to, pairs_at, pairs_by}
-use Rattle.route_audit.specs.Verdict.{goes_on_known, have_tables, is_known, is_unknown, knows_all, knows_entries, knows_next, name_the_same}
-use Rattle.credit_loops.proofs.CycleLawLemmas.{no_cycle_is_missed}
-use Rattle.audit_net.proofs.EndlessLemmas.{in_kept, in_range, is_listed, way_there}
+use Rattle.route_audit.specs.Verdict.{goes_on_known, have_tables, is_known, is_others, is_unknown, knows_all, knows_entries, knows_next, name_the_same}
+use Rattle.credit_loops.proofs.CycleLawLemmas.{no_cycle_is_missed_on_courses}
+use Rattle.audit_net.proofs.EndlessLemmas.{in_kept, is_listed, way_there}
 use Rattle.lid_owners.proofs.LidLemmas.{in_lids}
+use Rattle.route_audit.proofs.CarriesLemmas.{carries}
+use Rattle.route_audit.proofs.LoopLemmas.{loop_is_cycle}
 
 abbrev is_reached : Pair → Bool
 is_reached pair = is_fate fates.Reached pair.fate
@@ -174,20 +177,8 @@ names net end have is =
     let has = of_cables net (aims net) end net.plan.cables is.1 have in
     lid_of_port net end (known_lids net) (names_below net) (rw is.0 at has)
 
--- ---- what carries a host
-pub carries : (net : NetState) (place : ℕ) → CarriesAHost net place → carries_host net place ≡ true
-carries net place is =
-    let low = is.low in
-    let high = is.high in
-    let leads : leads_to_host net (port place is.number) ≡ true =
-    ap (λ (o : Option PortRef). option_map_or (λ there. is_host net.plan there.node) o false) is.cable ∙ is.host in
-    any_map (leads_to_host net) (port place) (range_with_len 1 (ports_at net.plan.nodes place))
-    ∙ list_any_weaker (λ n. n == is.number) (λ n. leads_to_host net (port place n))
-    (λ n same. ap (λ (m : ℕ). leads_to_host net (port place m)) (eqb-true n is.number same) ∙ leads) (range_with_len 1 (ports_at net.plan.nodes place))
-    (in_range is.number 1 (ports_at net.plan.nodes place) low (omega (arith, high)))
-
 -- ---- the dump and the topology name the same
-each_listed : (p : ℕ → Bool) (xs : List ℕ) (x : ℕ) → list_any (λ n. n == x) xs ≡ true → list_all p xs ≡ true → p x ≡ true
+pub each_listed : (p : ℕ → Bool) (xs : List ℕ) (x : ℕ) → list_any (λ n. n == x) xs ≡ true → list_all p xs ≡ true → p x ≡ true
 each_listed p [] x there all = absurd (false≢true there)
 each_listed p (y ∷ ys) x there all =
     let parts = and_parts (p y) _ all in
@@ -363,5 +354,7 @@ reported_is_safe net safe =
     record {
       lead = reported_leads net (and_from (list_all (have_lids net (aims net)) net.plan.cables) _ lids.0
           (and_from (all_reached (between_hosts (pairs_by net (aims net)))) _ all.0 free.1));
-      free = no_cycle_is_missed net (other_lids net) (no_ring (credit_loop net (aims net)) free.0);
+      free = λ ring are loop.
+          let none = no_cycle_is_missed_on_courses net (courses_of net (filter (is_others net) (aims net))) (no_ring (credit_loop net (aims net)) free.0) ring are in
+          false≢true (sym none ∙ loop_is_cycle net ring loop);
     }

@@ -1,7 +1,7 @@
 -- What is wrong has its line.
 use Rattle.std.proofs.Common.{◌≡◌, ◌∙◌, ◌⊎◌, inl, inr, ap, refl, subst, sym, ℕ, zero, suc, ◌+◌, ◌-◌, ◌<◌, ◌≤◌, Bool, true, false, ◌==◌, nat_le, List, [], ◌∷◌, length, ◌++◌, codes, flat_map, arith, Option, Some, None, is_some, option_map}
 use Rattle.std.specs.List.{list_any}
-use Rattle.std.proofs.lemmas.Bool.{and_from, cases_Bool, cases_lt, false≢true}
+use Rattle.std.proofs.lemmas.Bool.{and_from, cases_Bool, cases_lt, eq-eqb, false≢true}
 use Rattle.std.proofs.lemmas.Bool.Decides.{nat_tests}
 use Rattle.std.proofs.lemmas.Cmp.{nat_eq_equiv}
 use Rattle.std.proofs.lemmas.Map.Made.{length-le_from_is_member}
@@ -17,8 +17,9 @@ use Rattle.audit_net.specs.Following.{back, end_from, end_within, fate_by, if_go
 use Rattle.audit_net.specs.Laws.{ComesBy, EndsBy, IsWay, NeverEnds}
 use Rattle.route_audit.specs.Laws.{HasItsLine, EachTroubleHasALine}
 use Rattle.lid_owners.specs.Lids.{aim_of}
-use Rattle.route_audit.specs.Lines.{is_least, left_out_line, lid_text, line_by, loop_line, name_text, name_word, nobodys_line, stray_line, trouble_line, trouble_to, unplaced_line}
+use Rattle.route_audit.specs.Lines.{goes_to, is_fed, is_least, left_out_line, lid_text, line_by, loop_line, name_text, name_word, nobodys_line, stray_line, trouble_line, trouble_to, unplaced_line}
 use Rattle.audit_net.specs.Net.{NetState, table_at}
+use Rattle.audit_net.proofs.EndlessLemmas.{any_of}
 use Rattle.audit_net.proofs.EndlessLemmas.{is_listed, loops_never_end, turn_goes, way_there}
 
 module _ (net : NetState) (lid : ℕ) where
@@ -353,6 +354,24 @@ module _ (net : NetState) (lid : ℕ) where
             (sym (ap (λ (o : Option ℕ). trouble_to net ends.there lid o (aim_of net lid).end) named) ∙ none);
       }
 
+  -- ---- where a switch sends the LID to one whose entry is not known
+  pub fed_there : (place next : ℕ) → is_switch_at net.plan.nodes place ≡ true → turn net lid place ≡ turns.Goes next → is_fed net next lid ≡ true
+  fed_there place next switch goes =
+      any_of (λ one. goes_to next (turn net lid one)) (switches net.plan.nodes) place (is_listed net.plan.nodes place switch)
+      (ap (goes_to next) goes ∙ eq-eqb next next refl)
+
+  fed_line : (place next : ℕ) (guid : Option ℕ) (end : Option PortRef) → is_switch_at net.plan.nodes place ≡ true → turn net lid place ≡ turns.Goes next
+      → turn net lid next ≡ turns.Unknown → is_some (table_at net next) ≡ true → trouble_to net next lid guid end ≡ [] → ⊥
+  fed_line place next guid (Some end) switch goes unknown has none = left_out_shown next 0 (Some end) has unknown none
+  fed_line place next (Some guid) None switch goes unknown has none = left_out_shown next guid None has unknown none
+  fed_line place next None None switch goes unknown has none =
+      let line : List ℕ = codes "left-out " ++ name_text net next ++ codes " " ++ lid_text net lid None ++ 10 ∷ [] in
+      let shown : left_out_line net next lid None ≡ line = rw has refl in
+      let fed : nobodys_line net next lid turns.Unknown ≡ left_out_line net next lid None = rw (fed_there place next switch goes) refl in
+      let left = second_empty (stray_line net next lid) (nobodys_line net next lid (turn net lid next)) none in
+      let empty : line ≡ [] = sym shown ∙ (sym fed ∙ (sym (ap (nobodys_line net next lid) unknown) ∙ left)) in
+      cc
+
   -- ---- packets to an end port of the topology
   module _ (end : PortRef) (named : (aim_of net lid).end ≡ Some end) where
     line_is : (there : ℕ) → trouble_line net there (aim_of net lid) ≡ line_by net there lid end (turn net lid there)
@@ -395,5 +414,6 @@ each_trouble_has_a_line = record {
   lost = λ net lid place end switch named reached unknown. by_end net lid end named place (end_from net lid place) switch refl reached unknown;
   ended = λ net lid place guid switch named way. hole_reported net lid place guid switch named way;
   unknown = λ net lid place guid switch named tables way. unknown_reported net lid place guid switch named tables way;
+  fed = λ net lid place next switch goes unknown has none. fed_line net lid place next (aim_of net lid).guid (aim_of net lid).end switch goes unknown has none;
   endless = λ net lid place switch never. loop_line_reported net lid place (record { of_switch = switch; never = never });
 }

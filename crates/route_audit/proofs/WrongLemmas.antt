@@ -1,8 +1,9 @@
 -- What wrong rules report of two switches.
-use Rattle.std.proofs.Common.{◌≡◌, ◌∙◌, ◌==◌, ◌≤◌, ◌<◌, ◌+◌, ◌||◌, inl, inr, ℕ, zero, suc, nat_le, nat_lt, true, false, List, Option, Some, None, is_some, ap, filter, lit<, map, refl, sym, [], ◌∷◌, arith}
+use Rattle.std.proofs.Common.{◌≡◌, ◌∙◌, ◌==◌, ◌≤◌, ◌<◌, ◌+◌, ◌||◌, inl, inr, ℕ, zero, suc, nat_le, nat_lt, true, false, List, Option, Some, None, is_some, ap, filter, lit<, map, refl, subst, sym, [], ◌∷◌, arith}
 use Rattle.std.specs.List.{list_all, list_any, range_with_len}
 use Rattle.std.proofs.lemmas.Bool.{cases_Bool, false≢true}
 use Rattle.std.proofs.lemmas.Bool.Decides.{nat_tests}
+use Rattle.std.proofs.lemmas.Option.{same_Some}
 use Rattle.dump_file.specs.Table.{rows_of}
 use Rattle.dump_file.specs.declared.row.Row.{Row}
 use Rattle.fabric_parts.specs.Cable.{port}
@@ -12,16 +13,18 @@ use Rattle.audit_net.specs.declared.following.Turn.TheVariants as turns
 use Rattle.lid_owners.specs.declared.lids.Aim.{Aim}
 use Rattle.topo_file.specs.Node.{is_switch_at}
 use Rattle.route_audit.specs.Audit.{audit_of}
-use Rattle.credit_loops.specs.Channels.{depends}
+use Rattle.credit_loops.specs.Channels.{deadlock, depends}
+use Rattle.route_audit.specs.Loops.{credit_loop, lids_of}
 use Rattle.audit_net.specs.Following.{end_within}
-use Rattle.route_audit.specs.Laws.{CarriesAHost, other_lids, says_lead, says_safe}
-use Rattle.audit_net.specs.Laws.{ComesBy, IsWay}
-use Rattle.credit_loops.specs.Laws.{is_cycle}
+use Rattle.route_audit.specs.Laws.{CarriesAHost, ComesFromAHost, IsAggregations, IsCreditLoop, other_lids, says_lead, says_safe}
+use Rattle.audit_net.specs.Laws.{ComesBy, HostsCome, IsWay}
+use Rattle.audit_net.proofs.HostLemmas.{hosts_are_followed}
 use Rattle.lid_owners.specs.Lids.{aim_of, aims, all_lids, is_known_lid, is_named, reported_by}
 use Rattle.audit_net.specs.Net.{NetState, table_at}
-use Rattle.route_audit.specs.Verdict.{is_unknown}
+use Rattle.route_audit.specs.Verdict.{is_aggregations, is_others, is_unknown, verdict_by, verdict_is_safe}
 use Rattle.audit_plan.specs.declared.ends.LidGuid.{LidGuid}
-use Rattle.route_audit.specs.WrongRules.{AggregationDecidesNothing, CreditLoopsAreApart, UnknownEntriesDecide, an_aggregations_hole, an_unknown_entry, to_each_adapter, with_unknown, EachStepHasItsLid, LidsGoOnRound, LostPairsAreAReason, ReasonsHold, all_three, both_ways, one_way, three_ways, HolesAreCounted, HolesHaveALine, LidsAreAsked, LoopsHaveALine, NobodysLoopsHaveALine, OtherLidsDecide, OtherPortsDecide, OtherTablesDecide, OthersHolesHaveALine, RowsLeftOutHaveALine, TransitDecidesNothing, WaysAreAsked, a_row_left_out, a_hole_at_home, a_loop, a_nobodys_loop, a_routers_hole, a_routers_loop, a_third_table, another_adapter, another_row, by_adapters_lids, from_each_switch, is_going, is_hole, no_lids, silent_of_nobody, silent_where, with_other_ports, with_other_tables, without_lids, without_ways}
+use Rattle.route_audit.specs.WrongRules.{ClosingLidsCountThere, LoopsOfAggregationDecideNothing, LoopsOfHostsDecide, aggregations_aim, an_aggregations_loop, by_all_entries, is_no_aggregations, two_aims, two_loops, without_aggregation}
+use Rattle.route_audit.specs.WrongRules.{AggregationDecidesNothing, CreditLoopsAreApart, UnknownEntriesDecide, an_aggregations_hole, an_unknown_entry, to_each_adapter, with_unknown, EachStepHasItsLid, LidsGoOnRound, LostPairsAreAReason, ReasonsHold, all_three, both_ways, one_way, three_ways, HolesAreCounted, HolesHaveALine, LidsAreAsked, LoopsHaveALine, NobodysLoopsHaveALine, NobodysRowsHaveALine, OtherLidsDecide, OtherPortsDecide, OtherTablesDecide, OthersHolesHaveALine, RowsLeftOutHaveALine, TransitDecidesNothing, WaysAreAsked, a_row_left_out, nobodys_row_left_out, a_hole_at_home, a_loop, a_nobodys_loop, a_routers_hole, a_routers_loop, a_third_table, another_adapter, another_row, by_adapters_lids, from_each_switch, is_going, is_hole, no_lids, silent_of_nobody, silent_where, with_other_ports, with_other_tables, without_lids, without_ways}
 use Rattle.audit_net.specs.SmallNets.{a_hole, adapters_row, two_with, with_rows}
 use Rattle.lid_owners.proofs.LidLemmas.{filter_alike, or_last}
 use Rattle.route_audit.proofs.SafeLemmas.{reported_is_safe, reported_leads}
@@ -35,13 +38,13 @@ lid_of None = 0
 
 pub lids_go_on_round : LidsGoOnRound
 lids_go_on_round law =
-    let closed = law one_way both_ways (port 0 2 ∷ port 1 1 ∷ []) 0 refl (omega arith) in
+    let closed = law one_way false both_ways (port 0 2 ∷ port 1 1 ∷ []) 0 refl (omega arith) in
     let named : ◌≡◌ {A = ℕ} 1 closed.aim.lid = ap lid_of closed.is in
     false≢true (ap (λ (lid : ℕ). depends one_way (lid ∷ []) (port 0 2) (port 1 1)) named ∙ closed.waits)
 
 pub each_step_has_its_lid : EachStepHasItsLid
 each_step_has_its_lid law =
-    let closed = law three_ways all_three (port 0 1 ∷ port 1 1 ∷ port 2 1 ∷ []) 1 refl (omega arith) in
+    let closed = law three_ways false all_three (port 0 1 ∷ port 1 1 ∷ port 2 1 ∷ []) 1 refl (omega arith) in
     let named : ◌≡◌ {A = ℕ} 1 closed.aim.lid = ap lid_of closed.is in
     false≢true (ap (λ (lid : ℕ). depends three_ways (lid ∷ []) (port 1 1) (port 2 1)) named ∙ closed.waits)
 
@@ -83,7 +86,7 @@ aims_to_64 : (net : NetState) → net.plan.lids ≡ [] → list_all (λ (row : R
     → aims net ≡ map (aim_of net) (filter (is_named (rows_of net.dump.tables)) (range_with_len 0 65))
 aims_to_64 net none below = aims_by net 65 refl none below
 
-few_aims : (net : NetState) → net.plan.lids ≡ [] → list_all (λ (row : Row). nat_lt row.lid 3) (rows_of net.dump.tables) ≡ true
+pub few_aims : (net : NetState) → net.plan.lids ≡ [] → list_all (λ (row : Row). nat_lt row.lid 3) (rows_of net.dump.tables) ≡ true
     → aims net ≡ map (aim_of net) (filter (is_named (rows_of net.dump.tables)) (range_with_len 0 3))
 few_aims net none below = aims_by net 3 refl none below
 
@@ -137,14 +140,87 @@ pub aggregation_decides_nothing : AggregationDecidesNothing
 aggregation_decides_nothing law =
     false≢true (sym aggregation_is_asked ∙ law.reported an_aggregations_hole (reported_is_safe an_aggregations_hole aggregation_is_safe))
 
-loop_waits : is_cycle (depends a_routers_loop (other_lids a_routers_loop)) (port 0 2 ∷ port 1 1 ∷ []) ≡ true
-loop_waits = rw (few_aims a_routers_loop refl refl) refl
+-- LID 2 is a router's
+by_the_router : list_any (λ n. n == 2) (other_lids a_routers_loop) ≡ true
+by_the_router = rw (few_aims a_routers_loop refl refl) refl
+
+routers_are_apart : (place : ℕ) → IsAggregations a_routers_loop 2 → ComesFromAHost a_routers_loop 2 place
+routers_are_apart place is = let none : (aim_of a_routers_loop 2).end ≡ Some is.end = is.is in absurd (cc)
+
+loop_waits : IsCreditLoop a_routers_loop (port 0 2 ∷ port 1 1 ∷ [])
+loop_waits = (
+  record { lid = 2; among = by_the_router; leads = refl; first = refl; second = refl; comes = routers_are_apart 0 },
+  record { lid = 2; among = by_the_router; leads = refl; first = refl; second = refl; comes = routers_are_apart 1 },
+)
 
 pub other_lids_decide : OtherLidsDecide
 other_lids_decide law =
     let reported : by_adapters_lids a_routers_loop ≡ true = rw (few_aims a_routers_loop refl refl) refl in
-    let free = (law.safe a_routers_loop reported).free (port 0 2 ∷ port 1 1 ∷ []) refl in
-    false≢true (sym free ∙ loop_waits)
+    (law.safe a_routers_loop reported).free (port 0 2 ∷ port 1 1 ∷ []) refl loop_waits
+
+-- ---- loops of aggregation nodes
+abbrev hosts_aim : Aim
+hosts_aim = record { lid = 1; guid = Some 257; end = Some (port 2 1) }
+
+loop_aims : (first : ℕ) → aims (an_aggregations_loop first) ≡ hosts_aim ∷ aggregations_aim ∷ []
+loop_aims first = few_aims (an_aggregations_loop first) refl refl
+
+-- by this entry of A packets of hosts come to neither switch
+closed_is_safe : says_safe (an_aggregations_loop 255) ≡ true
+unfolding audit_of
+closed_is_safe =
+    ap (λ (all : List Aim). verdict_is_safe (verdict_by (an_aggregations_loop 255) all (credit_loop (an_aggregations_loop 255) all))) (loop_aims 255)
+
+closed_is_asked : by_all_entries (an_aggregations_loop 255) ≡ false
+closed_is_asked =
+    ap (λ (all : List Aim). verdict_is_safe (verdict_by (an_aggregations_loop 255) all
+    (deadlock (an_aggregations_loop 255) (lids_of (filter (is_others (an_aggregations_loop 255)) all))))) (loop_aims 255)
+
+pub loops_of_aggregation_decide_nothing : LoopsOfAggregationDecideNothing
+loops_of_aggregation_decide_nothing law =
+    false≢true (sym closed_is_asked ∙ law.reported (an_aggregations_loop 255) (reported_is_safe (an_aggregations_loop 255) closed_is_safe))
+
+-- and by this one to both
+by_aggregation : list_any (λ n. n == 2) (other_lids (an_aggregations_loop 2)) ≡ true
+by_aggregation = rw (loop_aims 2) refl
+
+a_carries : CarriesAHost (an_aggregations_loop 2) 0
+a_carries = record { switch = refl; number = 1; low = omega arith; high = omega arith; at = port 2 1; cable = refl; host = refl }
+
+open_waits : IsCreditLoop (an_aggregations_loop 2) (port 1 2 ∷ port 4 1 ∷ [])
+open_waits = (
+  record {
+    lid = 2;
+    among = by_aggregation;
+    leads = refl;
+    first = refl;
+    second = refl;
+    comes = λ is. record { from = 0; carries = a_carries; over = 1 ∷ []; comes = (refl, refl) };
+  },
+  record {
+    lid = 2;
+    among = by_aggregation;
+    leads = refl;
+    first = refl;
+    second = refl;
+    comes = λ is. record { from = 0; carries = a_carries; over = 1 ∷ 4 ∷ []; comes = (refl, (refl, refl)) };
+  },
+)
+
+pub loops_of_hosts_decide : LoopsOfHostsDecide
+loops_of_hosts_decide law =
+    let reported : without_aggregation (an_aggregations_loop 2) ≡ true =
+    ap (λ (all : List Aim). verdict_is_safe (verdict_by (an_aggregations_loop 2) all
+    (deadlock (an_aggregations_loop 2) (lids_of (filter (is_no_aggregations (an_aggregations_loop 2)) all))))) (loop_aims 2) in
+    (law.safe (an_aggregations_loop 2) reported).free (port 1 2 ∷ port 4 1 ∷ []) refl open_waits
+
+pub closing_lids_count_there : ClosingLidsCountThere
+closing_lids_count_there law =
+    let closed = law two_loops true two_aims (port 1 2 ∷ port 4 1 ∷ []) 0 refl (omega arith) in
+    let same : aggregations_aim ≡ closed.aim = same_Some aggregations_aim closed.aim closed.is in
+    let of_one : is_aggregations two_loops closed.aim ≡ true = ap (is_aggregations two_loops) (sym same) in
+    let come : HostsCome two_loops 2 1 = subst (λ (aim : Aim). HostsCome two_loops aim.lid 1) (sym same) (closed.comes refl of_one) in
+    false≢true (hosts_are_followed.comes two_loops 2 1 come)
 
 pub other_tables_decide : OtherTablesDecide
 other_tables_decide law =
@@ -172,7 +248,7 @@ loop_leads = rw (few_aims a_routers_loop refl refl) refl
 pub credit_loops_are_apart : CreditLoopsAreApart
 credit_loops_are_apart law =
     let safe = reported_is_safe a_routers_loop (law.reported a_routers_loop (reported_leads a_routers_loop loop_leads)) in
-    false≢true (sym (safe.free (port 0 2 ∷ port 1 1 ∷ []) refl) ∙ loop_waits)
+    safe.free (port 0 2 ∷ port 1 1 ∷ []) refl loop_waits
 
 -- ---- lines that are lacking
 loop_is_silent : (there : ℕ) → is_switch_at a_loop.plan.nodes there ≡ true → silent_where is_going a_loop there (aim_of a_loop 1) ≡ []
@@ -228,3 +304,6 @@ pub rows_left_out_have_a_line : RowsLeftOutHaveALine
 rows_left_out_have_a_line law =
     let line = law.unknown a_row_left_out 64 1 257 refl refl comes_to_tables ([], (refl, λ next same. let e : turns.Unknown ≡ turns.Goes next = same in cc)) in
     line.reported (unknown_is_silent line.there line.way line.comes)
+
+pub nobodys_rows_have_a_line : NobodysRowsHaveALine
+nobodys_rows_have_a_line law = law.fed nobodys_row_left_out 64 0 1 refl refl refl refl refl

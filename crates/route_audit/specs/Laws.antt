@@ -1,5 +1,5 @@
 -- What is so of all fabrics and dumps: the statements of the laws of `src/laws.rt`.
-use Rattle.std.specs.Prelude.{ℕ, ◌≡◌, ◌<◌, ◌≤◌, ◌+◌, ◌==◌, Bool, true, false, not, ◌&&◌, nat_eq, List, [], ◌∷◌, ◌++◌, codes, drop, filter, get_or, length, slice_get, Option, Some, None, is_some}
+use Rattle.std.specs.Prelude.{ℕ, suc, ◌≡◌, ◌⊎◌, ◌<◌, ◌≤◌, ◌+◌, ◌-◌, ◌==◌, Bool, true, false, not, ◌&&◌, nat_eq, List, [], ◌∷◌, ◌++◌, codes, count_by, decimal, drop, filter, flat_map, get_or, length, slice_get, take, Option, Some, None, is_some}
 use Rattle.std.specs.List.{list_any, range_with_len, starts_with}
 use Rattle.std.specs.Str.Iter.{HasSubslice}
 use Rattle.dump_file.specs.declared.destination.Destination.{Destination}
@@ -17,17 +17,20 @@ use Rattle.audit_net.specs.declared.following.Turn.TheVariants as turns
 use Rattle.lid_owners.specs.declared.lids.Aim.{Aim}
 use Rattle.route_audit.specs.declared.pairs.Pair.{Pair}
 use Rattle.route_audit.specs.declared.verdict.Verdict.{Verdict}
-use Rattle.route_audit.specs.Audit.{audit_of, behind, closing, credit_loop, findings_of, lids_of}
-use Rattle.credit_loops.specs.Channels.{channels, deadlock, depends}
+use Rattle.route_audit.specs.Audit.{audit_of, findings_of, port_word}
+use Rattle.route_audit.specs.Loops.{behind, closing, courses_of, credit_loop, lids_of}
+use Rattle.credit_loops.specs.Channels.{deadlock, deadlock_on, depends, leads_to, leaves_by, channels}
 use Rattle.audit_net.specs.Following.{fate}
-use Rattle.lid_owners.specs.Lids.{aim_of, aims}
-use Rattle.route_audit.specs.Verdict.{is_others, leads, reasons, verdict_by, verdict_is_safe, verdict_line}
-use Rattle.route_audit.specs.Lines.{apart_line, has_switch, no_lid_lines, no_port_line, no_switch_line, no_table_line, trouble_line}
+use Rattle.lid_owners.specs.Lids.{aim_of, aims, owner_of}
+use Rattle.route_audit.specs.Verdict.{is_aggregations, is_others, leads, reasons, verdict_by, verdict_is_safe, verdict_line}
+use Rattle.route_audit.specs.Lines.{apart_line, has_switch, no_lid_lines, no_port_line, no_switch_line, no_table_line, trouble_line, lid_text, name_text, name_word, port_text}
+use Rattle.route_audit.specs.Deciding.{unreached_line}
+use Rattle.text_parts.specs.Parts.{guid_text}
 use Rattle.audit_net.specs.Net.{NetState, row_at, table_at}
 use Rattle.route_audit.specs.Pairs.{count_of}
 use Rattle.audit_plan.specs.Plan.{is_host}
-use Rattle.audit_net.specs.Laws.{GoesTo, IsUnknownAt, NeverEnds, EndsBy, ComesBy}
-use Rattle.credit_loops.specs.Laws.{is_cycle, are_channels}
+use Rattle.audit_net.specs.Laws.{GoesTo, HostsCome, IsUnknownAt, NeverEnds, EndsBy, ComesBy}
+use Rattle.credit_loops.specs.Laws.{are_channels}
 use Rattle.lid_owners.specs.Laws.{end_port_of}
 
 -- ---- counts
@@ -60,6 +63,9 @@ pub record ReportsTroubles (line : NetState → ℕ → Aim → List ℕ) : Type
   pub unknown : (net : NetState) (lid place guid : ℕ) → is_switch_at net.plan.nodes place ≡ true → (aim_of net lid).guid ≡ Some guid
       → ((there : ℕ) (way : List ℕ) → ComesBy net lid place way there → is_some (table_at net there) ≡ true) → EndsBy net lid place turns.Unknown
       → HasItsLine line net lid place
+  -- with whichever LID, if a switch sends it to another that has a table, and the entry there is not known
+  pub fed : (net : NetState) (lid place next : ℕ) → is_switch_at net.plan.nodes place ≡ true → GoesTo net lid place next → IsUnknownAt net lid next
+      → is_some (table_at net next) ≡ true → line net next (aim_of net lid) ≡ [] → ⊥
   -- and with whichever LID, if packets never end
   pub endless : (net : NetState) (lid place : ℕ) → is_switch_at net.plan.nodes place ≡ true → NeverEnds net lid place → HasItsLine line net lid place
 
@@ -67,16 +73,23 @@ abbrev pub EachTroubleHasALine : Type 0
 EachTroubleHasALine = ReportsTroubles trouble_line
 
 -- the LID that is printed for a channel of the cycle is one of these, and the channel waits by it for the one behind it
-pub record ClosesTheStep (net : NetState) (all : List Aim) (a b : PortRef) (found : Option Aim) : Type 0 where
+pub record ClosesTheStep (net : NetState) (decides : Bool) (all : List Aim) (a b : PortRef) (found : Option Aim) : Type 0 where
   pub aim : Aim
   pub is : found ≡ Some aim
   pub among : list_any (λ lid. lid == aim.lid) (lids_of all) ≡ true
   pub waits : depends net (aim.lid ∷ []) a b ≡ true
+  -- if the cycle decides, and the LID is an aggregation node's, packets of hosts come there
+  pub comes : decides ≡ true → is_aggregations net aim ≡ true → HostsCome net aim.lid a.node
 
-abbrev pub ReportsClosing : (NetState → List Aim → List PortRef → ℕ → Option Aim) → Type 0
+-- along these LIDs: the cycle that decides, or that along the same LIDs of which each counts everywhere
+abbrev pub loop_along : NetState → (decides : Bool) → List Aim → Option (List PortRef)
+loop_along net true all = deadlock_on net (courses_of net all)
+loop_along net false all = deadlock net (lids_of all)
+
+abbrev pub ReportsClosing : (NetState → (decides : Bool) → List Aim → List PortRef → ℕ → Option Aim) → Type 0
 ReportsClosing reports =
-    (net : NetState) (all : List Aim) (ring : List PortRef) (index : ℕ) → deadlock net (lids_of all) ≡ Some ring → index < length ring
-    → ClosesTheStep net all (get_or ring index (port 0 0)) (behind ring index) (reports net all ring index)
+    (net : NetState) (decides : Bool) (all : List Aim) (ring : List PortRef) (index : ℕ) → loop_along net decides all ≡ Some ring → index < length ring
+    → ClosesTheStep net decides all (get_or ring index (port 0 0)) (behind ring index) (reports net decides all ring index)
 
 abbrev pub LoopsAreClosedByTheirLids : Type 0
 LoopsAreClosedByTheirLids = ReportsClosing closing
@@ -133,10 +146,45 @@ pub record LeadThere (net : NetState) : Type 0 where
   pub known : (place lid next : ℕ) → is_switch_at net.plan.nodes place ≡ true → list_any (λ n. n == lid) (other_lids net) ≡ true
       → GoesTo net lid place next → IsUnknownAt net lid next → ⊥
 
+-- ---- credit loops
+-- the LID is an aggregation node's: that of an end port of the fabric that is neither a switch's nor a host's
+pub record IsAggregations (net : NetState) (lid : ℕ) : Type 0 where
+  pub end : PortRef
+  pub is : end_port_of net lid ≡ Some end
+  pub adapter : is_switch_at net.plan.nodes end.node ≡ false
+  pub reduces : is_host net.plan end.node ≡ false
+
+-- packets to the LID come there, over however many switches, from one to which a host is attached
+pub record ComesFromAHost (net : NetState) (lid there : ℕ) : Type 0 where
+  pub from : ℕ
+  pub carries : CarriesAHost net from
+  pub over : List ℕ
+  pub comes : ComesBy net lid from over there
+
+-- a channel waits for another, behind it: the two switches forward some LID by the one, and then by the other. It is no switch's,
+-- and if it is an aggregation node's, packets of hosts come there
+pub record WaitsFor (net : NetState) (a b : PortRef) : Type 0 where
+  pub lid : ℕ
+  pub among : list_any (λ n. n == lid) (other_lids net) ≡ true
+  pub leads : leads_to net a b.node ≡ true
+  pub first : leaves_by net a lid ≡ true
+  pub second : leaves_by net b lid ≡ true
+  pub comes : IsAggregations net lid → ComesFromAHost net lid a.node
+
+-- each waits for the next, and the last for the first
+abbrev pub WaitRound : NetState → (first : PortRef) → List PortRef → Type 0
+WaitRound net first [] = ⊥
+WaitRound net first (a ∷ []) = WaitsFor net a first
+WaitRound net first (a ∷ b ∷ rest) = WaitsFor net a b × WaitRound net first (b ∷ rest)
+
+abbrev pub IsCreditLoop : NetState → List PortRef → Type 0
+IsCreditLoop net [] = ⊥
+IsCreditLoop net (a ∷ rest) = WaitRound net a (a ∷ rest)
+
 pub record AreSafe (net : NetState) : Type 0 where
   pub lead : LeadThere net
-  -- along all LIDs but the switches' own no channels wait for one another in a cycle, however long
-  pub free : (ring : List PortRef) → are_channels net ring ≡ true → is_cycle (depends net (other_lids net)) ring ≡ false
+  -- no channels wait for one another in a cycle, however long
+  pub free : (ring : List PortRef) → are_channels net ring ≡ true → IsCreditLoop net ring → ⊥
 
 -- this says so if and only if routes are safe
 pub record ReportsSafe (says : NetState → Bool) : Type 0 where
@@ -144,7 +192,7 @@ pub record ReportsSafe (says : NetState → Bool) : Type 0 where
   pub reported : (net : NetState) → AreSafe net → says net ≡ true
 
 abbrev pub says_safe : NetState → Bool
-says_safe net = (audit_of net).is_safe
+says_safe net = (audit_of false net).is_safe
 
 abbrev pub SafeRoutesAreReported : Type 0
 SafeRoutesAreReported = ReportsSafe says_safe
@@ -174,10 +222,154 @@ pub record PrintsLines (text : NetState → List ℕ) : Type 0 where
   pub troubles : (net : NetState) (index other place : ℕ) (aim : Aim) → slice_get (switches net.plan.nodes) index ≡ Some place
       → slice_get (aims net) other ≡ Some aim → HasSubslice (text net) (trouble_line net place aim)
 
+-- what has all lines by switch and LID has each line; the other text has in their place a comment that says how many they are, if
+-- there are any
+pub record CountsTheRest (brief whole : NetState → List ℕ) : Type 0 where
+  pub before : NetState → List ℕ
+  pub behind : NetState → List ℕ
+  pub lines : NetState → List ℕ
+  pub comment : NetState → List ℕ
+  pub all : (net : NetState) → whole net ≡ before net ++ lines net ++ behind net
+  pub rest : (net : NetState) → brief net ≡ before net ++ comment net ++ behind net
+  -- those of one switch behind those of the one before it, and at each switch as LIDs rise
+  pub each : (net : NetState) → lines net ≡ flat_map (λ place. flat_map (trouble_line net place) (aims net)) (switches net.plan.nodes)
+  pub none : (net : NetState) → lines net ≡ [] → comment net ≡ []
+  pub some : (net : NetState) (count : ℕ) → count_by (λ byte. byte == 10) (lines net) ≡ suc count
+      → comment net ≡ codes "# " ++ decimal (suc count) ++ codes " lines by switch and LID: --all prints them\n"
+
+-- the text before the verdict, with all lines by switch and LID, and without
+abbrev pub whole_text : NetState → List ℕ
+whole_text net = (findings_of true net).text
+
+abbrev pub brief_text : NetState → List ℕ
+brief_text net = (findings_of false net).text
+
+abbrev pub verdict_of : NetState → Verdict
+verdict_of net = verdict_by net (aims net) (credit_loop net (aims net))
+
 -- so it is with what stands before the verdict, which ends the text
 pub record AllLinesArePrinted : Type 0 where
-  pub lines : PrintsLines (λ net. (findings_of net).text)
-  pub verdict : (net : NetState) → (audit_of net).text ≡ (findings_of net).text ++ verdict_line (verdict_by net (aims net) (credit_loop net (aims net)))
+  pub lines : PrintsLines whole_text
+  pub counted : CountsTheRest brief_text whole_text
+  pub verdict : (whole : Bool) (net : NetState) → (audit_of whole net).text ≡ (findings_of whole net).text ++ verdict_line (verdict_of net)
+  pub is_safe : (whole : Bool) (net : NetState) → (audit_of whole net).is_safe ≡ says_safe net
+
+-- ---- the LIDs that packets of hosts do not come to
+-- packets from the switch there, to which a host is attached, end elsewhere than at the host's port that has the LID, or nowhere;
+-- unless they come to an entry that is unknown
+pub record IsLostFrom (net : NetState) (lid place : ℕ) : Type 0 where
+  pub carries : CarriesAHost net place
+  pub end : PortRef
+  pub named : end_port_of net lid ≡ Some end
+  pub host : is_host net.plan end.node ≡ true
+  pub arrives : EndsBy net lid place (turns.Arrives end) → ⊥
+  pub known : EndsBy net lid place turns.Unknown → ⊥
+
+-- these are the switches that have the property, each once, in the order of the fabric
+pub record AreThose (net : NetState) (Has : ℕ → Type 0) (places : List ℕ) : Type 0 where
+  pub test : ℕ → Bool
+  pub order : places ≡ filter test (switches net.plan.nodes)
+  pub all : (place : ℕ) → Has place → list_any (λ n. n == place) places ≡ true
+  pub only : (place : ℕ) → list_any (λ n. n == place) places ≡ true → Has place
+
+-- no line of no switch; else it says how many they are, and names the first eight, or all
+pub record SaysWhich (net : NetState) (words : List ℕ) (places line : List ℕ) : Type 0 where
+  pub none : length places ≡ 0 → line ≡ []
+  pub few : 0 < length places → length places ≤ 8
+      → line ≡ words ++ decimal (length places) ++ codes " switches:" ++ flat_map (name_word net) places ++ 10 ∷ []
+  pub many : 8 < length places
+      → line ≡ words ++ decimal (length places) ++ codes " switches:" ++ flat_map (name_word net) (take 8 places) ++ codes " and "
+      ++ decimal (length places - 8) ++ codes " more\n"
+
+-- a LID has a line if and only if packets to it are lost from some switch, and the line is of these switches
+abbrev pub NamesLost : (NetState → Aim → List ℕ) → Type 0
+NamesLost line =
+    (net : NetState) (lid : ℕ) → (places : List ℕ) × AreThose net (IsLostFrom net lid) places
+    × SaysWhich net (codes "unreached " ++ lid_text net lid (end_port_of net lid) ++ codes " from ") places (line net (aim_of net lid))
+
+-- and it stands in the text
+abbrev pub PrintsLost : (NetState → List ℕ) → Type 0
+PrintsLost text = (net : NetState) (lid place : ℕ) → lid < 65536 → IsLostFrom net lid place → HasSubslice (text net) (unreached_line net (aim_of net lid))
+
+pub record LostPairsAreNamed : Type 0 where
+  pub lines : NamesLost unreached_line
+  pub brief : PrintsLost brief_text
+  pub whole : PrintsLost whole_text
+
+-- ---- each reason of the verdict has a line that says where
+-- `no-table A`: the dump has no table of this switch
+pub record HasNoTableLine (net : NetState) (text : List ℕ) : Type 0 where
+  pub place : ℕ
+  pub switch : is_switch_at net.plan.nodes place ≡ true
+  pub none : table_at net place ≡ None
+  pub line : HasSubslice text (codes "no-table " ++ name_text net place ++ 10 ∷ [])
+
+-- `no-switch 0x0000000000000020`: the fabric has no switch of this table
+pub record HasNoSwitchLine (net : NetState) (text : List ℕ) : Type 0 where
+  pub index : ℕ
+  pub table : Table
+  pub there : slice_get net.dump.tables index ≡ Some table
+  pub none : has_switch table.guid net.plan.nodes ≡ false
+  pub line : HasSubslice text (codes "no-switch " ++ guid_text table.guid ++ 10 ∷ [])
+
+-- `no-port 3 0x7cfe9003009f0a11`: rows give the LID to an end port that the fabric lacks
+pub record HasNoPortLine (net : NetState) (text : List ℕ) : Type 0 where
+  pub lid : ℕ
+  pub guid : ℕ
+  pub said : owner_of net lid ≡ Some guid
+  pub none : end_port_of net lid ≡ None
+  pub line : HasSubslice text (codes "no-port " ++ decimal lid ++ codes " " ++ guid_text guid ++ 10 ∷ [])
+
+-- the fabric has no switch at all, and the text says so
+abbrev pub HasNoSwitchesLine : NetState → List ℕ → Type 0
+HasNoSwitchesLine net text = (switches net.plan.nodes ≡ []) × HasSubslice text (codes "# no switches\n")
+
+-- the entry of a switch that has a table is unknown, and packets come to it: a host is attached to it, or another switch sends them
+pub record IsUnknownTo (net : NetState) (lid place : ℕ) : Type 0 where
+  pub switch : is_switch_at net.plan.nodes place ≡ true
+  pub table : is_some (table_at net place) ≡ true
+  pub unknown : IsUnknownAt net lid place
+  pub comes : CarriesAHost net place ⊎ ((from : ℕ) × (is_switch_at net.plan.nodes from ≡ true) × GoesTo net lid from place)
+
+-- `unknown 5 (h5/1) at 1 switches: ..`
+pub record HasUnknownLine (net : NetState) (text : List ℕ) : Type 0 where
+  pub lid : ℕ
+  pub place : ℕ
+  pub count : ℕ
+  pub unknown : IsUnknownTo net lid place
+  pub some : 0 < count
+  pub line : HasSubslice text (codes "unknown " ++ lid_text net lid (end_port_of net lid) ++ codes " at " ++ decimal count ++ codes " switches:")
+
+-- `unreached 5 (h5/1) from 3 switches: ..`
+pub record HasUnreachedLine (net : NetState) (text : List ℕ) : Type 0 where
+  pub lid : ℕ
+  pub place : ℕ
+  pub count : ℕ
+  pub lost : IsLostFrom net lid place
+  pub some : 0 < count
+  pub line : HasSubslice text (codes "unreached " ++ lid_text net lid (end_port_of net lid) ++ codes " from " ++ decimal count ++ codes " switches:")
+
+-- `no-lid h1/1`: no LID is that of this port of an adapter, which has a cable
+pub record HasNoLidLine (net : NetState) (text : List ℕ) : Type 0 where
+  pub end : PortRef
+  pub adapters : IsAdaptersEnd net end
+  pub none : (lid : ℕ) → lid < 65536 → end_port_of net lid ≡ Some end → ⊥
+  pub line : HasSubslice text (codes "no-lid " ++ port_text net end ++ 10 ∷ [])
+
+pub record EachReasonHasItsLine (text : NetState → List ℕ) : Type 0 where
+  pub lids : (net : NetState) → (verdict_of net).has_lids ≡ false → HasNoLidLine net (text net)
+  pub pairs : (net : NetState) → (verdict_of net).loses ≡ true → HasUnreachedLine net (text net)
+  -- the credit loop stands in the text
+  pub loops : (net : NetState) → (verdict_of net).is_free ≡ false
+      → (ring : List PortRef) × (credit_loop net (aims net) ≡ Some ring) × HasSubslice (text net) (codes "deadlock" ++ flat_map (port_word net) ring)
+  pub names : (net : NetState) → (verdict_of net).is_same ≡ false
+      → HasNoTableLine net (text net) ⊎ (HasNoSwitchesLine net (text net) ⊎ (HasNoSwitchLine net (text net) ⊎ HasNoPortLine net (text net)))
+  pub entries : (net : NetState) → ((verdict_of net).is_known && not (verdict_of net).lacks_entries) ≡ false
+      → HasNoTableLine net (text net) ⊎ HasUnknownLine net (text net)
+
+pub record ReasonsHaveLines : Type 0 where
+  pub brief : EachReasonHasItsLine brief_text
+  pub whole : EachReasonHasItsLine whole_text
 
 -- ---- a verdict that is not safe has a reason, and each reason is named if and only if it holds
 -- the word stands somewhere in the text

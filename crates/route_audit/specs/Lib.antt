@@ -1,7 +1,9 @@
 pub mod Pairs
 pub mod Lines
 pub mod Verdict
+pub mod Loops
 pub mod Asks
+pub mod Deciding
 pub mod Audit
 pub mod Laws
 pub mod WrongRules

@@ -1,5 +1,5 @@
 -- The lines of an audit, except its last ones.
-use Rattle.std.specs.Prelude.{ℕ, ◌*◌, ◌==◌, ◌&&◌, nat_le, Bool, true, false, not, List, [], ◌∷◌, ◌++◌, codes, decimal, map, flat_map, if◌then◌else◌, is_none, Option, Some, None}
+use Rattle.std.specs.Prelude.{ℕ, ◌*◌, ◌==◌, ◌&&◌, nat_le, Bool, true, false, not, List, [], ◌∷◌, ◌++◌, codes, decimal, length, map, flat_map, if◌then◌else◌, is_none, Option, Some, None}
 use Rattle.std.specs.List.{list_all, list_any, range_with_len}
 use Rattle.std.specs.Option.{option_map_or}
 use Rattle.dump_file.specs.declared.destination.Destination.{Destination}
@@ -41,6 +41,10 @@ passed_words = codes "# passed over: "
 
 unfoldable pub apart_line : NetState → Cable → List ℕ
 apart_line net cable = passed_words ++ port_text net cable.first ++ codes " " ++ port_text net cable.second ++ 10 ∷ []
+
+-- `# no switches`: the fabric has none, of which the dump could have a table
+unfoldable pub no_switches_line : NetState → List ℕ
+no_switches_line net = if length (switches net.plan.nodes) == 0 then codes "# no switches\n" else []
 
 -- `no-table A`: a switch of which the dump has no table
 abbrev pub no_table_line : NetState → ℕ → List ℕ
@@ -89,8 +93,8 @@ unreported_lines net all = flat_map (unreported_line net all) multiples
 
 unfoldable pub files_by : NetState → List Aim → List ℕ
 files_by net all =
-    flat_map (apart_line net) net.plan.apart ++ flat_map (no_table_line net) (switches net.plan.nodes) ++ flat_map (no_switch_line net) net.dump.tables
-    ++ flat_map no_port_line all ++ flat_map (no_lid_lines net all) net.plan.cables ++ unreported_lines net all
+    flat_map (apart_line net) net.plan.apart ++ no_switches_line net ++ flat_map (no_table_line net) (switches net.plan.nodes)
+    ++ flat_map (no_switch_line net) net.dump.tables ++ flat_map no_port_line all ++ flat_map (no_lid_lines net all) net.plan.cables ++ unreported_lines net all
 
 -- ---- what a switch does with a LID
 -- what such a line begins with
@@ -157,13 +161,24 @@ unplaced_line net place lid turns.Hole = hole_line net place lid None
 unplaced_line net place lid (turns.Nowhere number) = []
 unplaced_line net place lid turns.Unknown = left_out_line net place lid None
 
--- to a LID of nobody nothing has to lead, but nothing may go round
+-- a switch sends the LID to the one there
+abbrev pub goes_to : ℕ → Turn → Bool
+goes_to there (turns.Goes next) = next == there
+goes_to there (turns.Arrives end) = false
+goes_to there turns.Hole = false
+goes_to there (turns.Nowhere number) = false
+goes_to there turns.Unknown = false
+
+abbrev pub is_fed : NetState → (there lid : ℕ) → Bool
+is_fed net there lid = list_any (λ place. goes_to there (turn net lid place)) (switches net.plan.nodes)
+
+-- to a LID of nobody nothing has to lead, but nothing may go round, or come to an entry that is unknown
 abbrev pub nobodys_line : NetState → ℕ → ℕ → Turn → List ℕ
 nobodys_line net place lid (turns.Goes next) = loop_line net place lid None (loop_from net lid place)
 nobodys_line net place lid (turns.Arrives there) = []
 nobodys_line net place lid turns.Hole = []
 nobodys_line net place lid (turns.Nowhere number) = []
-nobodys_line net place lid turns.Unknown = []
+nobodys_line net place lid turns.Unknown = if is_fed net place lid then left_out_line net place lid None else []
 
 abbrev pub trouble_to : NetState → ℕ → ℕ → Option ℕ → Option PortRef → List ℕ
 trouble_to net place lid guid (Some end) = line_by net place lid end (turn net lid place)

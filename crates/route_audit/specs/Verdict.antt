@@ -12,6 +12,8 @@ use Rattle.audit_net.specs.declared.following.Turn.TheVariants as turns
 use Rattle.audit_net.specs.Following.{turn}
 use Rattle.route_audit.specs.Lines.{has_switch}
 use Rattle.audit_net.specs.Net.{NetState, has_table}
+use Rattle.audit_plan.specs.Plan.{is_host}
+use Rattle.audit_net.specs.declared.following.Fate.{Fate}
 use Rattle.audit_net.specs.declared.following.Fate.TheVariants as fates
 use Rattle.route_audit.specs.declared.pairs.Pair.{Pair}
 use Rattle.route_audit.specs.Pairs.{all_reached, between_hosts, is_fate, pairs_by}
@@ -50,8 +52,11 @@ abbrev pub knows_entries : NetState → List ℕ → Bool
 knows_entries net lids = list_all (knows_all net lids) (switches net.plan.nodes)
 
 -- ---- a pair that is not reached is lost, unless an entry is unknown
+abbrev pub is_lost_by : Fate → Bool
+is_lost_by fate = not (is_fate fates.Reached fate || is_fate fates.Unknown fate)
+
 abbrev pub is_lost : Pair → Bool
-is_lost pair = not (is_fate fates.Reached pair.fate || is_fate fates.Unknown pair.fate)
+is_lost pair = is_lost_by pair.fate
 
 abbrev pub some_lost : List Pair → Bool
 some_lost pairs = list_any is_lost pairs
@@ -66,6 +71,13 @@ is_switchs net aim = option_map_or (λ end. is_switch_at net.plan.nodes end.node
 -- it is another LID: of an adapter's port, of a port that the fabric lacks, or of nobody
 abbrev pub is_others : NetState → Aim → Bool
 is_others net aim = not (is_switchs net aim)
+
+-- its end port is an aggregation node's: neither a switch's nor a host's
+abbrev pub is_reducing : NetState → PortRef → Bool
+is_reducing net end = not (is_switch_at net.plan.nodes end.node) && not (is_host net.plan end.node)
+
+abbrev pub is_aggregations : NetState → Aim → Bool
+is_aggregations net aim = option_map_or (is_reducing net) aim.end false
 
 -- ---- the verdict, by the credit loop that was found
 abbrev pub verdict_by : NetState → List Aim → Option (List PortRef) → Verdict

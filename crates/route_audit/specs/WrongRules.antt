@@ -1,5 +1,5 @@
 -- Wrong rules for what is reported, and the law that each breaks.
-use Rattle.std.specs.Prelude.{ℕ, ◌&&◌, Bool, true, false, not, List, [], ◌∷◌, ◌++◌, codes, count_by, filter, flat_map, is_some, find, get_or, take, if◌then◌else◌, Option, None}
+use Rattle.std.specs.Prelude.{ℕ, ◌&&◌, ◌||◌, Bool, true, false, not, List, [], ◌∷◌, ◌++◌, codes, count_by, filter, flat_map, is_some, find, get_or, take, if◌then◌else◌, Option, None, Some, ◌+◌, ◌*◌, length, map}
 use Rattle.std.specs.List.{list_all, list_any}
 use Rattle.std.specs.Option.{option_map_or}
 use Rattle.dump_file.specs.declared.destination.Destination.TheVariants as destinations
@@ -18,16 +18,19 @@ use Rattle.audit_net.specs.declared.following.Turn.TheVariants as turns
 use Rattle.lid_owners.specs.declared.lids.Aim.{Aim}
 use Rattle.route_audit.specs.declared.pairs.Pair.{Pair}
 use Rattle.route_audit.specs.declared.verdict.Verdict.{Verdict}
-use Rattle.route_audit.specs.Audit.{closing, credit_loop, lids_of}
+use Rattle.route_audit.specs.Loops.{closing, credit_loop, lids_of, loops_of}
+use Rattle.route_audit.specs.Audit.{counts_by, decides_nothing, lines_by}
+use Rattle.route_audit.specs.Deciding.{counted_line, host_switches, losers, places_line}
 use Rattle.credit_loops.specs.Channels.{deadlock, leaves_by}
-use Rattle.audit_net.specs.Following.{turn}
-use Rattle.route_audit.specs.Laws.{AddUp, NamesReasons, PrintsLines, ReportsClosing, ReportsLeading, ReportsSafe, ReportsTroubles, says_safe}
+use Rattle.topo_file.specs.Connectivity.{switches}
+use Rattle.audit_net.specs.Following.{fate, turn}
+use Rattle.route_audit.specs.Laws.{AddUp, CountsTheRest, EachReasonHasItsLine, NamesLost, NamesReasons, PrintsLines, PrintsLost, ReportsClosing, ReportsLeading, ReportsSafe, ReportsTroubles, says_safe, whole_text}
 use Rattle.lid_owners.specs.Lids.{aims, is_lacking}
 use Rattle.route_audit.specs.Lines.{apart_line, stray_line, trouble_line, troubles_by}
 use Rattle.audit_net.specs.Net.{NetState}
 use Rattle.route_audit.specs.Pairs.{all_reached, is_fate, pairs_by}
 use Rattle.audit_plan.specs.Plan.{plan_of}
-use Rattle.route_audit.specs.Verdict.{have_tables, is_known, is_unknown, verdict_by, verdict_is_safe, with_reason}
+use Rattle.route_audit.specs.Verdict.{have_tables, is_aggregations, is_known, is_others, is_unknown, verdict_by, verdict_is_safe, with_reason, is_lost_by}
 use Rattle.audit_plan.specs.Examples.{a_switch}
 use Rattle.audit_net.specs.SmallNets.{a_plan, a_row, adapters_row, a_routers_row, with_rows, two_with, a_hole}
 
@@ -39,8 +42,8 @@ abbrev pub HolesAreCounted : Type 0
 HolesAreCounted = AddUp count_but_holes → ⊥
 
 -- ---- a LID that leaves by a channel closes the loop, wherever it goes on from there
-abbrev pub leaving : NetState → List Aim → List PortRef → ℕ → Option Aim
-leaving net all ring index = find (λ aim. leaves_by net (get_or ring index (port 0 0)) aim.lid) all
+abbrev pub leaving : NetState → (decides : Bool) → List Aim → List PortRef → ℕ → Option Aim
+leaving net decides all ring index = find (λ aim. leaves_by net (get_or ring index (port 0 0)) aim.lid) all
 
 abbrev pub LidsGoOnRound : Type 0
 LidsGoOnRound = ReportsClosing leaving → ⊥
@@ -74,8 +77,8 @@ three_ways = record { plan = plan_of three_cabled; dump = record { tables = by_p
 abbrev pub all_three : List Aim
 all_three = record { lid = 1; guid = None; end = None } ∷ record { lid = 2; guid = None; end = None } ∷ record { lid = 3; guid = None; end = None } ∷ []
 
-abbrev pub of_the_first_step : NetState → List Aim → List PortRef → ℕ → Option Aim
-of_the_first_step net all ring index = closing net all ring 0
+abbrev pub of_the_first_step : NetState → (decides : Bool) → List Aim → List PortRef → ℕ → Option Aim
+of_the_first_step net decides all ring index = closing net decides all ring 0
 
 abbrev pub EachStepHasItsLid : Type 0
 EachStepHasItsLid = ReportsClosing of_the_first_step → ⊥
@@ -150,6 +153,67 @@ OtherLidsDecide = ReportsSafe by_adapters_lids → ⊥
 -- each switch sends the LID of a router to the other
 abbrev pub a_routers_loop : NetState
 a_routers_loop = two_with (adapters_row 1 ∷ a_routers_row 2 ∷ []) (adapters_row 1 ∷ a_routers_row 1 ∷ [])
+
+-- credit loops are looked for along LIDs of aggregation nodes at all switches
+abbrev pub by_all_entries : NetState → Bool
+by_all_entries net = verdict_is_safe (verdict_by net (aims net) (deadlock net (lids_of (filter (is_others net) (aims net)))))
+
+abbrev pub LoopsOfAggregationDecideNothing : Type 0
+LoopsOfAggregationDecideNothing = ReportsSafe by_all_entries → ⊥
+
+-- two switches B and C send LID 2 of an aggregation node to one another. A host is attached to A, to which B is, and packets of
+-- hosts leave A for B if this entry of A is 2
+abbrev pub with_third : TopologyState
+with_third = record {
+  nodes = a_switch (codes "A") 16 ∷ a_switch (codes "B") 32 ∷ record { name = codes "h"; node_type = ChannelAdapter; guid = 256; ports = 1 }
+      ∷ record { name = codes "Aggregation Node"; node_type = ChannelAdapter; guid = 512; ports = 1 } ∷ a_switch (codes "C") 48 ∷ [];
+  cables = record { first = port 0 1; second = port 2 1 } ∷ record { first = port 0 2; second = port 1 1 }
+      ∷ record { first = port 1 2; second = port 4 1 } ∷ record { first = port 4 2; second = port 3 1 } ∷ [];
+  roots = [];
+  sm = port 2 1;
+}
+
+abbrev pub an_aggregations_loop : (first : ℕ) → NetState
+an_aggregations_loop first = record {
+  plan = record (plan_of with_third) { aggregation = false ∷ false ∷ false ∷ true ∷ false ∷ [] };
+  dump = record {
+    tables = with_rows 16 (adapters_row 1 ∷ aggregations_row first ∷ []) ∷ with_rows 32 (adapters_row 1 ∷ aggregations_row 2 ∷ [])
+        ∷ with_rows 48 (adapters_row 1 ∷ aggregations_row 1 ∷ []) ∷ [];
+  };
+}
+
+-- ---- a LID of an aggregation node closes the loop that decides, though packets of hosts do not come there
+abbrev pub anywhere : NetState → (decides : Bool) → List Aim → List PortRef → ℕ → Option Aim
+anywhere net decides all ring index = closing net false all ring index
+
+abbrev pub ClosingLidsCountThere : Type 0
+ClosingLidsCountThere = ReportsClosing anywhere → ⊥
+
+-- B and C send LID 3 of nobody to one another too
+abbrev pub nobodys_row : ℕ → Row
+nobodys_row number = a_row 3 number destinations.Nobody
+
+abbrev pub two_loops : NetState
+two_loops = record {
+  plan = (an_aggregations_loop 255).plan;
+  dump = record { tables = with_rows 16 [] ∷ with_rows 32 (aggregations_row 2 ∷ nobodys_row 2 ∷ []) ∷ with_rows 48 (aggregations_row 1 ∷ nobodys_row 1 ∷ []) ∷ [] };
+}
+
+abbrev pub aggregations_aim : Aim
+aggregations_aim = record { lid = 2; guid = Some 513; end = Some (port 3 1) }
+
+abbrev pub two_aims : List Aim
+two_aims = aggregations_aim ∷ record { lid = 3; guid = None; end = None } ∷ []
+
+-- ---- credit loops are looked for along LIDs of aggregation nodes at no switch
+abbrev pub is_no_aggregations : NetState → Aim → Bool
+is_no_aggregations net aim = is_others net aim && not (is_aggregations net aim)
+
+abbrev pub without_aggregation : NetState → Bool
+without_aggregation net = verdict_is_safe (verdict_by net (aims net) (deadlock net (lids_of (filter (is_no_aggregations net) (aims net)))))
+
+abbrev pub LoopsOfHostsDecide : Type 0
+LoopsOfHostsDecide = ReportsSafe without_aggregation → ⊥
 
 -- the dump may have a table of a switch that the fabric lacks
 abbrev pub with_other_tables : NetState → Bool
@@ -259,6 +323,23 @@ a_nobodys_loop = two_with (a_row 2 2 destinations.NotReported ∷ []) (a_row 2 1
 abbrev pub NobodysLoopsHaveALine : Type 0
 NobodysLoopsHaveALine = ReportsTroubles silent_of_nobody → ⊥
 
+-- ---- nor an entry that is unknown
+abbrev pub silent_of_unknown : NetState → ℕ → Aim → List ℕ
+silent_of_unknown net place aim = if is_some aim.guid || not (is_unknown (turn net aim.lid place)) then trouble_line net place aim else []
+
+-- the first switch sends LID 64 to the second, whose table ends with that LID and lacks its row. No row says whose it is
+abbrev pub nobodys_row_left_out : NetState
+nobodys_row_left_out = record {
+  plan = a_hole.plan;
+  dump = record {
+    tables = record { line = 1; guid = 16; top = 64; rows = a_row 64 2 destinations.NotReported ∷ [] }
+        ∷ record { line = 2; guid = 32; top = 64; rows = [] } ∷ [];
+  };
+}
+
+abbrev pub NobodysRowsHaveALine : Type 0
+NobodysRowsHaveALine = ReportsTroubles silent_of_unknown → ⊥
+
 -- ---- pairs that are not reached are no reason
 abbrev pub reasons_without_pairs : Verdict → List ℕ
 reasons_without_pairs verdict =
@@ -290,3 +371,67 @@ troubles_alone net = troubles_by net (aims net)
 
 abbrev pub OtherTablesHaveALine : Type 0
 OtherTablesHaveALine = PrintsLines troubles_alone → ⊥
+
+-- ---- of the switches from which packets are lost eight count alone
+abbrev pub of_eight : NetState → Aim → List ℕ
+of_eight net aim = places_line (codes "unreached ") (codes " from ") net aim (take 8 (losers net aim))
+
+-- a host with a port at each of nine switches, none of which has an entry for the LID of its first
+abbrev pub at_nine : List ℕ
+at_nine = 0 ∷ 1 ∷ 2 ∷ 3 ∷ 4 ∷ 5 ∷ 6 ∷ 7 ∷ 8 ∷ []
+
+abbrev pub nine_cabled : TopologyState
+nine_cabled = record {
+  nodes = map (λ n. a_switch (codes "A") (16 * (n + 1))) at_nine ++ record { name = codes "h"; node_type = ChannelAdapter; guid = 256; ports = 9 } ∷ [];
+  cables = map (λ n. record { first = port n 1; second = port 9 (n + 1) }) at_nine;
+  roots = [];
+  sm = port 9 1;
+}
+
+abbrev pub nine_holes : NetState
+nine_holes = record { plan = plan_of nine_cabled; dump = record { tables = map (λ n. with_rows (16 * (n + 1)) (adapters_row 255 ∷ [])) at_nine } }
+
+abbrev pub AllSwitchesAreCounted : Type 0
+AllSwitchesAreCounted = NamesLost of_eight → ⊥
+
+-- ---- packets are lost from switches without a host too
+abbrev pub lost_anywhere : NetState → ℕ → Option PortRef → List ℕ
+lost_anywhere net lid (Some end) = filter (λ place. is_lost_by (fate net lid end place)) (switches net.plan.nodes)
+lost_anywhere net lid None = []
+
+abbrev pub from_anywhere : NetState → Aim → List ℕ
+from_anywhere net aim = places_line (codes "unreached ") (codes " from ") net aim (lost_anywhere net aim.lid aim.end)
+
+abbrev pub HostsSwitchesCount : Type 0
+HostsSwitchesCount = NamesLost from_anywhere → ⊥
+
+-- ---- what comes to an unknown entry is lost
+abbrev pub not_reached : NetState → ℕ → Option PortRef → List ℕ
+not_reached net lid (Some end) = filter (λ place. not (is_fate fates.Reached (fate net lid end place))) (host_switches net)
+not_reached net lid None = []
+
+abbrev pub unknown_is_lost : NetState → Aim → List ℕ
+unknown_is_lost net aim = places_line (codes "unreached ") (codes " from ") net aim (not_reached net aim.lid aim.end)
+
+-- the dump lacks the table of the switch to which the host is attached
+abbrev pub a_table_missing : NetState
+a_table_missing = record { plan = a_hole.plan; dump = record { tables = with_rows 32 (adapters_row 1 ∷ []) ∷ [] } }
+
+abbrev pub UnknownIsNotLost : Type 0
+UnknownIsNotLost = NamesLost unknown_is_lost → ⊥
+
+-- ---- a text that has what switches do alone ends before the LID that is not reached
+abbrev pub LostPairsHaveALine : Type 0
+LostPairsHaveALine = PrintsLost troubles_alone → ⊥
+
+abbrev pub ReasonsHaveALine : Type 0
+ReasonsHaveALine = EachReasonHasItsLine troubles_alone → ⊥
+
+-- ---- bytes are counted as lines
+abbrev pub with_bytes : NetState → List ℕ
+with_bytes net =
+    lines_by net (aims net) (loops_of net (aims net)) ++ counted_line (length (troubles_by net (aims net)))
+    ++ counts_by (pairs_by net (aims net)) (is_some (credit_loop net (aims net))) (decides_nothing (loops_of net (aims net)))
+
+abbrev pub LinesAreCounted : Type 0
+LinesAreCounted = CountsTheRest with_bytes whole_text → ⊥

@@ -5,6 +5,7 @@ ghost use Rattle.std.specs.List.{list_any};
 ghost use Rattle.audit_net.specs.Net.{has_table};
 ghost use Rattle.route_audit.specs.Asks.{ask_line, ask_text, asks_by, is_own, is_to_ask, lacks_row, may_lack_rows, own_lid};
 
+use crate::lines::is_fed;
 use crate::verdict::is_unknown;
 use audit_net::{Net, is_wide};
 use audit_plan::ports_at;
@@ -40,7 +41,8 @@ fn own_lid(aims: &[Aim], place: usize) -> Option<u16>
 fn lacks_row(net: &Net<'_>, place: usize, aim: &Aim) -> bool
     ensures { result ≡ lacks_row net.now place aim.now }
 {
-    aim.end.is_some() && is_unknown(net.turn(aim.lid, place))
+    let aim = *aim;
+    is_unknown(net.turn(aim.lid, place)) && (aim.end.is_some() || is_fed(net, place, aim.lid))
 }
 
 /// Whether `dump_fts` may have left out rows of the switch there.

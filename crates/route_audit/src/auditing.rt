@@ -1,19 +1,19 @@
 //! The audit of a dump over a topology or a discovery.
 
-ghost use Rattle.std.specs.Prelude.{◌≡◌, ◌<◌, ◌++◌, length, filter, flat_map, is_some, IfOk, OnOk, option_map};
-ghost use Rattle.route_audit.specs.Audit.{aggregation_line, audit, audit_discovery, audit_of, behind, closing, closing_word, closing_words, count_line, counts_by, credit_loop, deadlock_words};
-ghost use Rattle.route_audit.specs.Audit.{findings_by, findings_of, leaves_by_both, lids_of, lines_by, lost_part, other_part};
-ghost use Rattle.route_audit.specs.Audit.{port_word, reached_part, ring_line, switches_credit_loop};
-ghost use Rattle.route_audit.specs.Verdict.{is_others};
+ghost use Rattle.std.specs.Prelude.{◌≡◌, ◌<◌, ◌++◌, length, flat_map, IfOk, OnOk, option_map};
+ghost use Rattle.route_audit.specs.Audit.{aggregation_line, audit, audit_discovery, audit_of, closing_word, closing_words, count_line, counts_by, deadlock_words, decides_nothing};
+ghost use Rattle.route_audit.specs.Audit.{findings_by, findings_of, lines_by, lost_part, other_part};
+ghost use Rattle.route_audit.specs.Audit.{port_word, reached_part, ring_line, ring_lines};
 
 use crate::asks::push_asks;
-use crate::lines::{push_files, push_lid, push_port, push_troubles};
+use crate::deciding::{push_by_switch, push_unknown, push_unreached};
+use crate::lines::{push_files, push_lid, push_port};
+use crate::loops::{Loops, aims_of_others, closing, loops_of};
 use crate::outcome::{Audit, Findings};
 use crate::pairs::{Pair, between_hosts, count_of, in_transit, pairs, to_aggregation, to_switches};
 use crate::verdict::{push_verdict, verdict_by};
 use audit_net::{Fate, Net};
 use audit_plan::Plan;
-use credit_loops::{channel_at, deadlock, leaves_by};
 use dump_file::Dump;
 use fabric_parts::PortRef;
 use lid_owners::{Aim, aims};
@@ -21,13 +21,6 @@ use netdiscover_file::Discovery;
 use std::alloc::{AllocError, Global};
 use text_parts::push_decimal;
 use topo_file::LargeTopology;
-
-/// The LIDs of these.
-pub fn lids_of(alloc: Global, aims: &[Aim]) -> Result<Vec<u16>, AllocError>
-    ensures { IfOk result (λ lids. lids.items ≡ lids_of aims.now) }
-{
-    aims.iter().map(|aim| aim.lid).collect(alloc)
-}
 
 fn deadlock_words(locks: bool) -> &'static [u8]
     ensures { result.now ≡ deadlock_words locks }
@@ -104,93 +97,27 @@ fn push_counts(
     alloc: Global,
     text: &mut Vec<u8>,
     pairs: &[Pair],
-    others: bool,
-    switches: bool,
+    deciding: bool,
+    further: bool,
 ) -> Result<(), AllocError>
-    ensures { OnOk result (text.new.items ≡ text.old.items ++ counts_by pairs.now others switches) }
+    ensures { OnOk result (text.new.items ≡ text.old.items ++ counts_by pairs.now deciding further) }
 {
-    let deciding = between_hosts(alloc, pairs)?;
-    push_count_line(text, b"adapters: ", &deciding, deadlock_words(others))?;
+    let between = between_hosts(alloc, pairs)?;
+    push_count_line(text, b"adapters: ", &between, deadlock_words(deciding))?;
     let transit = in_transit(alloc, pairs)?;
     push_count_line(text, b"transit: ", &transit, b"")?;
     let reducing = to_aggregation(alloc, pairs)?;
     push_aggregation(text, &reducing)?;
     let own = to_switches(alloc, pairs)?;
     push_count_line(text, b"switches: ", &own, b"")?;
-    push_count_line(text, b"audit: ", pairs, deadlock_words(others || switches))
+    push_count_line(text, b"audit: ", pairs, deadlock_words(deciding || further))
 }
 
-/// The channel behind this one in a cycle; behind the last one is the first.
-fn behind(ring: &[PortRef], index: usize) -> PortRef
-    requires { index < length ring.now }
-    ensures { result ≡ behind ring.now index }
-{
-    if index + 1 < ring.len() {
-        channel_at(ring, index + 1)
-    } else {
-        channel_at(ring, 0)
-    }
-}
-
-fn audited(alloc: Global, plan: &Plan, dump: &Dump) -> Result<Audit, AllocError>
-    ensures { IfOk result (λ found. found ≡ audit_of (record { plan = plan.now; dump = dump.now })) }
+fn audited(alloc: Global, plan: &Plan, dump: &Dump, all: bool) -> Result<Audit, AllocError>
+    ensures { IfOk result (λ found. found ≡ audit_of all (record { plan = plan.now; dump = dump.now })) }
 {
     let net = Net::new(alloc, plan, dump)?;
-    audited_net(&net, alloc)
-}
-
-/// Whether it is no LID of a switch.
-pub fn is_others(net: &Net<'_>, aim: &Aim) -> bool
-    ensures { result ≡ is_others net.now aim.now }
-{
-    match aim.end {
-        Some(end) => !net.is_switch_at(end.node),
-        None => true,
-    }
-}
-
-fn aims_of_others(net: &Net<'_>, alloc: Global, aims: &[Aim]) -> Result<Vec<Aim>, AllocError>
-    ensures { IfOk result (λ some. some.items ≡ filter (is_others net.now) aims.now) }
-{
-    aims.iter()
-        .copied()
-        .filter(|aim| is_others(net, aim))
-        .collect(alloc)
-}
-
-/// All LIDs but the switches' own.
-pub(crate) fn other_lids(net: &Net<'_>, alloc: Global, aims: &[Aim]) -> Result<Vec<u16>, AllocError>
-    ensures { IfOk result (λ lids. lids.items ≡ lids_of (filter (is_others net.now) aims.now)) }
-{
-    let some = aims_of_others(net, alloc, aims)?;
-    lids_of(alloc, &some)
-}
-
-fn credit_loop(
-    net: &Net<'_>,
-    alloc: Global,
-    aims: &[Aim],
-) -> Result<Option<Vec<PortRef>>, AllocError>
-    ensures { IfOk result (λ found. option_map (λ ring. ring.items) found ≡ credit_loop net.now aims.now) }
-{
-    let lids = other_lids(net, alloc, aims)?;
-    deadlock(net, alloc, &lids)
-}
-
-fn switches_credit_loop(
-    net: &Net<'_>,
-    alloc: Global,
-    aims: &[Aim],
-    of_others: bool,
-) -> Result<Option<Vec<PortRef>>, AllocError>
-    requires { of_others ≡ is_some (credit_loop net.now aims.now) }
-    ensures { IfOk result (λ found. option_map (λ ring. ring.items) found ≡ switches_credit_loop net.now aims.now) }
-{
-    if of_others {
-        return Ok(None);
-    }
-    let lids = lids_of(alloc, aims)?;
-    deadlock(net, alloc, &lids)
+    audited_net(&net, alloc, all)
 }
 
 fn push_port_word(net: &Net<'_>, text: &mut Vec<u8>, port: PortRef) -> Result<(), AllocError>
@@ -214,36 +141,18 @@ pub fn push_port_words(
     Ok(())
 }
 
-fn leaves_by_both(net: &Net<'_>, a: PortRef, b: PortRef, aim: &Aim) -> bool
-    ensures { result ≡ leaves_by_both net.now a b aim.now }
-{
-    let aim = *aim;
-    leaves_by(net, a, aim.lid) && leaves_by(net, b, aim.lid)
-}
-
-/// The LID by which a channel of a cycle waits for the one behind it.
-fn closing(net: &Net<'_>, aims: &[Aim], ring: &[PortRef], index: usize) -> Option<Aim>
-    requires { index < length ring.now }
-    ensures { result ≡ closing net.now aims.now ring.now index }
-{
-    let here = channel_at(ring, index);
-    let next = behind(ring, index);
-    aims.iter()
-        .copied()
-        .find(|aim| leaves_by_both(net, here, next, aim))
-}
-
 fn push_closing_word(
     net: &Net<'_>,
     text: &mut Vec<u8>,
+    decides: bool,
     aims: &[Aim],
     ring: &[PortRef],
     index: usize,
 ) -> Result<(), AllocError>
     requires { index < length ring.now }
-    ensures { OnOk result (text.new.items ≡ text.old.items ++ closing_word net.now aims.now ring.now index) }
+    ensures { OnOk result (text.new.items ≡ text.old.items ++ closing_word net.now decides aims.now ring.now index) }
 {
-    if let Some(aim) = closing(net, aims, ring, index) {
+    if let Some(aim) = closing(net, decides, aims, ring, index) {
         text.extend_from_slice(b" ")?;
         push_lid(net, text, aim.lid, aim.end)?;
     }
@@ -253,13 +162,14 @@ fn push_closing_word(
 fn push_closing_words(
     net: &Net<'_>,
     text: &mut Vec<u8>,
+    decides: bool,
     aims: &[Aim],
     ring: &[PortRef],
 ) -> Result<(), AllocError>
-    ensures { OnOk result (text.new.items ≡ text.old.items ++ closing_words net.now aims.now ring.now) }
+    ensures { OnOk result (text.new.items ≡ text.old.items ++ closing_words net.now decides aims.now ring.now) }
 {
     for index in 0..ring.len() {
-        push_closing_word(net, text, aims, ring, index)?;
+        push_closing_word(net, text, decides, aims, ring, index)?;
     }
     Ok(())
 }
@@ -268,19 +178,44 @@ fn push_ring_line(
     net: &Net<'_>,
     text: &mut Vec<u8>,
     words: &[u8],
+    decides: bool,
     aims: &[Aim],
     ring: &Option<Vec<PortRef>>,
 ) -> Result<(), AllocError>
-    ensures { OnOk result (text.new.items ≡ text.old.items ++ ring_line net.now words.now aims.now (option_map (λ ports. ports.items) ring.now)) }
+    ensures { OnOk result (text.new.items ≡ text.old.items ++ ring_line net.now words.now decides aims.now (option_map (λ ports. ports.items) ring.now)) }
 {
     if let Some(ports) = ring {
         text.extend_from_slice(words)?;
         push_port_words(net, text, ports.as_slice())?;
         text.extend_from_slice(b" by LIDs")?;
-        push_closing_words(net, text, aims, ports.as_slice())?;
+        push_closing_words(net, text, decides, aims, ports.as_slice())?;
         text.push(b'\n')?;
     }
     Ok(())
+}
+
+#[tactic(auto, unfolding(crate::specs::Audit::ring_lines))]
+fn push_ring_lines(
+    net: &Net<'_>,
+    alloc: Global,
+    text: &mut Vec<u8>,
+    aims: &[Aim],
+    loops: &Loops,
+) -> Result<(), AllocError>
+    ensures { OnOk result (text.new.items ≡ text.old.items ++ ring_lines net.now aims.now loops.now) }
+{
+    let some = aims_of_others(net, alloc, aims)?;
+    push_ring_line(net, text, b"deadlock", true, &some, loops.deciding())?;
+    let words = b"deadlock aggregation-lids";
+    push_ring_line(net, text, words, false, &some, loops.aggregation())?;
+    push_ring_line(
+        net,
+        text,
+        b"deadlock switch-lids",
+        false,
+        aims,
+        loops.switches(),
+    )
 }
 
 #[tactic(auto, unfolding(crate::specs::Audit::lines_by))]
@@ -289,18 +224,22 @@ fn push_lines(
     alloc: Global,
     text: &mut Vec<u8>,
     aims: &[Aim],
-    others: &Option<Vec<PortRef>>,
-    switches: &Option<Vec<PortRef>>,
+    loops: &Loops,
 ) -> Result<(), AllocError>
-    ensures { OnOk result (text.new.items
-        ≡ text.old.items ++ lines_by net.now aims.now (option_map (λ ports. ports.items) others.now) (option_map (λ ports. ports.items) switches.now)) }
+    ensures { OnOk result (text.new.items ≡ text.old.items ++ lines_by net.now aims.now loops.now) }
 {
     push_files(net, text, aims)?;
-    push_troubles(net, alloc, text, aims)?;
+    push_unreached(net, alloc, text, aims)?;
+    push_unknown(net, alloc, text, aims)?;
     push_asks(net, text, aims)?;
-    let some = aims_of_others(net, alloc, aims)?;
-    push_ring_line(net, text, b"deadlock", &some, others)?;
-    push_ring_line(net, text, b"deadlock switch-lids", aims, switches)
+    push_ring_lines(net, alloc, text, aims, loops)
+}
+
+/// Whether a cycle was found that decides nothing.
+fn decides_nothing(loops: &Loops) -> bool
+    ensures { result ≡ decides_nothing loops.now }
+{
+    loops.aggregation().is_some() || loops.switches().is_some()
 }
 
 /// What is printed before the verdict, and what that rests on, by the cycles that were found.
@@ -309,64 +248,70 @@ fn findings_by(
     net: &Net<'_>,
     alloc: Global,
     aims: &[Aim],
-    others: &Option<Vec<PortRef>>,
-    switches: &Option<Vec<PortRef>>,
+    loops: &Loops,
+    all: bool,
 ) -> Result<Findings, AllocError>
-    ensures { IfOk result (λ found. found
-        ≡ findings_by net.now aims.now (option_map (λ ports. ports.items) others.now) (option_map (λ ports. ports.items) switches.now)) }
+    ensures { IfOk result (λ found. found ≡ findings_by all net.now aims.now loops.now) }
 {
     let mut text = Vec::new(alloc);
-    push_lines(net, alloc, &mut text, aims, others, switches)?;
+    push_lines(net, alloc, &mut text, aims, loops)?;
+    push_by_switch(net, alloc, &mut text, aims, all)?;
     let pairs = pairs(net, alloc, aims)?;
-    push_counts(
-        alloc,
-        &mut text,
-        &pairs,
-        others.is_some(),
-        switches.is_some(),
-    )?;
-    let verdict = verdict_by(net, alloc, aims, &pairs, others)?;
+    let deciding = loops.deciding().is_some();
+    push_counts(alloc, &mut text, &pairs, deciding, decides_nothing(loops))?;
+    let verdict = verdict_by(net, alloc, aims, &pairs, loops.deciding())?;
     Ok(Findings { text, verdict })
 }
 
-/// What is printed before the verdict, and what that rests on. It can only run out of memory.
+/// What is printed before the verdict, with all lines by switch and LID or with their number, and what the verdict rests on. It can
+/// only run out of memory.
 #[tactic(auto, unfolding(crate::specs::Audit::findings_of))]
-pub fn findings(net: &Net<'_>, alloc: Global) -> Result<Findings, AllocError>
-    ensures { IfOk result (λ found. found ≡ findings_of net.now) }
+pub fn findings(net: &Net<'_>, alloc: Global, all: bool) -> Result<Findings, AllocError>
+    ensures { IfOk result (λ found. found ≡ findings_of all net.now) }
 {
     let aims = aims(net, alloc)?;
-    let others = credit_loop(net, alloc, &aims)?;
-    let switches = switches_credit_loop(net, alloc, &aims, others.is_some())?;
-    let found = findings_by(net, alloc, &aims, &others, &switches)?;
+    let loops = loops_of(net, alloc, &aims)?;
+    let found = findings_by(net, alloc, &aims, &loops, all)?;
     Ok(found)
 }
 
 #[tactic(auto, unfolding(crate::specs::Audit::audit_of, crate::specs::Audit::findings_of, crate::specs::Audit::text_by))]
-fn audited_net(net: &Net<'_>, alloc: Global) -> Result<Audit, AllocError>
-    ensures { IfOk result (λ found. found ≡ audit_of net.now) }
+fn audited_net(net: &Net<'_>, alloc: Global, all: bool) -> Result<Audit, AllocError>
+    ensures { IfOk result (λ found. found ≡ audit_of all net.now) }
 {
-    let Findings { mut text, verdict } = findings(net, alloc)?;
+    let Findings { mut text, verdict } = findings(net, alloc, all)?;
     push_verdict(alloc, &mut text, verdict)?;
     Ok(Audit::of(text, verdict.is_safe()))
 }
 
 /// Judges the routes that a dump shows over a topology. It can only run out of memory.
 ///
-/// What is reported is stated in `specs/Audit.antt`: first what the two lack of one another, then what is wrong at each
-/// switch with each LID, then a cycle of channels that wait for one another, counts, and the verdict. Time is that of
-/// following each LID from each switch, and of looking for cycles among the channels that are on one or lead to one.
-pub fn audit(alloc: Global, topology: &LargeTopology, dump: &Dump) -> Result<Audit, AllocError>
-    ensures { IfOk result (λ found. found ≡ audit topology.now dump.now) }
+/// What is reported is stated in `specs/Audit.antt`: first what the two lack of one another, then the LIDs that hosts' packets
+/// do not come to and those with unknown entries, and a cycle of channels that wait for one another. With `all`, what is wrong at
+/// each switch with each LID comes next, else how many lines that is; then counts, and the verdict. Time is that of following
+/// each LID from each switch, and of looking for cycles among the channels that are on one or lead to one.
+pub fn audit(
+    alloc: Global,
+    topology: &LargeTopology,
+    dump: &Dump,
+    all: bool,
+) -> Result<Audit, AllocError>
+    ensures { IfOk result (λ found. found ≡ audit all topology.now dump.now) }
 {
     let plan = Plan::of(alloc, topology)?;
-    audited(alloc, &plan, dump)
+    audited(alloc, &plan, dump, all)
 }
 
 /// The same over a discovery, which is no fabric to be simulated: no limit applies but those of its text. Routers are end ports
 /// there, as channel adapters are, and a name is the description of a node. It can only run out of memory.
-pub fn audit_discovery(alloc: Global, found: &Discovery, dump: &Dump) -> Result<Audit, AllocError>
-    ensures { IfOk result (λ audit. audit ≡ audit_discovery found.now dump.now) }
+pub fn audit_discovery(
+    alloc: Global,
+    found: &Discovery,
+    dump: &Dump,
+    all: bool,
+) -> Result<Audit, AllocError>
+    ensures { IfOk result (λ audit. audit ≡ audit_discovery all found.now dump.now) }
 {
     let plan = Plan::found(alloc, found)?;
-    audited(alloc, &plan, dump)
+    audited(alloc, &plan, dump, all)
 }

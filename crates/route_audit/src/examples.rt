@@ -1,6 +1,6 @@
 //! What entries, ports and lines are, computed. Each function does nothing: its contract is the example.
 
-ghost use Rattle.route_audit.specs.Examples.{AsksAreReported, CountsAreReported, DeadlocksAreReported, LacksAreReported, TextsAreReported, TroublesAreReported, VerdictsAreReported};
+ghost use Rattle.route_audit.specs.Examples.{AsksAreReported, CountsAreReported, DeadlocksAreReported, DecidingIsReported, LacksAreReported, TextsAreReported, TroublesAreReported, VerdictsAreReported};
 
 /// What two switches do wrong.
 pub fn troubles_are_reported()
@@ -20,6 +20,11 @@ pub fn lacks_are_reported()
 /// The verdict.
 pub fn verdicts_are_reported()
     ensures { VerdictsAreReported }
+{}
+
+/// What decides.
+pub fn deciding_is_reported()
+    ensures { DecidingIsReported }
 {}
 
 /// What to ask.

@@ -1,7 +1,7 @@
 //! Laws of all audits. The functions do nothing; their clauses are the theorems.
 
 ghost use Rattle.route_audit.specs.Laws.{AllLinesArePrinted, CountsAddUp, EachTroubleHasALine, LoopsAreClosedByTheirLids};
-ghost use Rattle.route_audit.specs.Laws.{LeadingRoutesAreReported, SafeRoutesAreReported, UnsafeRoutesHaveAReason};
+ghost use Rattle.route_audit.specs.Laws.{LeadingRoutesAreReported, LostPairsAreNamed, ReasonsHaveLines, SafeRoutesAreReported, UnsafeRoutesHaveAReason};
 
 /// Each pair of a switch and a LID is counted in one part of a line.
 pub fn counts_add_up()
@@ -23,7 +23,7 @@ pub fn loops_are_closed_by_their_lids()
 
 /// The verdict is safe if and only if each cabled port of an adapter has a LID; from each switch to which an adapter is attached
 /// a path along the entries leads to the adapter port of each LID; there is no credit loop along all LIDs except the switches'
-/// own; the dump has a table, and it and the fabric name the same switches and adapter ports; and if a switch sends such a LID
+/// own, of which that of an aggregation node counts at switches that packets of hosts come to; the dump has a table, and it and the fabric name the same switches and adapter ports; and if a switch sends such a LID
 /// to another switch, the entry there is known.
 pub fn safe_routes_are_reported()
     ensures { SafeRoutesAreReported }
@@ -39,8 +39,20 @@ pub fn unsafe_routes_have_a_reason()
     ensures { UnsafeRoutesHaveAReason }
 {}
 
-/// The text has each of its lines: what the files lack, and what each switch does with each LID of which something is known. The
-/// verdict ends it.
+/// If packets from a switch with a host do not come to a host's LID, that LID has its line in the text, unless they come to an unknown
+/// entry. The line says from how many switches, and names the first eight. A LID that all reach has no line.
+pub fn lost_pairs_are_named()
+    ensures { LostPairsAreNamed }
+{}
+
+/// Each reason of a verdict that is not safe has a line that says where: a port without a LID, a LID that is not reached, a credit
+/// loop, what one file lacks of the other, or a LID whose entry is unknown.
+pub fn each_reason_has_its_line()
+    ensures { ReasonsHaveLines }
+{}
+
+/// With all lines, the text has each of them: what the files lack, and what each switch does with each LID of which something is
+/// known. Without those by switch and LID, it says how many they are. The verdict ends it, and is the same.
 pub fn all_lines_are_printed()
     ensures { AllLinesArePrinted }
 {}

@@ -8,19 +8,23 @@
 
 mod asks;
 mod auditing;
+mod deciding;
 mod examples;
 mod laws;
 mod lines;
+mod loops;
 mod outcome;
 mod pairs;
 mod verdict;
 mod wrong_rules;
 
-pub use crate::auditing::{audit, audit_discovery, findings, is_others, lids_of, push_port_words};
+pub use crate::auditing::{audit, audit_discovery, findings, push_port_words};
 pub use crate::laws::{
-    all_lines_are_printed, counts_add_up, each_trouble_has_a_line, leading_routes_are_reported,
-    loops_are_closed_by_their_lids, safe_routes_are_reported, unsafe_routes_have_a_reason,
+    all_lines_are_printed, counts_add_up, each_reason_has_its_line, each_trouble_has_a_line,
+    leading_routes_are_reported, loops_are_closed_by_their_lids, lost_pairs_are_named,
+    safe_routes_are_reported, unsafe_routes_have_a_reason,
 };
 pub use crate::lines::{has_switch, push_lid, push_name, push_port};
+pub use crate::loops::{is_others, lids_of};
 pub use crate::outcome::{Audit, Findings};
 pub use crate::verdict::{Verdict, add_reason, reasons};

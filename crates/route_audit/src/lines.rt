@@ -7,8 +7,8 @@ ghost use Rattle.audit_net.specs.Following.{loop_from, turn};
 ghost use Rattle.lid_owners.specs.Lids.{is_named};
 ghost use Rattle.audit_net.specs.Net.{table_at};
 ghost use Rattle.dump_file.specs.Sound.{is_rising};
-ghost use Rattle.route_audit.specs.Lines.{apart_line, passed_words, files_by, has_switch, lid_text, owner_text, hole_line, is_least, is_nobodys, is_stray, lacking_line, leaves_out};
-ghost use Rattle.route_audit.specs.Lines.{is_among, is_untold, left_out_line, line_by, loop_line, name_text, name_word, nobodys_line, unplaced_line, no_lid_line, no_lid_lines, no_port_line, no_switch_line, no_table_line};
+ghost use Rattle.route_audit.specs.Lines.{apart_line, passed_words, files_by, goes_to, has_switch, is_fed, lid_text, owner_text, hole_line, is_least, is_nobodys, is_stray, lacking_line, leaves_out};
+ghost use Rattle.route_audit.specs.Lines.{is_among, is_untold, left_out_line, line_by, loop_line, name_text, name_word, nobodys_line, unplaced_line, no_lid_line, no_lid_lines, no_port_line, no_switch_line, no_switches_line, no_table_line};
 ghost use Rattle.route_audit.specs.Lines.{nowhere_line, port_text, stray_line, trouble_line, troubles_at, troubles_by, unreported_line, unreported_lines, words_at, wrong_line};
 ghost use Rattle.topo_file.specs.Connectivity.{switches};
 
@@ -177,6 +177,16 @@ fn push_all_apart(net: &Net<'_>, text: &mut Vec<u8>) -> Result<(), AllocError>
     Ok(())
 }
 
+#[tactic(auto, unfolding(crate::specs::Lines::no_switches_line))]
+fn push_no_switches_line(net: &Net<'_>, text: &mut Vec<u8>) -> Result<(), AllocError>
+    ensures { OnOk result (text.new.items ≡ text.old.items ++ no_switches_line net.now) }
+{
+    if net.switches().is_empty() {
+        text.extend_from_slice(b"# no switches\n")?;
+    }
+    Ok(())
+}
+
 fn push_no_table(net: &Net<'_>, text: &mut Vec<u8>, place: usize) -> Result<(), AllocError>
     ensures { OnOk result (text.new.items ≡ text.old.items ++ no_table_line net.now place) }
 {
@@ -305,6 +315,7 @@ pub(crate) fn push_files(net: &Net<'_>, text: &mut Vec<u8>, aims: &[Aim]) -> Res
     ensures { OnOk result (text.new.items ≡ text.old.items ++ files_by net.now aims.now) }
 {
     push_all_apart(net, text)?;
+    push_no_switches_line(net, text)?;
     push_no_tables(net, text)?;
     push_no_switches(net, text)?;
     push_no_ports(text, aims)?;
@@ -401,7 +412,12 @@ fn push_name_word(net: &Net<'_>, text: &mut Vec<u8>, place: usize) -> Result<(),
     push_name(net, text, place)
 }
 
-fn push_name_words(net: &Net<'_>, text: &mut Vec<u8>, ring: &[usize]) -> Result<(), AllocError>
+/// Adds the names of these switches, each behind a blank.
+pub(crate) fn push_name_words(
+    net: &Net<'_>,
+    text: &mut Vec<u8>,
+    ring: &[usize],
+) -> Result<(), AllocError>
     ensures { OnOk result (text.new.items ≡ text.old.items ++ flat_map (name_word net.now) ring.now) }
 {
     for place in ring {
@@ -482,6 +498,24 @@ fn push_unplaced(
     }
 }
 
+fn goes_to(there: usize, turn: Turn) -> bool
+    ensures { result ≡ goes_to there turn }
+{
+    match turn {
+        Turn::Goes(next) => next == there,
+        Turn::Arrives(_) | Turn::Hole | Turn::Nowhere(_) | Turn::Unknown => false,
+    }
+}
+
+/// Whether some switch sends the LID to the one there.
+pub(crate) fn is_fed(net: &Net<'_>, there: usize, lid: u16) -> bool
+    ensures { result ≡ is_fed net.now there lid }
+{
+    net.switches()
+        .iter()
+        .any(|place| goes_to(there, net.turn(lid, *place)))
+}
+
 fn push_nobodys(
     net: &Net<'_>,
     alloc: Global,
@@ -493,6 +527,7 @@ fn push_nobodys(
 {
     match net.turn(lid, place) {
         Turn::Goes(_) => push_loop(net, alloc, text, place, lid, None),
+        Turn::Unknown if is_fed(net, place, lid) => push_left_out(net, text, place, lid, None),
         _ => Ok(()),
     }
 }

@@ -3,7 +3,7 @@
 ghost use Rattle.std.specs.Prelude.{◌≡◌, ◌++◌, true, filter, IfOk, OnOk};
 ghost use Rattle.route_audit.specs.Pairs.{all_reached, between_hosts, count_of, in_transit, is_fate, pair_at, pairs_at, pairs_by, to_aggregation, to_switches};
 ghost use Rattle.audit_net.specs.Attached.{carries_host};
-ghost use Rattle.route_audit.specs.Verdict.{is_lost, some_lost, some_unknown};
+ghost use Rattle.route_audit.specs.Verdict.{is_lost, is_lost_by, some_lost, some_unknown};
 
 use audit_net::{Fate, Net};
 use lid_owners::Aim;
@@ -134,10 +134,17 @@ pub(crate) fn count_of(fate: Fate, pairs: &[Pair]) -> usize
     pairs.iter().filter(|pair| is_fate(fate, pair.fate)).count()
 }
 
+/// Whether packets that come to this are lost.
+pub(crate) fn is_lost_by(fate: Fate) -> bool
+    ensures { result ≡ is_lost_by fate }
+{
+    !(is_fate(Fate::Reached, fate) || is_fate(Fate::Unknown, fate))
+}
+
 fn is_lost(pair: &Pair) -> bool
     ensures { result ≡ is_lost pair.now }
 {
-    !(is_fate(Fate::Reached, pair.fate) || is_fate(Fate::Unknown, pair.fate))
+    is_lost_by(pair.fate)
 }
 
 pub(crate) fn some_lost(pairs: &[Pair]) -> bool

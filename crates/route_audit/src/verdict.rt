@@ -8,8 +8,8 @@ ghost use Rattle.audit_net.specs.Net.{has_table};
 ghost use Rattle.route_audit.specs.Verdict.{have_tables, is_known, is_unknown, knows_all, knows_entries, knows_next, name_the_same, reasons, safe_words, verdict_by, verdict_is_safe, verdict_line, with_reason};
 ghost use Rattle.topo_file.specs.Connectivity.{switches};
 
-use crate::auditing::other_lids;
 use crate::lines::has_switch;
+use crate::loops::other_lids;
 use crate::pairs::{Pair, all_reached, between_hosts, some_lost, some_unknown};
 use audit_net::{Net, Turn};
 use dump_file::Table;
@@ -24,7 +24,8 @@ pub struct Verdict {
     has_lids: bool,
     /// From each switch to which an adapter is attached, packets reach the adapter port of each LID.
     is_reached: bool,
-    /// Along all LIDs but the switches' own there is no credit loop.
+    /// Along all LIDs but the switches' own there is no credit loop; one of an aggregation node counts at switches that packets of hosts
+    /// come to.
     is_free: bool,
     /// The dump and the fabric name the same switches and ports of adapters.
     is_same: bool,

@@ -1,10 +1,12 @@
 //! Wrong rules for what is reported, and the law that each breaks, so that a reader sees that the laws say something. Each
 //! function does nothing: its contract says that with this rule the law is false.
 
+ghost use Rattle.route_audit.specs.WrongRules.{ClosingLidsCountThere, LoopsOfAggregationDecideNothing, LoopsOfHostsDecide};
 ghost use Rattle.route_audit.specs.WrongRules.{AggregationDecidesNothing, CreditLoopsAreApart, EachStepHasItsLid, LidsGoOnRound};
 ghost use Rattle.route_audit.specs.WrongRules.{HolesAreCounted, HolesHaveALine, LidsAreAsked, LoopsHaveALine, LostPairsAreAReason, ReasonsHold};
-ghost use Rattle.route_audit.specs.WrongRules.{NobodysLoopsHaveALine, OtherLidsDecide, OtherPortsDecide, OtherTablesDecide, OthersHolesHaveALine};
+ghost use Rattle.route_audit.specs.WrongRules.{NobodysLoopsHaveALine, NobodysRowsHaveALine, OtherLidsDecide, OtherPortsDecide, OtherTablesDecide, OthersHolesHaveALine};
 ghost use Rattle.route_audit.specs.WrongRules.{OtherCablesHaveALine, OtherTablesHaveALine, RowsLeftOutHaveALine};
+ghost use Rattle.route_audit.specs.WrongRules.{AllSwitchesAreCounted, HostsSwitchesCount, LinesAreCounted, LostPairsHaveALine, ReasonsHaveALine, UnknownIsNotLost};
 ghost use Rattle.route_audit.specs.WrongRules.{TransitDecidesNothing, UnknownEntriesDecide, WaysAreAsked};
 
 /// If pairs that come to a hole are not counted, the parts of a line are not all.
@@ -92,6 +94,11 @@ pub fn nobodys_loops_have_a_line()
     ensures { NobodysLoopsHaveALine }
 {}
 
+/// If an entry that is unknown has no line where the LID is nobody's, a switch sends packets there and none reports it.
+pub fn nobodys_rows_have_a_line()
+    ensures { NobodysRowsHaveALine }
+{}
+
 /// If pairs that are not reached are no reason, a verdict that is not safe has none.
 pub fn lost_pairs_are_a_reason()
     ensures { LostPairsAreAReason }
@@ -110,4 +117,49 @@ pub fn other_cables_have_a_line()
 /// If what switches do is printed alone, the table of a switch that the fabric lacks has no line.
 pub fn other_tables_have_a_line()
     ensures { OtherTablesHaveALine }
+{}
+
+/// If each entry of an aggregation node's LID counts, routes are not called safe though packets of hosts make no credit loop.
+pub fn loops_of_aggregation_decide_nothing()
+    ensures { LoopsOfAggregationDecideNothing }
+{}
+
+/// If none counts, packets of hosts to aggregation nodes make a credit loop.
+pub fn loops_of_hosts_decide()
+    ensures { LoopsOfHostsDecide }
+{}
+
+/// If any LID that leaves by both ports closes a step of the cycle that decides, packets of hosts may not come there.
+pub fn closing_lids_count_there()
+    ensures { ClosingLidsCountThere }
+{}
+
+/// If eight of the switches from which packets are lost count alone, the ninth is not counted.
+pub fn all_switches_are_counted()
+    ensures { AllSwitchesAreCounted }
+{}
+
+/// If packets are lost from switches without a host, a LID has a line that all hosts reach.
+pub fn hosts_switches_count()
+    ensures { HostsSwitchesCount }
+{}
+
+/// If what comes to an unknown entry is lost, a LID has a line that may be reached.
+pub fn unknown_is_not_lost()
+    ensures { UnknownIsNotLost }
+{}
+
+/// If what switches do is printed alone, the LID that is not reached has no line.
+pub fn lost_pairs_have_a_line()
+    ensures { LostPairsHaveALine }
+{}
+
+/// If what switches do is printed alone, a reason of the verdict has no line.
+pub fn reasons_have_a_line()
+    ensures { ReasonsHaveALine }
+{}
+
+/// If bytes are counted as lines, one line is more.
+pub fn lines_are_counted()
+    ensures { LinesAreCounted }
 {}

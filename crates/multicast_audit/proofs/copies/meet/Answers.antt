@@ -1,4 +1,4 @@
-use Rattle.lid_owners.proofs.LidLemmas.{marked_more}
+use Rattle.audit_net.proofs.MarkLemmas.{marked_more}
 use Rattle.multicast_audit.proofs.copies.meet.Goals as goal
 
 pub returns-clause-marked : goal.returns-clause-marked

@@ -1,6 +1,6 @@
 use Rattle.std.proofs.Common.{ℕ, ◌<◌, ◌==◌, ◌||◌, length, arith, ap, ◌∙◌}
 use Rattle.audit_net.specs.Marked.{is_marked}
-use Rattle.lid_owners.proofs.LidLemmas.{marked_more}
+use Rattle.audit_net.proofs.MarkLemmas.{marked_more}
 use Rattle.multicast_audit.proofs.masks.mark.Goals as goal
 
 pub returns-clause-marked : goal.returns-clause-marked

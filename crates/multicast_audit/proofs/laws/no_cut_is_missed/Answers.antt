@@ -1,0 +1,5 @@
+use Rattle.multicast_audit.proofs.CutLawLemmas.{no_cut_is_missed}
+use Rattle.multicast_audit.proofs.laws.no_cut_is_missed.Goals as goal
+
+pub returns : goal.returns
+returns c = no_cut_is_missed
