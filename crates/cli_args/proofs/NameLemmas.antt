@@ -175,20 +175,21 @@ three_given rows third argument None dump file t d at call is = absurd cc
 
 audit_given : (rows : List Row) → IsGiven rows (audit_by rows)
 audit_given rows call is =
-    by (first_of (codes "MFTS") rows) refl (first_of (codes "LANES") rows) refl (first_of (codes "FABRIC") rows) refl (first_of (codes "DUMP") rows) refl is
+    by (first_of (codes "MFTS") rows) refl (first_of (codes "LANES") rows) refl (first_of (codes "FABRIC") rows) refl (first_of (codes "DUMP") rows) refl
+    (is_given rows (codes "ALL")) is
   where
     by : (mfts : Option Text) → first_of (codes "MFTS") rows ≡ mfts → (lanes : Option Text) → first_of (codes "LANES") rows ≡ lanes
-        → (topology : Option Text) → first_of (codes "FABRIC") rows ≡ topology → (dump : Option Text) → first_of (codes "DUMP") rows ≡ dump
-        → audit_with mfts lanes topology dump ≡ Some call → All (IsWordOf rows) (opened_for (Ok call))
-    by None m None l (Some topology) t (Some dump) d is =
+        → (topology : Option Text) → first_of (codes "FABRIC") rows ≡ topology → (dump : Option Text) → first_of (codes "DUMP") rows ≡ dump → (all : Bool)
+        → audit_with mfts lanes topology dump all ≡ Some call → All (IsWordOf rows) (opened_for (Ok call))
+    by None m None l (Some topology) t (Some dump) d all is =
         subst (λ (asked : Call Names Text). All (IsWordOf rows) (opened_for (Ok asked))) (same_call _ call is)
         (All-cons (IsWordOf rows) topology (dump ∷ []) (codes "FABRIC", t)
         (All-cons (IsWordOf rows) dump [] (codes "DUMP", d) (All-nil (IsWordOf rows))))
-    by None m None l (Some topology) t None d is = absurd cc
-    by None m None l None t dump d is = absurd cc
-    by (Some mfts) m None l topology t dump d is = three_given rows Mfts (codes "MFTS") topology dump mfts t d m call is
-    by None m (Some lanes) l topology t dump d is = three_given rows Lanes (codes "LANES") topology dump lanes t d l call is
-    by (Some mfts) m (Some lanes) l topology t dump d is = absurd cc
+    by None m None l (Some topology) t None d all is = absurd cc
+    by None m None l None t dump d all is = absurd cc
+    by (Some mfts) m None l topology t dump d all is = three_given rows (Mfts all) (codes "MFTS") topology dump mfts t d m call is
+    by None m (Some lanes) l topology t dump d all is = three_given rows (Lanes all) (codes "LANES") topology dump lanes t d l call is
+    by (Some mfts) m (Some lanes) l topology t dump d all is = absurd cc
 
 load_given : (rows : List Row) → IsGiven rows (load_by rows)
 load_given rows call is =
@@ -304,6 +305,7 @@ files_stand_in_order = record {
   audit = refl;
   multicast = refl;
   lanes = refl;
+  whole = refl;
   load = refl;
   loads = refl;
   audit_keys = refl;

@@ -99,7 +99,7 @@ lanes_option = record (new_rule (codes "LANES")) { long = Some (codes "sl2vl"); 
 abbrev pub audit_command : App
 audit_command =
     let files = with_rule (with_rule (new_app (codes "audit")) (wanted (codes "FABRIC"))) (wanted (codes "DUMP")) in
-    with_rule (with_rule files mfts_option) lanes_option
+    with_rule (with_rule (with_rule files mfts_option) lanes_option) all_flag
 
 -- `--dump DUMP`
 abbrev pub dump_option : Rule

@@ -130,6 +130,9 @@ help_of_fabric = codes "What ibnetdiscover printed of the fabric, or its topolog
 abbrev pub help_of_all : List ℕ
 help_of_all = codes "Lists each pair of ports, however many a partition has"
 
+abbrev pub help_of_all_lines : List ℕ
+help_of_all_lines = codes "Prints each line by switch and LID, which are counted otherwise"
+
 abbrev pub help_of_all_pairs : List ℕ
 help_of_all_pairs = codes "Counts all pairs, also those that may not talk"
 

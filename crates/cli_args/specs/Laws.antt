@@ -61,6 +61,8 @@ pub record FilesStandInOrder : Type 0 where
   pub audit : opened_by (codes "audit" ∷ codes "net" ∷ codes "dump" ∷ []) ≡ codes "net" ∷ codes "dump" ∷ []
   pub multicast : opened_by (codes "audit" ∷ codes "--mft" ∷ codes "masks" ∷ codes "net" ∷ codes "dump" ∷ []) ≡ codes "net" ∷ codes "dump" ∷ codes "masks" ∷ []
   pub lanes : opened_by (codes "audit" ∷ codes "--sl2vl" ∷ codes "lanes" ∷ codes "net" ∷ codes "dump" ∷ []) ≡ codes "net" ∷ codes "dump" ∷ codes "lanes" ∷ []
+  pub whole : opened_by (codes "audit" ∷ codes "--sl2vl" ∷ codes "lanes" ∷ codes "net" ∷ codes "--all" ∷ codes "dump" ∷ [])
+      ≡ codes "net" ∷ codes "dump" ∷ codes "lanes" ∷ []
   pub load : opened_by (codes "load" ∷ codes "--dump" ∷ codes "dump" ∷ codes "net" ∷ []) ≡ codes "net" ∷ codes "dump" ∷ []
   pub loads : opened_by (codes "load" ∷ codes "net" ∷ codes "parts" ∷ codes "sends" ∷ codes "--all" ∷ [])
       ≡ codes "net" ∷ codes "parts" ∷ codes "sends" ∷ []

@@ -179,15 +179,16 @@ audit_three third (Some fabric) (Some dump) file = Some (AuditThree third fabric
 audit_three third _ _ file = None
 
 -- an audit of these, and of MFTs or lanes if they are given. Both exclude one another
-abbrev pub audit_with : (mfts lanes fabric dump : Option Text) → Option (Call Names Text)
-audit_with None None fabric dump = dumped_by dump_view.Audit fabric dump
-audit_with (Some mfts) None fabric dump = audit_three Mfts fabric dump mfts
-audit_with None (Some lanes) fabric dump = audit_three Lanes fabric dump lanes
-audit_with (Some mfts) (Some lanes) fabric dump = None
+abbrev pub audit_with : (mfts lanes fabric dump : Option Text) → (all : Bool) → Option (Call Names Text)
+audit_with None None fabric dump all = dumped_by (dump_view.Audit all) fabric dump
+audit_with (Some mfts) None fabric dump all = audit_three (Mfts all) fabric dump mfts
+audit_with None (Some lanes) fabric dump all = audit_three (Lanes all) fabric dump lanes
+audit_with (Some mfts) (Some lanes) fabric dump all = None
 
 abbrev pub audit_by : List Row → Option (Call Names Text)
 audit_by rows =
     audit_with (first_of (codes "MFTS") rows) (first_of (codes "LANES") rows) (first_of (codes "FABRIC") rows) (first_of (codes "DUMP") rows)
+    (is_given rows (codes "ALL"))
 
 -- loads, after the commands of a script if one is given
 abbrev pub loads_in : (script : Option Text) → (all : Bool) → Work Text Text Text

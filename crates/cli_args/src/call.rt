@@ -131,7 +131,10 @@ pub enum Inspection<W> {
 #[derive(Clone, Copy)]
 pub enum DumpView {
     /// Whether its routes are safe.
-    Audit,
+    Audit {
+        /// Whether each line by switch and LID is to be printed.
+        all: bool,
+    },
     /// How many pairs go over each cable.
     Load,
 }
@@ -140,9 +143,15 @@ pub enum DumpView {
 #[derive(Clone, Copy)]
 pub enum ThirdFile {
     /// MFTs: multicast is judged too.
-    Mfts,
+    Mfts {
+        /// Whether each line by switch and LID is to be printed.
+        all: bool,
+    },
     /// SL-to-VL mapping tables and path records: routes are judged by virtual lanes.
-    Lanes,
+    Lanes {
+        /// Whether each line by switch and LID is to be printed.
+        all: bool,
+    },
 }
 
 /// What a command line asks for.

@@ -12,7 +12,7 @@ ghost use Rattle.cli_args.specs.Help.{about_audit, about_audit_keys, about_check
 ghost use Rattle.cli_args.specs.Help.{about_manage, about_program, about_run, about_smp};
 ghost use Rattle.cli_args.specs.Help.{about_shares, about_tables, about_trace, help_of_code, help_of_dlid, help_of_key};
 ghost use Rattle.cli_args.specs.Help.{help_of_compared, help_of_first_script, help_of_partitions, help_of_second_script};
-ghost use Rattle.cli_args.specs.Help.{help_of_all, help_of_all_pairs, help_of_cuts, help_of_dump, help_of_lanes, help_of_mfts, help_of_first_end, help_of_load, help_of_second_end};
+ghost use Rattle.cli_args.specs.Help.{help_of_all, help_of_all_lines, help_of_all_pairs, help_of_cuts, help_of_dump, help_of_lanes, help_of_mfts, help_of_first_end, help_of_load, help_of_second_end};
 ghost use Rattle.cli_args.specs.Help.{help_of_fabric, help_of_manager, help_of_netdiscover, help_of_pkeys, help_of_port, help_of_replies, help_of_roots, help_of_script, help_of_script_before, help_of_smps};
 ghost use Rattle.cli_args.specs.Help.{help_of_second_partitions, help_of_sender, help_of_topology};
 ghost use Rattle.cli_args.specs.Help.{program_name, program_version, text_in};
@@ -258,6 +258,17 @@ fn all_flag<'a>(alloc: Global) -> Arg<'a>
         .long("all")
         .action(ArgAction::SetTrue)
         .help("Lists each pair of ports, however many a partition has")
+}
+
+fn all_lines_flag<'a>(alloc: Global) -> Arg<'a>
+    ensures global { result.global ≡ false }
+    ensures rule { rule_of result ≡ all_flag }
+    ensures help { text_in result.help ≡ Some help_of_all_lines }
+{
+    Arg::new(alloc, "ALL")
+        .long("all")
+        .action(ArgAction::SetTrue)
+        .help("Prints each line by switch and LID, which are counted otherwise")
 }
 
 fn all_pairs_flag<'a>(alloc: Global) -> Arg<'a>
@@ -595,7 +606,7 @@ fn audit_command<'a>(alloc: Global) -> Result<Command<'a>, AllocError>
     let found = with_arg(Ok(Command::new(alloc, "audit")), wanted_fabric(alloc));
     let files = with_arg(found, wanted_dump(alloc));
     let masks = with_arg(files, mfts_option(alloc));
-    let command = with_arg(masks, lanes_option(alloc));
+    let command = with_arg(with_arg(masks, lanes_option(alloc)), all_lines_flag(alloc));
     described(command, ABOUT_AUDIT, AUDIT)
 }
 

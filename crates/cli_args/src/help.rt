@@ -91,8 +91,9 @@ and the SM the subnet manager.
 
 An error is printed as `fault CODE topology line L`, `fault CODE partitions line L`,
 `fault CODE partitions2 line L`, `fault CODE script line L`, `fault CODE script2 line L`,
-`fault CODE netdiscover line L`, `fault CODE dump line L`, `fault CODE pkeys line L`,
-`fault CODE smps line L`, `fault CODE replies line L`, `fault CODE port`, `fault CODE`,
+`fault CODE netdiscover line L`, `fault CODE dump line L`, `fault CODE mfts line L`,
+`fault CODE lanes line L`, `fault CODE pkeys line L`, `fault CODE smps line L`,
+`fault CODE replies line L`, `fault CODE port`, `fault CODE`,
 `fault CODE path PATH ATTRIBUTE MODIFIER`, `fault UR1 SWITCH PORT`, `fault memory`, `fault read NAME`
 or `fault write`. An audit of routes that are not safe, or of P_Key tables that do not follow the file,
 has status 1, and prints no such line."
@@ -407,7 +408,8 @@ judged as if all packets used one virtual lane (VL). Without --mft multicast is 
 as CAs. Behind a LID stands its port, if one is known.
 
 With --mft the MFTs have to be safe too: no packet to an MLID loops or comes to a switch twice by the port
-masks, each switch has an MFT, and each MFT is of a switch of FABRIC.
+masks, each member receives what the others send, each switch has an MFT, and each MFT is of a switch of
+FABRIC.
 
 With --sl2vl a credit loop counts only if it is one of lanes. A lane is a channel with a VL. Then each
 pair of CA ports needs a path record, which has the service level (SL) of its packets, and each two ports
@@ -416,13 +418,28 @@ LANES has what `smpquery sl2vl LID PORT` and `saquery PR` print. --mft and --sl2
 
 First comes what one file has and the other lacks:
   # passed over: PORT PORT     a cable between these joins no switch
+  # no switches               FABRIC has no switch
   no-table SWITCH             the dump has no table of this switch
   no-switch GUID              the dump has a table of a switch that FABRIC lacks
   no-port LID GUID            the LID is of a port that FABRIC lacks
   no-lid PORT                 this CA port has a cable, and no LID by FABRIC or by any row
   untold LID                  dump_fts leaves out the last LID of a table if it is a multiple of 64
 
-Then what is wrong at each switch, LID by LID:
+Then what else decides. At most eight switches are named, and the others are counted:
+  unreached LID (PORT) from N switches: SWITCH .. and N more
+                              packets from these, to which a CA is attached, do not come to the CA's LID
+  unknown LID (PORT) at N switches: SWITCH ..
+                              packets come to these, and the dump leaves out their entry
+
+Then, if there is one, a credit loop, as the ports along it. Each waits for the next one by one of the
+LIDs behind them, and the last port for the first one:
+  deadlock PORT PORT .. by LIDs LID (PORT) ..   along all LIDs except the switches' own; those of
+                                                aggregation nodes count where packets of CAs come
+  deadlock aggregation-lids PORT PORT .. by ..  along the same LIDs, if there is none without packets
+                                                of aggregation nodes; decides nothing
+  deadlock switch-lids PORT PORT .. by LIDs ..  along all LIDs, if there is neither; decides nothing
+
+Then, with --all, what is wrong at each switch, LID by LID; without it such lines are counted:
   hole SWITCH LID (PORT)      it has no port for the LID
   left-out SWITCH LID (PORT)  dump_fts leaves out rows of ports from 128 on (ask ibroute), and the last
                               LID of a table if it is a multiple of 64
@@ -430,12 +447,7 @@ Then what is wrong at each switch, LID by LID:
   wrong SWITCH LID (PORT) PORT      it leads to another end port, the last one
   loop LID (PORT) SWITCH SWITCH ..  the entries form a loop through these switches
   stray SWITCH LID            it has a port for a LID that is nobody's
-
-Then, if there is one, a credit loop, as the ports along it. Each waits for the next one by one of the
-LIDs behind them, and the last port for the first one:
-  deadlock PORT PORT .. by LIDs LID (PORT) ..   along all LIDs except the switches' own
-  deadlock switch-lids PORT PORT .. by LIDs ..  along all LIDs, if there is none without those;
-                                                decides nothing
+  # N lines by switch and LID: --all prints them
 
 Last come counts of pairs of a switch and a LID, by what happens to a packet from there:
   adapters: N pairs, N reached, N holes, N nowhere, N wrong, N loops, N unknown, no deadlock
@@ -450,7 +462,8 @@ decide; those of `transit:` are of another switch and a CA's LID. Aggregation no
 `aggregation:`, printed if there are any, counts pairs of a switch and the LID of one. Those of
 `switches:` are of a switch's LID; those of `audit:` are all. If routes are not safe, the last line
 begins with `verdict: not safe (REASON, ..), as if`; the reasons are no-lid, unreached, deadlock,
-mismatch and unknown, for the five conditions above.
+mismatch and unknown, for the five conditions above. Each has a line above that says where; for mismatch
+that is a line no-table, no-switch or no-port, or `# no switches`.
 
 With --mft these lines stand before the verdict:
   multicast no-table SWITCH   there is no MFT of this switch
@@ -460,10 +473,12 @@ With --mft these lines stand before the verdict:
   multicast loop MLID PORT PORT ..        packets leave by these ports, one after the other, and by the
                                           first one again
   multicast copies MLID SWITCH from SWITCH2    what an end port at SWITCH2 sends comes to SWITCH twice
-  multicast: N MLIDs, N with a loop, N with copies
-  # multicast: members that no packet reaches are unknown, ..
-Then the reasons may also be multicast-loop and multicast-copies. Of an MLID at most one loop and one
-switch with copies are printed.
+  multicast cut MLID PORT from PORT2, and N more    masks lead to all of them, and what PORT2 sends does
+                                          not come to PORT, nor to N more
+  multicast: N MLIDs, N with a loop, N with copies, N cut
+  # multicast: a member to which no mask leads is unknown, ..
+Then the reasons may also be multicast-loop, multicast-copies and multicast-cut. Of an MLID at most one
+loop, one switch with copies and one cut are printed.
 
 With --sl2vl these lines stand before the verdict:
   lanes deadlock PORT VL V PORT VL V ..   a credit loop of lanes: each waits for the next one, and the
@@ -560,15 +575,17 @@ Then how switch ports differ from the CA ports that they face:
   more PORT BASE              it lets packets of this base through, which the CA port has not
   unread PORT                 its table, or what it enforces, was not read
   cut PORT BASE N             it drops packets between its CA port and N ports that may talk
+  trunk PORT lacks BASE       a port between two switches drops packets of this base of the file
 
 Then ports that are not judged:
   moved PORT LID GUID GUID2   ibnetdiscover has GUID at the LID, and smpquery GUID2: collect again
-  unread PORT                 its table was not read
+  unread PORT                 its table was not read, or not whose it is
 
 Then what the file lists in vain:
   no-port GUID                no port of the fabric has this GUID
   node-guid GUID PORT ..      it is the GUID of a node, which has these ports
   no-partition PORT           the file gives this port no P_Key
+  by the file: N of N pairs may talk in BASE   these are at least half of all pairs
 
 Last come counts:
   ports: N, N as the file, N unread, N moved

@@ -380,7 +380,7 @@ fn audit_by<'a>(found: &ArgMatches<'a>) -> Option<Call<Asked<'a>, &'a str>>
     let dump = word_of(found, "DUMP");
     let mfts = word_of(found, "MFTS");
     let lanes = word_of(found, "LANES");
-    audit_with(mfts, lanes, fabric, dump)
+    audit_with(mfts, lanes, fabric, dump, is_given(found, "ALL"))
 }
 
 fn audit_with<'a>(
@@ -388,14 +388,15 @@ fn audit_with<'a>(
     lanes: Option<&'a str>,
     fabric: Option<&'a str>,
     dump: Option<&'a str>,
+    all: bool,
 ) -> Option<Call<Asked<'a>, &'a str>>
     ensures { option_map named_call result ≡ audit_with (option_map (λ word. word.now) mfts.entry) (option_map (λ word. word.now) lanes.entry)
-        (option_map (λ word. word.now) fabric.entry) (option_map (λ word. word.now) dump.entry) }
+        (option_map (λ word. word.now) fabric.entry) (option_map (λ word. word.now) dump.entry) all }
 {
     match (mfts, lanes) {
-        (None, None) => dumped_by(DumpView::Audit, fabric, dump),
-        (Some(mfts), None) => audit_three(ThirdFile::Mfts, fabric, dump, mfts),
-        (None, Some(lanes)) => audit_three(ThirdFile::Lanes, fabric, dump, lanes),
+        (None, None) => dumped_by(DumpView::Audit { all }, fabric, dump),
+        (Some(mfts), None) => audit_three(ThirdFile::Mfts { all }, fabric, dump, mfts),
+        (None, Some(lanes)) => audit_three(ThirdFile::Lanes { all }, fabric, dump, lanes),
         (Some(_), Some(_)) => None,
     }
 }

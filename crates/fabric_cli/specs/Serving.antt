@@ -356,11 +356,11 @@ dump_ending (dump_output.Audited found) = audit_ending found
 dump_ending (dump_output.Loaded text) = complete text.items
 
 abbrev pub plan_ending : DumpView → TopologyState → DumpState → Ending
-plan_ending dump_view.Audit plan dump = audit_ending (audit plan dump)
+plan_ending (dump_view.Audit all) plan dump = audit_ending (audit all plan dump)
 plan_ending dump_view.Load plan dump = complete (load_text plan dump)
 
 abbrev pub found_ending : DumpView → DiscoveryState → DumpState → Ending
-found_ending dump_view.Audit found dump = audit_ending (audit_discovery found dump)
+found_ending (dump_view.Audit all) found dump = audit_ending (audit_discovery all found dump)
 found_ending dump_view.Load found dump = complete (load_text_found found dump)
 
 abbrev pub viewed_by : DumpView → TopologyState → Result DumpState (AtLine DumpCause) → Ending
@@ -386,17 +386,17 @@ viewed view fabric dump =
     if is_discovery fabric then viewed_from view (discovery_of fabric) dump else viewed_over view (topology_within Large fabric) dump
 
 -- ---- its LFTs and what a third file has: the fabric is checked before the dump, and the dump before that file
-abbrev pub multicast_by : TopologyState → DumpState → Result MftState (AtLine MftCause) → Ending
-multicast_by plan dump (Ok mfts) = audit_ending (audit_multicast plan dump mfts)
-multicast_by plan dump (Err at) = faulted 1 (foreign_line (Masks at.cause) at.line)
+abbrev pub multicast_by : (all : Bool) → TopologyState → DumpState → Result MftState (AtLine MftCause) → Ending
+multicast_by all plan dump (Ok mfts) = audit_ending (audit_multicast all plan dump mfts)
+multicast_by all plan dump (Err at) = faulted 1 (foreign_line (Masks at.cause) at.line)
 
-abbrev pub lanes_by : TopologyState → DumpState → Result LanesState (AtLine LanesCause) → Ending
-lanes_by plan dump (Ok lanes) = audit_ending (audit_lanes plan dump lanes)
-lanes_by plan dump (Err at) = faulted 1 (foreign_line (LanesFault at.cause) at.line)
+abbrev pub lanes_by : (all : Bool) → TopologyState → DumpState → Result LanesState (AtLine LanesCause) → Ending
+lanes_by all plan dump (Ok lanes) = audit_ending (audit_lanes all plan dump lanes)
+lanes_by all plan dump (Err at) = faulted 1 (foreign_line (LanesFault at.cause) at.line)
 
 abbrev pub three_by : ThirdFile → TopologyState → DumpState → List ℕ → Ending
-three_by third_file.Mfts plan dump file = multicast_by plan dump (mfts_of file)
-three_by third_file.Lanes plan dump file = lanes_by plan dump (lanes_of file)
+three_by (third_file.Mfts all) plan dump file = multicast_by all plan dump (mfts_of file)
+three_by (third_file.Lanes all) plan dump file = lanes_by all plan dump (lanes_of file)
 
 abbrev pub three_with : ThirdFile → TopologyState → Result DumpState (AtLine DumpCause) → List ℕ → Ending
 three_with third plan (Ok dump) file = three_by third plan dump file
@@ -406,17 +406,17 @@ abbrev pub three_over : ThirdFile → Result TopologyState (AtLine TopologyCause
 three_over third (Ok plan) dump file = three_with third plan (dump_of dump) file
 three_over third (Err at) dump file = faulted 1 (topology_line (topology_code at.cause) at.line)
 
-abbrev pub found_multicast_by : DiscoveryState → DumpState → Result MftState (AtLine MftCause) → Ending
-found_multicast_by found dump (Ok mfts) = audit_ending (audit_multicast_found found dump mfts)
-found_multicast_by found dump (Err at) = faulted 1 (foreign_line (Masks at.cause) at.line)
+abbrev pub found_multicast_by : (all : Bool) → DiscoveryState → DumpState → Result MftState (AtLine MftCause) → Ending
+found_multicast_by all found dump (Ok mfts) = audit_ending (audit_multicast_found all found dump mfts)
+found_multicast_by all found dump (Err at) = faulted 1 (foreign_line (Masks at.cause) at.line)
 
-abbrev pub found_lanes_by : DiscoveryState → DumpState → Result LanesState (AtLine LanesCause) → Ending
-found_lanes_by found dump (Ok lanes) = audit_ending (audit_lanes_found found dump lanes)
-found_lanes_by found dump (Err at) = faulted 1 (foreign_line (LanesFault at.cause) at.line)
+abbrev pub found_lanes_by : (all : Bool) → DiscoveryState → DumpState → Result LanesState (AtLine LanesCause) → Ending
+found_lanes_by all found dump (Ok lanes) = audit_ending (audit_lanes_found all found dump lanes)
+found_lanes_by all found dump (Err at) = faulted 1 (foreign_line (LanesFault at.cause) at.line)
 
 abbrev pub found_three_by : ThirdFile → DiscoveryState → DumpState → List ℕ → Ending
-found_three_by third_file.Mfts found dump file = found_multicast_by found dump (mfts_of file)
-found_three_by third_file.Lanes found dump file = found_lanes_by found dump (lanes_of file)
+found_three_by (third_file.Mfts all) found dump file = found_multicast_by all found dump (mfts_of file)
+found_three_by (third_file.Lanes all) found dump file = found_lanes_by all found dump (lanes_of file)
 
 abbrev pub found_three_with : ThirdFile → DiscoveryState → Result DumpState (AtLine DumpCause) → List ℕ → Ending
 found_three_with third found (Ok dump) file = found_three_by third found dump file

@@ -543,7 +543,9 @@ fn found_output<'a>(
     ensures fault { IfErr result IsOfRun }
 {
     match view {
-        DumpView::Audit => Ok(DumpOutput::Audited(audit_discovery(alloc, found, dump)?)),
+        DumpView::Audit { all } => {
+            Ok(DumpOutput::Audited(audit_discovery(alloc, found, dump, all)?))
+        }
         DumpView::Load => Ok(DumpOutput::Loaded(load_text_found(alloc, found, dump)?)),
     }
 }
@@ -574,7 +576,7 @@ fn plan_output<'a>(
     ensures fault { IfErr result IsOfRun }
 {
     match view {
-        DumpView::Audit => Ok(DumpOutput::Audited(audit(alloc, plan, dump)?)),
+        DumpView::Audit { all } => Ok(DumpOutput::Audited(audit(alloc, plan, dump, all)?)),
         DumpView::Load => Ok(DumpOutput::Loaded(load_text(alloc, plan, dump)?)),
     }
 }

@@ -110,12 +110,13 @@ fn multicast_by<'a>(
     plan: &LargeTopology,
     dump: &Dump,
     mfts: &[u8],
+    all: bool,
 ) -> Result<DumpOutput, Stop<'a>>
-    ensures exact { EndsIn dump_ending (ended (multicast_by plan.now dump.now (mfts_of mfts.now))) result }
+    ensures exact { EndsIn dump_ending (ended (multicast_by all plan.now dump.now (mfts_of mfts.now))) result }
     ensures fault { IfErr result IsOfRun }
 {
     match mft_file::read(alloc, mfts) {
-        Ok(mfts) => Ok(DumpOutput::Audited(audit_multicast(alloc, plan, dump, &mfts)?)),
+        Ok(mfts) => Ok(DumpOutput::Audited(audit_multicast(alloc, plan, dump, &mfts, all)?)),
         Err(fault) => Err(mfts_stop(fault)),
     }
 }
@@ -125,12 +126,13 @@ fn lanes_by<'a>(
     plan: &LargeTopology,
     dump: &Dump,
     lanes: &[u8],
+    all: bool,
 ) -> Result<DumpOutput, Stop<'a>>
-    ensures exact { EndsIn dump_ending (ended (lanes_by plan.now dump.now (lanes_of lanes.now))) result }
+    ensures exact { EndsIn dump_ending (ended (lanes_by all plan.now dump.now (lanes_of lanes.now))) result }
     ensures fault { IfErr result IsOfRun }
 {
     match sl2vl_file::read(alloc, lanes) {
-        Ok(lanes) => Ok(DumpOutput::Audited(audit_lanes(alloc, plan, dump, &lanes)?)),
+        Ok(lanes) => Ok(DumpOutput::Audited(audit_lanes(alloc, plan, dump, &lanes, all)?)),
         Err(fault) => Err(lanes_stop(fault)),
     }
 }
@@ -146,8 +148,8 @@ fn three_by<'a>(
     ensures fault { IfErr result IsOfRun }
 {
     match third {
-        ThirdFile::Mfts => multicast_by(alloc, plan, dump, file),
-        ThirdFile::Lanes => lanes_by(alloc, plan, dump, file),
+        ThirdFile::Mfts { all } => multicast_by(alloc, plan, dump, file, all),
+        ThirdFile::Lanes { all } => lanes_by(alloc, plan, dump, file, all),
     }
 }
 
@@ -190,12 +192,13 @@ fn found_multicast_by<'a>(
     found: &Discovery,
     dump: &Dump,
     mfts: &[u8],
+    all: bool,
 ) -> Result<DumpOutput, Stop<'a>>
-    ensures exact { EndsIn dump_ending (ended (found_multicast_by found.now dump.now (mfts_of mfts.now))) result }
+    ensures exact { EndsIn dump_ending (ended (found_multicast_by all found.now dump.now (mfts_of mfts.now))) result }
     ensures fault { IfErr result IsOfRun }
 {
     match mft_file::read(alloc, mfts) {
-        Ok(mfts) => Ok(DumpOutput::Audited(audit_multicast_found(alloc, found, dump, &mfts)?)),
+        Ok(mfts) => Ok(DumpOutput::Audited(audit_multicast_found(alloc, found, dump, &mfts, all)?)),
         Err(fault) => Err(mfts_stop(fault)),
     }
 }
@@ -205,12 +208,13 @@ fn found_lanes_by<'a>(
     found: &Discovery,
     dump: &Dump,
     lanes: &[u8],
+    all: bool,
 ) -> Result<DumpOutput, Stop<'a>>
-    ensures exact { EndsIn dump_ending (ended (found_lanes_by found.now dump.now (lanes_of lanes.now))) result }
+    ensures exact { EndsIn dump_ending (ended (found_lanes_by all found.now dump.now (lanes_of lanes.now))) result }
     ensures fault { IfErr result IsOfRun }
 {
     match sl2vl_file::read(alloc, lanes) {
-        Ok(lanes) => Ok(DumpOutput::Audited(audit_lanes_found(alloc, found, dump, &lanes)?)),
+        Ok(lanes) => Ok(DumpOutput::Audited(audit_lanes_found(alloc, found, dump, &lanes, all)?)),
         Err(fault) => Err(lanes_stop(fault)),
     }
 }
@@ -226,8 +230,8 @@ fn found_three_by<'a>(
     ensures fault { IfErr result IsOfRun }
 {
     match third {
-        ThirdFile::Mfts => found_multicast_by(alloc, found, dump, file),
-        ThirdFile::Lanes => found_lanes_by(alloc, found, dump, file),
+        ThirdFile::Mfts { all } => found_multicast_by(alloc, found, dump, file, all),
+        ThirdFile::Lanes { all } => found_lanes_by(alloc, found, dump, file, all),
     }
 }
 

@@ -19,6 +19,7 @@ use Rattle.step_results.proofs.ListLemmas.{all_there}
 use Rattle.credit_loops.proofs.CycleLawLemmas.{no_cycle_is_missed}
 use Rattle.credit_loops.proofs.GoingLemmas.{goes_leaves, next_known}
 use Rattle.audit_plan.proofs.PlanLemmas.{host_is_no_switch}
+use Rattle.route_audit.proofs.LoopLemmas.{loop_anyhow}
 use Rattle.route_audit.proofs.SafeLemmas.{comes_there}
 use Rattle.route_audit.proofs.ReportedLemmas.{safe_routes_are_reported}
 use Rattle.route_audit.specs.Audit.{audit_of}
@@ -235,8 +236,11 @@ module _ (plan : TopologyState) (sound : IsSound plan) (keys : List (List ℕ)) 
       same = same;
       known = λ place lid next switch there goes unknown. known place lid next switch goes unknown;
     };
-    free = no_cycle_is_missed net (other_lids net)
-        (is_free plan sound keys routes fabric up (dump_of plan routes.lids fabric) (a_dump_shows_what_is_held plan keys routes fabric sound up) (other_lids net));
+    free = λ ring are loop.
+        let none =
+        no_cycle_is_missed net (other_lids net)
+        (is_free plan sound keys routes fabric up (dump_of plan routes.lids fabric) (a_dump_shows_what_is_held plan keys routes fabric sound up) (other_lids net)) ring are in
+        false≢true (sym none ∙ loop_anyhow net ring loop);
   }
 
 pub own_routes_are_safe : OwnRoutesAreSafe
@@ -256,4 +260,4 @@ routes_are_safe_with_cables_down plan keys routes fabric sound stands =
     let sound_too = what_is_up_is_sound plan (cabling_of fabric) (root_guids plan) keys routes fabric sound stands.up in
     let safe = own_routes_are_safe left keys routes (base_of fabric) sound_too stands.up.set_up in
     let tables = same_tables plan routes.lids fabric.nodes in
-    subst (λ (some : List Table). (audit_of (over left (record { tables = some }))).is_safe ≡ true) tables safe
+    subst (λ (some : List Table). (audit_of false (over left (record { tables = some }))).is_safe ≡ true) tables safe

@@ -75,10 +75,10 @@ OwnRoutesPass =
 abbrev pub OwnRoutesAreSafe : Type 0
 OwnRoutesAreSafe =
     (plan : TopologyState) (keys : List (List ℕ)) (routes : RoutesState) (fabric : FabricState) → IsSound plan → IsBroughtUpBy plan keys routes fabric
-    → (audit_of (over plan (dump_of plan routes.lids fabric))).is_safe ≡ true
+    → (audit_of false (over plan (dump_of plan routes.lids fabric))).is_safe ≡ true
 
 -- also while cables between switches are down, over the topology with those that are up
 abbrev pub RoutesAreSafeWithCablesDown : Type 0
 RoutesAreSafeWithCablesDown =
     (plan : TopologyState) (keys : List (List ℕ)) (routes : RoutesState) (fabric : FabricState) → IsSound plan → IsStanding plan keys routes fabric
-    → (audit_of (over (with_cables fabric.cables plan) (dump_of plan routes.lids fabric))).is_safe ≡ true
+    → (audit_of false (over (with_cables fabric.cables plan) (dump_of plan routes.lids fabric))).is_safe ≡ true

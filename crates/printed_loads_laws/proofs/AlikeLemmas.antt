@@ -3,6 +3,8 @@ use Rattle.std.proofs.Common.{ℕ, zero, suc, ◌≡◌, ◌∙◌, ap, ap₂, r
 use Rattle.std.specs.List.{AllByRecursion, list_any, range_with_len}
 use Rattle.std.proofs.lemmas.Option.{none-some, same_Some}
 use Rattle.dump_file.specs.Dump.{DumpState}
+use Rattle.std.specs.Option.{option_map_or}
+use Rattle.fabric_parts.specs.Cable.{far_end}
 use Rattle.fabric_parts.specs.declared.cable.PortRef.{PortRef}
 use Rattle.step_results.proofs.ElementLemmas.{each_always}
 use Rattle.topo_file.specs.Node.{is_switch_at, ports_at}
@@ -21,14 +23,17 @@ use Rattle.route_audit.specs.Pairs.{is_fate}
 use Rattle.audit_plan.specs.Plan.{PlanState}
 use Rattle.cable_load.specs.Counts.{counts_of}
 use Rattle.cable_load.specs.declared.levels.TheConstants.{LEVELS}
+use Rattle.cable_load.specs.declared.levels.Way.{Way}
+use Rattle.cable_load.specs.declared.levels.Way.TheVariants.{Across, Down, Up}
 use Rattle.cable_load.specs.declared.loaded.Loaded.{Loaded}
-use Rattle.cable_load.specs.Levels.{goes_near, is_near, leads_near, level_of, of_level, some_lead}
+use Rattle.cable_load.specs.Levels.{goes, goes_near, is_near, leads, leads_near, level_behind, level_of, of_level, some_lead}
 use Rattle.cable_load.specs.Loads.{loaded, loads}
 use Rattle.cable_load.specs.Order.{ordered}
 use Rattle.cable_load.specs.Sources.{Pair, pairs_by}
-use Rattle.cable_load.specs.Text.{levels_text, level_line, level_text, load_line, load_of_plan, load_text_of, pairs_line, summary, text_by, text_of}
-use Rattle.cable_load.specs.Ways.{fate_of, goes_over, is_lost, is_on, is_unknown, loses, passes, then_on, way, way_within}
-use Rattle.cable_load.proofs.WayLemmas.{stays_in}
+use Rattle.cable_load.specs.Text.{levels_text, level_line, level_text, load_line, load_of_plan, load_text_of, pairs_line, summary, text_by, text_of, way_text}
+use Rattle.audit_net.specs.Ways.{is_on, then_on, way, way_within}
+use Rattle.cable_load.specs.Ways.{fate_of, goes_over, is_lost, is_unknown, loses, passes}
+use Rattle.audit_net.proofs.WayLemmas.{stays_in}
 use Rattle.printed_loads_laws.specs.Alike.{AreAlike, net_of}
 use Rattle.printed_loads_laws.specs.Laws.{LoadsAreOfEntries}
 use Rattle.printed_loads_laws.proofs.PairLemmas.{GoesToHost, all_go_to_hosts, count_same, pairs_same}
@@ -113,16 +118,35 @@ module _ (plan : PlanState) (dump other : DumpState) where
       (λ count _. ap not (near_same count place))
       (range_with_len 0 LEVELS) (each_always (λ (count : ℕ). Unit {0}) (λ count. tt) (range_with_len 0 LEVELS))
 
-  of_level_same : (level : ℕ) (all : List Loaded) → of_level one all level ≡ of_level two all level
-  of_level_same level [] = refl
-  of_level_same level (x ∷ xs) =
-      ap (λ (n : ℕ). if n == level then x ∷ of_level one xs level else of_level one xs level) (level_same x.at.node)
-      ∙ ap (λ (rest : List Loaded). if level_of two x.at.node == level then x ∷ rest else rest) (of_level_same level xs)
+  behind_same : (x : Loaded) → level_behind (level_of one) one x ≡ level_behind (level_of two) two x
+  behind_same x = by (far_end plan.cables x.at)
+    where
+      by : (there : Option PortRef) → option_map_or (λ at. level_of one at.node) there LEVELS ≡ option_map_or (λ at. level_of two at.node) there LEVELS
+      by (Some at) = level_same at.node
+      by None = refl
+
+  goes_alike : (level : ℕ) (way : Way) (x : Loaded) → goes (level_of one) one level way x ≡ goes (level_of two) two level way x
+  goes_alike level way x =
+      ap (λ (n : ℕ). (n == level) && leads way level (level_behind (level_of one) one x)) (level_same x.at.node)
+      ∙ ap (λ (n : ℕ). (level_of two x.at.node == level) && leads way level n) (behind_same x)
+
+  of_level_same : (level : ℕ) (way : Way) (all : List Loaded) → of_level one all level way ≡ of_level two all level way
+  of_level_same level way [] = refl
+  of_level_same level way (x ∷ xs) =
+      ap (λ (b : Bool). if b then x ∷ of_level one xs level way else of_level one xs level way) (goes_alike level way x)
+      ∙ ap (λ (rest : List Loaded). if goes (level_of two) two level way x then x ∷ rest else rest) (of_level_same level way xs)
+
+  level_text_same : (level : ℕ) (all : List Loaded) → level_text one all level ≡ level_text two all level
+  unfolding level_text
+  level_text_same level all =
+      ap (λ (some : List Loaded). level_line level Up some ++ way_text one all level Across ++ way_text one all level Down) (of_level_same level Up all)
+      ∙ ap (λ (some : List Loaded). way_text two all level Up ++ level_line level Across some ++ way_text one all level Down) (of_level_same level Across all)
+      ∙ ap (λ (some : List Loaded). way_text two all level Up ++ way_text two all level Across ++ level_line level Down some) (of_level_same level Down all)
 
   levels_same : (all : List Loaded) (levels : List ℕ) → flat_map (level_text one all) levels ≡ flat_map (level_text two all) levels
   levels_same all [] = refl
   levels_same all (level ∷ levels) =
-      ap (λ (some : List Loaded). level_line level some ++ flat_map (level_text one all) levels) (of_level_same level all)
+      ap (λ (text : List ℕ). text ++ flat_map (level_text one all) levels) (level_text_same level all)
       ∙ ap (λ (rest : List ℕ). level_text two all level ++ rest) (levels_same all levels)
 
   lines_same : (all : List Loaded) → flat_map (load_line one) all ≡ flat_map (load_line two) all

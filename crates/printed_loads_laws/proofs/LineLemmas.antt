@@ -1,9 +1,9 @@
 -- The lines of a table are read as what they were printed of.
-use Rattle.std.proofs.Common.{ℕ, suc, ◌≡◌, ◌^◌, ◌<◌, ◌==◌, ◌&&◌, ◌||◌, ◌∙◌, nat_eq, ap, refl, sym, Bool, true, false, not, List, [], ◌∷◌, ◌++◌, codes, decimal, flat_map, length, append_assoc, Option, Result, Ok, arith}
+use Rattle.std.proofs.Common.{ℕ, suc, ◌≡◌, ◌+◌, ◌/◌, ◌^◌, ◌<◌, drop, ◌==◌, ◌&&◌, ◌||◌, ◌∙◌, nat_eq, ap, refl, sym, Bool, true, false, not, List, [], ◌∷◌, ◌++◌, codes, decimal, flat_map, length, append_assoc, Option, Result, Ok, arith}
 use Rattle.std.specs.Char.{is_ascii_whitespace, is_digit}
 use Rattle.std.specs.Int.{to_be_bytes, w16, w64}
 use Rattle.std.specs.List.{ends_with, list_all, starts_with}
-use Rattle.std.specs.Option.{ok_or}
+use Rattle.std.specs.Option.{ok_or, option_map_or}
 use Rattle.std.proofs.lemmas.Bool.{and_from, and_parts, eqb-true, false≢true, ne_eqb, not-true}
 use Rattle.std.proofs.lemmas.Fmt.{decimal_nonempty}
 use Rattle.hex.specs.Hex.{encode_lower}
@@ -13,6 +13,7 @@ use Rattle.step_results.proofs.ListLemmas.{all_joined}
 use Rattle.step_results.specs.Steps.{◌>>=◌}
 use Rattle.text_parts.specs.Parts.{guid_text, hex_text}
 use Rattle.text_words.specs.Cut.{cut_at}
+use Rattle.text_words.specs.Failure.{is_failure}
 use Rattle.dump_file.specs.Destination.{destination_in, end_port_in, named_in, of_kind_or, router_in, said_in, switch_in}
 use Rattle.dump_file.specs.Dump.{is_passed_over}
 use Rattle.dump_file.specs.Heading.{guid_behind_way, heading_in, is_by_lid, is_way}
@@ -26,6 +27,14 @@ use Rattle.fabric_tables.specs.Digits.{short_hex_text, three_digits}
 use Rattle.fabric_tables.specs.Tables.{hop_text, route_text, type_text}
 use Rattle.printed_loads_laws.proofs.NumberLemmas.{and_false, apart, decimal_digits, guid_digits, guid_read, lid_digits, lid_read, no_x, short_read, three_all, three_read}
 use Rattle.printed_loads_laws.proofs.TextLemmas.{behind_first, between_both, cut_here, cut_there, ends, is_one_line, trimmed_blank, trimmed_line}
+
+-- ---- no line says that a program failed
+pub no_failure : (front rest : List ℕ) → list_all (λ byte. not (byte == 32)) front ≡ true → starts_with nat_eq rest (codes "iberror: ") ≡ false
+    → is_failure (front ++ 32 ∷ rest) ≡ false
+no_failure front rest apart other =
+    ap (λ (found : Option (List ℕ × List ℕ)).
+    option_map_or (λ parts. ends_with nat_eq parts.0 (codes ":") && starts_with nat_eq parts.1 (codes "iberror: ")) found false) (cut_there 32 front rest apart)
+    ∙ ap (λ (b : Bool). ends_with nat_eq front (codes ":") && b) other ∙ and_false (ends_with nat_eq front (codes ":"))
 
 -- ---- the last byte is no blank
 abbrev pub ends_plain : List ℕ → Bool
@@ -163,6 +172,9 @@ module _ (top guid : ℕ) (path name : List ℕ) (top_fits : top < 65536) (guid_
       ∙ ap (λ (text : List ℕ). short ++ 93 ∷ (codes " of switch DR path slid 0; dlid 0; 0" ++ text)) (ap (λ (text : List ℕ). hops ++ text) last_is)
       ∙ ap (λ (text : List ℕ). short ++ 93 ∷ (codes " of switch " ++ text)) (sym way_is))
 
+  pub heading_answers : is_failure heading_text ≡ false
+  heading_answers = refl
+
   pub heading_plain : ends_plain heading_text ≡ true
   heading_plain =
       let named = name ++ codes "):" in
@@ -274,6 +286,13 @@ module _ (lid entry guid : ℕ) (of : NodeType) (name : List ℕ) (lid_fits : li
       ∙ append_assoc (hex ++ codes " ") three (32 ∷ (codes ": (" ++ (inner ++ codes ")")))
       ∙ append_assoc hex (codes " ") (three ++ 32 ∷ (codes ": (" ++ (inner ++ codes ")")))
 
+  pub row_answers : is_failure row_text ≡ false
+  row_answers =
+      no_failure (hex_text (to_be_bytes w16 lid)) (three_digits entry ++ 32 ∷ (codes ": (" ++ (inner ++ codes ")")))
+      (hex_without 32 (to_be_bytes w16 lid) refl refl refl (lid_digits lid))
+      (ap (λ (b : Bool). b && starts_with nat_eq (drop 1 (three_digits entry) ++ 32 ∷ (codes ": (" ++ (inner ++ codes ")"))) (codes "berror: "))
+      (ne_eqb 105 (48 + entry / 100) (λ same. omega (arith, same, entry_fits))))
+
   pub row_plain : ends_plain row_text ≡ true
   row_plain =
       let hex = hex_text (to_be_bytes w16 lid) in
@@ -336,6 +355,9 @@ digits_begin (one ∷ ds) rest some all = (passed, by ds all)
 
 pub count_begins : (count : ℕ) → count < 2 ^ 64 → (is_passed_over (count_text count) ≡ false) × (starts_with nat_eq (count_text count) (codes "0x") ≡ false)
 count_begins count small = digits_begin (decimal count) (codes "valid lids dumped") (decimal_nonempty count small) (decimal_digits count)
+
+pub count_answers : (count : ℕ) → is_failure (count_text count) ≡ false
+count_answers count = no_failure (decimal count) (codes "valid lids dumped") (apart 10 32 refl (decimal count) (decimal_digits count)) refl
 
 pub count_cut : (count : ℕ) → cut 32 (count_text count) ≡ Ok (decimal count, codes "valid lids dumped")
 count_cut count = cut_here 32 (decimal count) (codes "valid lids dumped") (apart 10 32 refl (decimal count) (decimal_digits count))

@@ -2,14 +2,14 @@
 use Rattle.std.proofs.Common.{ℕ, zero, suc, ◌≡◌, ◌+◌, ◌-◌, ◌/◌, ◌%◌, ◌^◌, ◌<◌, ◌≤◌, ◌==◌, ◌&&◌, ◌||◌, ◌∙◌, nat_eq, nat_lt, ap, refl, sym, Bool, true, false, not, if◌then◌else◌, List, [], ◌∷◌, ◌++◌, codes, decimal, drop, filter, flat_map, length, take, append_assoc, is_some, Option, Some, None, Ok, Err, arith}
 use Rattle.std.specs.Char.{is_ascii_whitespace, is_digit}
 use Rattle.std.specs.Int.{to_be_bytes, w16, w64}
-use Rattle.std.specs.List.{AllByRecursion, list_all, list_any, position_or_len, range_with_len, starts_with, suffix_len}
+use Rattle.std.specs.List.{AllByRecursion, ends_with, list_all, list_any, position_or_len, range_with_len, starts_with, suffix_len}
 use Rattle.std.specs.Option.{option_map_or}
 use Rattle.std.proofs.lemmas.Bool.{and_from, and_parts, eqb-true, false≢true, ne_eqb, not-true}
 use Rattle.std.proofs.lemmas.Fmt.{decimal_nonempty}
 use Rattle.std.proofs.lemmas.List.FromFn.{length-range_with_len}
 use Rattle.hex.specs.Hex.{encode_lower, encode_with}
 use Rattle.agent_rules.specs.declared.power_up.TheConstants.{MULTICAST_TABLE}
-use Rattle.dump_file.specs.Dump.{DraftState, after_line, after_text, are_mlids_counted, is_multicast_end, is_passed_over, nothing}
+use Rattle.dump_file.specs.Dump.{DraftState, after_line, after_text, after_words, are_mlids_counted, broken_off, is_multicast_end, is_passed_over, nothing}
 use Rattle.dump_file.specs.declared.fault.DumpCause.TheVariants.{Malformed}
 use Rattle.dump_file.specs.declared.table.Table.{Table}
 use Rattle.fabric_parts.specs.declared.lid.TheConstants.{FIRST_MULTICAST_LID}
@@ -27,10 +27,11 @@ use Rattle.switch_model.specs.Multicast.{is_in_masks}
 use Rattle.switch_model.specs.SwitchState.{SwitchState, num_ports}
 use Rattle.text_parts.specs.Parts.{guid_text, hex_text}
 use Rattle.text_words.specs.Cut.{cut_at}
+use Rattle.text_words.specs.Failure.{is_failure}
 use Rattle.text_words.specs.Lines.{lines}
 use Rattle.text_words.specs.Number.{number_in}
 use Rattle.topo_file.specs.declared.node.Node.{Node as PlannedNode}
-use Rattle.printed_loads_laws.proofs.LineLemmas.{digits_begin, ends_plain, hex_without, hops_without, plain_behind, trimmed_text, trimmed_text_blank}
+use Rattle.printed_loads_laws.proofs.LineLemmas.{digits_begin, ends_plain, hex_without, hops_without, no_failure, plain_behind, trimmed_text, trimmed_text_blank}
 use Rattle.printed_loads_laws.proofs.NumberLemmas.{apart, decimal_digits, decimal_read, guid_digits, lid_digits}
 use Rattle.printed_loads_laws.proofs.StepLemmas.{between_tables, got, line_taken, one_line_more, some_bytes}
 use Rattle.printed_loads_laws.proofs.TextLemmas.{cut_there, is_one_line}
@@ -68,10 +69,10 @@ passing tables = got nothing (after_text (between_tables tables).stage 0 (betwee
 module _ (tables : List Table) where
   -- a line that begins with a blank says nothing
   quiet_part : (number count : ℕ) (rest : List ℕ)
-      → (if is_passed_over (take count (32 ∷ rest)) then Ok (passing tables) else after_text (passing tables).stage number (passing tables) (take count (32 ∷ rest))) ≡ Ok (passing tables)
+      → (if is_passed_over (take count (32 ∷ rest)) then Ok (passing tables) else after_words number (passing tables) (take count (32 ∷ rest))) ≡ Ok (passing tables)
   quiet_part number zero rest = refl
   quiet_part number (suc count) rest =
-      ap (λ (b : Bool). if b then Ok (passing tables) else after_text (passing tables).stage number (passing tables) (32 ∷ take count rest))
+      ap (λ (b : Bool). if b then Ok (passing tables) else after_words number (passing tables) (32 ∷ take count rest))
       (some_bytes 32 (take count rest) refl)
 
   quiet_line : (number : ℕ) (rest : List ℕ) → after_line number (passing tables) (32 ∷ rest) ≡ Ok (passing tables)
@@ -79,55 +80,63 @@ module _ (tables : List Table) where
   quiet_line number rest = quiet_part number (length (32 ∷ rest) - suffix_len is_ascii_whitespace (32 ∷ rest)) rest
 
   -- ---- nor does one that begins with a number and two blanks
-  abbrev counted_behind : List ℕ → Bool
-  counted_behind text = option_map_or (λ (parts : List ℕ × List ℕ). are_mlids_counted parts.1) (cut_at (λ byte. byte == 32) text) false
+  abbrev passes_behind : (List ℕ → Bool) → List ℕ → Bool
+  passes_behind test text = option_map_or (λ (parts : List ℕ × List ℕ). test parts.1) (cut_at (λ byte. byte == 32) text) false
 
-  counted_later : (byte : ℕ) (text : List ℕ) → (byte == 32) ≡ false → counted_behind (byte ∷ text) ≡ counted_behind text
-  counted_later byte text other =
+  passes_later : (test : List ℕ → Bool) (byte : ℕ) (text : List ℕ) → (byte == 32) ≡ false → passes_behind test (byte ∷ text) ≡ passes_behind test text
+  passes_later test byte text other =
       let place = position_or_len (λ one. one == 32) text in
       let next : 1 + place + 1 ≡ suc (place + 1) = omega arith in
       let found : position_or_len (λ one. one == 32) (byte ∷ text) ≡ 1 + place = ap (λ (b : Bool). if not b then 1 + place else 0) other in
-      ap (λ (b : Bool). option_map_or (λ (parts : List ℕ × List ℕ). are_mlids_counted parts.1)
+      ap (λ (b : Bool). option_map_or (λ (parts : List ℕ × List ℕ). test parts.1)
       (if b || list_any (λ one. one == 32) text
       then Some (
         take (position_or_len (λ one. one == 32) (byte ∷ text)) (byte ∷ text),
         drop (position_or_len (λ one. one == 32) (byte ∷ text) + 1)
             (byte ∷ text),
       ) else None) false) other
-      ∙ ap (λ (n : ℕ). option_map_or (λ (parts : List ℕ × List ℕ). are_mlids_counted parts.1)
+      ∙ ap (λ (n : ℕ). option_map_or (λ (parts : List ℕ × List ℕ). test parts.1)
       (if list_any (λ one. one == 32) text then Some (take n (byte ∷ text), drop (n + 1) (byte ∷ text)) else None) false) found
-      ∙ ap (λ (n : ℕ). option_map_or (λ (parts : List ℕ × List ℕ). are_mlids_counted parts.1)
+      ∙ ap (λ (n : ℕ). option_map_or (λ (parts : List ℕ × List ℕ). test parts.1)
       (if list_any (λ one. one == 32) text then Some (take (1 + place) (byte ∷ text), drop n (byte ∷ text)) else None) false) next
       ∙ by (list_any (λ one. one == 32) text)
     where
       by : (b : Bool)
-          → option_map_or (λ (parts : List ℕ × List ℕ). are_mlids_counted parts.1)
+          → option_map_or (λ (parts : List ℕ × List ℕ). test parts.1)
           (if b then Some (
             take (1 + position_or_len (λ one. one == 32) text) (byte ∷ text),
             drop
                 (position_or_len (λ one. one == 32) text + 1) text,
           ) else None) false
-          ≡ option_map_or (λ (parts : List ℕ × List ℕ). are_mlids_counted parts.1)
+          ≡ option_map_or (λ (parts : List ℕ × List ℕ). test parts.1)
           (if b then Some (take (position_or_len (λ one. one == 32) text) text, drop (position_or_len (λ one. one == 32) text + 1) text) else None) false
       by true = refl
       by false = refl
 
-  not_counted : (front : List ℕ) (count : ℕ) (rest : List ℕ) → list_all (λ byte. not (byte == 32)) front ≡ true
-      → counted_behind (take count (front ++ 32 ∷ 32 ∷ rest)) ≡ false
-  not_counted front zero rest none = refl
-  not_counted [] (suc zero) rest none = refl
-  not_counted [] (suc (suc count)) rest none = refl
-  not_counted (byte ∷ front) (suc count) rest none =
+  not_passed : (test : List ℕ → Bool) → test [] ≡ false → ((text : List ℕ) → test (32 ∷ text) ≡ false) → (front : List ℕ) (count : ℕ) (rest : List ℕ)
+      → list_all (λ byte. not (byte == 32)) front ≡ true → passes_behind test (take count (front ++ 32 ∷ 32 ∷ rest)) ≡ false
+  not_passed test nothing blank front zero rest none = refl
+  not_passed test nothing blank [] (suc zero) rest none = nothing
+  not_passed test nothing blank [] (suc (suc count)) rest none = blank (take count rest)
+  not_passed test nothing blank (byte ∷ front) (suc count) rest none =
       let parts = and_parts (not (byte == 32)) _ none in
-      counted_later byte (take count (front ++ 32 ∷ 32 ∷ rest)) (not-true (byte == 32) parts.0) ∙ not_counted front count rest parts.1
+      passes_later test byte (take count (front ++ 32 ∷ 32 ∷ rest)) (not-true (byte == 32) parts.0) ∙ not_passed test nothing blank front count rest parts.1
 
-  no_end : (text : List ℕ) → counted_behind text ≡ false → is_multicast_end text ≡ false
+  last_false : (b c : Bool) → c ≡ false → b && c ≡ false
+  last_false true c is = is
+  last_false false c is = refl
+
+  answers : (text : List ℕ) → passes_behind (λ words. starts_with nat_eq words (codes "iberror: ")) text ≡ false → is_failure text ≡ false
+  answers text none = by (cut_at (λ byte. byte == 32) text) none
+    where
+      by : (o : Option (List ℕ × List ℕ)) → option_map_or (λ (parts : List ℕ × List ℕ). starts_with nat_eq parts.1 (codes "iberror: ")) o false ≡ false
+          → option_map_or (λ (parts : List ℕ × List ℕ). ends_with nat_eq parts.0 (codes ":") && starts_with nat_eq parts.1 (codes "iberror: ")) o false ≡ false
+      by None is = refl
+      by (Some parts) is = last_false (ends_with nat_eq parts.0 (codes ":")) (starts_with nat_eq parts.1 (codes "iberror: ")) is
+
+  no_end : (text : List ℕ) → passes_behind are_mlids_counted text ≡ false → is_multicast_end text ≡ false
   no_end text none = by (cut_at (λ byte. byte == 32) text) none
     where
-      last_false : (b c : Bool) → c ≡ false → b && c ≡ false
-      last_false true c is = is
-      last_false false c is = refl
-
       by : (o : Option (List ℕ × List ℕ)) → option_map_or (λ (parts : List ℕ × List ℕ). are_mlids_counted parts.1) o false ≡ false
           → option_map_or (λ (parts : List ℕ × List ℕ). is_some (number_in parts.0) && are_mlids_counted parts.1) o false ≡ false
       by None is = refl
@@ -135,13 +144,16 @@ module _ (tables : List Table) where
 
   number_part : (number count : ℕ) (front rest : List ℕ) → list_all (λ byte. not (byte == 32)) (48 ∷ front) ≡ true
       → (if is_passed_over (take count (48 ∷ front ++ 32 ∷ 32 ∷ rest)) then Ok (passing tables)
-      else after_text (passing tables).stage number (passing tables) (take count (48 ∷ front ++ 32 ∷ 32 ∷ rest)))
+      else after_words number (passing tables) (take count (48 ∷ front ++ 32 ∷ 32 ∷ rest)))
       ≡ Ok (passing tables)
   number_part number zero front rest none = refl
   number_part number (suc count) front rest none =
       let text = take count (front ++ 32 ∷ 32 ∷ rest) in
-      ap (λ (b : Bool). if b then Ok (passing tables) else after_text (passing tables).stage number (passing tables) (48 ∷ text)) (some_bytes 48 text refl)
-      ∙ ap (λ (b : Bool). Ok (if b then between_tables tables else passing tables)) (no_end (48 ∷ text) (not_counted (48 ∷ front) (suc count) rest none))
+      ap (λ (b : Bool). if b then Ok (passing tables) else after_words number (passing tables) (48 ∷ text)) (some_bytes 48 text refl)
+      ∙ ap (λ (b : Bool). if b then Ok (broken_off (passing tables)) else after_text (passing tables).stage number (passing tables) (48 ∷ text))
+      (answers (48 ∷ text) (not_passed (λ words. starts_with nat_eq words (codes "iberror: ")) refl (λ words. refl) (48 ∷ front) (suc count) rest none))
+      ∙ ap (λ (b : Bool). Ok (if b then between_tables tables else passing tables))
+      (no_end (48 ∷ text) (not_passed are_mlids_counted refl (λ words. refl) (48 ∷ front) (suc count) rest none))
 
   number_line : (number : ℕ) (front rest : List ℕ) → list_all (λ byte. not (byte == 32)) (48 ∷ front) ≡ true
       → after_line number (passing tables) (48 ∷ front ++ 32 ∷ 32 ∷ rest) ≡ Ok (passing tables)
@@ -185,6 +197,7 @@ module _ (tables : List Table) where
       line_taken number (passing tables) ((text ++ 32 ∷ []) ++ 10 ∷ []) text
       (trimmed_text_blank text (plain_behind (decimal count) 32 (codes "valid mlids dumped")))
       (digits_begin (decimal count) (codes "valid mlids dumped") some digits).0
+      (no_failure (decimal count) (codes "valid mlids dumped") (apart 10 32 refl (decimal count) digits) refl)
       ∙ last_text number (decimal count) some digits ended
 
   -- ---- the heading
@@ -192,7 +205,7 @@ module _ (tables : List Table) where
       → after_line number (between_tables tables) ((codes "Multicast mlids [" ++ front) ++ 10 ∷ []) ≡ Ok (passing tables)
   heading_line number front rest plain =
       line_taken number (between_tables tables) ((codes "Multicast mlids [" ++ front) ++ 10 ∷ []) (codes "Multicast mlids [" ++ front)
-      (trimmed_text (codes "Multicast mlids [" ++ front) plain) (some_bytes 77 (codes "ulticast mlids [" ++ front) refl)
+      (trimmed_text (codes "Multicast mlids [" ++ front) plain) (some_bytes 77 (codes "ulticast mlids [" ++ front) refl) refl
 
   abbrev is_text : ℕ → Bool
   is_text byte = not (byte == 10)

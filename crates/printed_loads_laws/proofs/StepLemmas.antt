@@ -5,8 +5,9 @@ use Rattle.std.proofs.lemmas.Bool.{eq-eqb, ne_eqb}
 use Rattle.fabric_parts.specs.declared.node_type.NodeType.{NodeType}
 use Rattle.step_results.specs.AtLine.{after_lines, on_line}
 use Rattle.step_results.specs.Steps.{◌>>=◌}
+use Rattle.text_words.specs.Failure.{is_failure}
 use Rattle.text_words.specs.Lines.{lines}
-use Rattle.dump_file.specs.Dump.{DraftState, after_line, after_text, count_reported, heading_reported, is_passed_over, new_heading, new_row, nothing, row_reported, rows_counted, with_heading, with_row, with_rows, with_table}
+use Rattle.dump_file.specs.Dump.{DraftState, after_line, after_text, after_words, broken_off, count_reported, heading_reported, is_passed_over, new_heading, new_row, nothing, row_reported, rows_counted, with_heading, with_row, with_rows, with_table}
 use Rattle.dump_file.specs.Parts.{count_in, trimmed}
 use Rattle.dump_file.specs.Row.{is_said_otherwise, may_follow, valid_count}
 use Rattle.dump_file.specs.Table.{place_of, rows_of}
@@ -14,7 +15,7 @@ use Rattle.dump_file.specs.declared.fault.DumpCause.{DumpCause}
 use Rattle.dump_file.specs.declared.fault.DumpCause.TheVariants.{DuplicateTable, Malformed, TwoEndPorts, WrongCount, WrongLid}
 use Rattle.dump_file.specs.declared.row.Row.{Row}
 use Rattle.dump_file.specs.declared.table.Table.{Table}
-use Rattle.printed_loads_laws.proofs.LineLemmas.{count_begins, count_cut, count_plain, count_text, destination_by, heading_plain, heading_read, heading_text, row_plain, row_read, row_text, trimmed_text, trimmed_text_blank}
+use Rattle.printed_loads_laws.proofs.LineLemmas.{count_answers, count_begins, count_cut, count_plain, count_text, destination_by, heading_answers, heading_plain, heading_read, heading_text, row_answers, row_plain, row_read, row_text, trimmed_text, trimmed_text_blank}
 use Rattle.printed_loads_laws.proofs.NumberLemmas.{decimal_read}
 use Rattle.printed_loads_laws.proofs.TextLemmas.{first_line, is_one_line}
 
@@ -52,12 +53,13 @@ one_line_more number so_far next line rest one is =
     ∙ ap (λ (found : Result DraftState DumpCause). on_line number found >>= λ state. after_lines after_line (number + 1) state (lines rest)) is
 
 -- what counts of a line
-pub line_taken : (number : ℕ) (so_far : DraftState) (line text : List ℕ) → trimmed line ≡ text → is_passed_over text ≡ false
+pub line_taken : (number : ℕ) (so_far : DraftState) (line text : List ℕ) → trimmed line ≡ text → is_passed_over text ≡ false → is_failure text ≡ false
     → after_line number so_far line ≡ after_text so_far.stage number so_far text
 unfolding after_line
-line_taken number so_far line text is counts =
-    ap (λ (some : List ℕ). if is_passed_over some then Ok so_far else after_text so_far.stage number so_far some) is
-    ∙ ap (λ (b : Bool). if b then Ok so_far else after_text so_far.stage number so_far text) counts
+line_taken number so_far line text is counts answers =
+    ap (λ (some : List ℕ). if is_passed_over some then Ok so_far else after_words number so_far some) is
+    ∙ ap (λ (b : Bool). if b then Ok so_far else after_words number so_far text) counts
+    ∙ ap (λ (b : Bool). if b then Ok (broken_off so_far) else after_text so_far.stage number so_far text) answers
 
 pub some_bytes : (byte : ℕ) (rest : List ℕ) → nat_eq 35 byte ≡ false → is_passed_over (byte ∷ rest) ≡ false
 some_bytes byte rest other =
@@ -70,7 +72,7 @@ module _ (tables : List Table) where
   heading_step number top guid path name top_fits guid_fits new =
       let text = heading_text top guid path name top_fits guid_fits in
       line_taken number (between_tables tables) (text ++ 10 ∷ []) text (trimmed_text text (heading_plain top guid path name top_fits guid_fits))
-      (some_bytes 85 (drop 1 text) refl)
+      (some_bytes 85 (drop 1 text) refl) (heading_answers top guid path name top_fits guid_fits)
       ∙ ap (λ (found : Result _ DumpCause). with_heading (between_tables tables) (found >>= λ heading. new_heading (between_tables tables) heading))
       (heading_read top guid path name top_fits guid_fits number)
       ∙ ap (λ (o : Option ℕ). with_heading (between_tables tables)
@@ -80,13 +82,13 @@ module _ (tables : List Table) where
       → after_line number (headed tables line guid top) (codes "  Lid  Out   Destination" ++ 10 ∷ []) ≡ Ok (half_titled tables line guid top)
   first_title_step number line guid top =
       line_taken number (headed tables line guid top) (codes "  Lid  Out   Destination" ++ 10 ∷ []) (codes "  Lid  Out   Destination")
-      (trimmed_text (codes "  Lid  Out   Destination") refl) refl
+      (trimmed_text (codes "  Lid  Out   Destination") refl) refl refl
 
   pub second_title_step : (number line guid top : ℕ)
       → after_line number (half_titled tables line guid top) (codes "       Port     Info " ++ 10 ∷ []) ≡ Ok (titled tables line guid top)
   second_title_step number line guid top =
       line_taken number (half_titled tables line guid top) (codes "       Port     Info " ++ 10 ∷ []) (codes "       Port     Info")
-      (trimmed_text_blank (codes "       Port     Info") refl) refl
+      (trimmed_text_blank (codes "       Port     Info") refl) refl refl
 
   pub row_step : (number line of_switch top : ℕ) (rows : List Row) (lid entry guid : ℕ) (of : NodeType) (name : List ℕ) (lid_fits : lid < 65536)
       (entry_fits : entry < 256)
@@ -100,7 +102,7 @@ module _ (tables : List Table) where
       let state = in_rows tables line of_switch top rows in
       let row : Row = record { lid = lid; port = entry; destination = destination_by of guid } in
       line_taken number state (text ++ 10 ∷ []) text (trimmed_text text (row_plain lid entry guid of name lid_fits entry_fits guid_fits))
-      (some_bytes 48 (drop 1 text) refl)
+      (some_bytes 48 (drop 1 text) refl) (row_answers lid entry guid of name lid_fits entry_fits guid_fits)
       ∙ ap (λ (found : Result Row DumpCause). with_row state (found >>= λ one. new_row state (record { line = line; guid = of_switch; top = top; by_lid = false }) one))
       (row_read lid entry guid of name lid_fits entry_fits guid_fits)
       ∙ ap (λ (b : Bool). with_row state (if not b then Err WrongLid else (if is_said_otherwise (rows_of tables ++ rows) row then Err TwoEndPorts else Ok row))) follows
@@ -114,7 +116,7 @@ module _ (tables : List Table) where
       let count = valid_count rows in
       let text = count_text count in
       let state = in_rows tables line guid top rows in
-      line_taken number state ((text ++ 32 ∷ []) ++ 10 ∷ []) text (trimmed_text_blank text (count_plain count)) (count_begins count small).0
+      line_taken number state ((text ++ 32 ∷ []) ++ 10 ∷ []) text (trimmed_text_blank text (count_plain count)) (count_begins count small).0 (count_answers count)
       ∙ ap (λ (b : Bool). if b then with_row state (row_reported state (record { line = line; guid = guid; top = top; by_lid = false }) text) else with_table state
       (record { line = line; guid = guid; top = top; by_lid = false }) (count_reported rows text)) (count_begins count small).1
       ∙ ap (λ (found : Result (List ℕ × List ℕ) DumpCause).
