@@ -4,7 +4,7 @@
     tests/oracle/as_read.py TOPOLOGY LISTING KEYS
 
 LISTING is what `fabric check` prints, and KEYS what `fabric keys` prints. It writes netdiscover and pkeys into this folder. Switch
-ports that face adapters enforce partitions in both directions."""
+ports that face adapters enforce partitions in both directions, and no others do."""
 
 import sys
 
@@ -73,6 +73,7 @@ for name, (kind, guid, ports) in nodes.items():
             ask_keys(f"{lid(name, port)} {port}", f"{name}/{port}")
         else:
             ask_keys(f"{lid(name, 0)} {port}", f"{name}/{port}")
-            ask(f"portinfo {lid(name, 0)} {port}", ["PartEnforceInb:....1", "PartEnforceOutb:....1"])
+            bit = int(nodes[far][0] == "adapter")
+            ask(f"portinfo {lid(name, 0)} {port}", [f"PartEnforceInb:....{bit}", f"PartEnforceOutb:....{bit}"])
 open("netdiscover", "w").write("\n".join(found) + "\n")
 open("pkeys", "w").write("\n".join(asked) + "\n")

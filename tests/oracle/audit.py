@@ -1,6 +1,6 @@
 #!/usr/bin/env python3
 """Works out anew what `fabric audit` has to print of a fabric and a dump, and its status:
-    tests/oracle/audit.py FABRIC DUMP
+    tests/oracle/audit.py FABRIC DUMP [--all]
 FABRIC is a topology, or what ibnetdiscover printed. It knows nothing of the program: it reads lines by patterns, follows each
 LID with a set of switches seen, and looks for circles by a search from each channel.
 """
@@ -71,14 +71,18 @@ class Found:
 
 
 def read_dump(file):
-    """Of each switch, by its GUID, the top of its table and its rows by LID."""
-    tables, rows = {}, None
+    """Of each switch, by its GUID, the top of its table and its rows by LID. A table counts at its last line."""
+    tables, rows, switch, top = {}, None, 0, 0
     for line in open(file):
         heading = re.match(r"Unicast lids \[0x0-(0x[0-9a-f]+)\] of switch .* guid (0x[0-9a-f]+) \(", line)
         row = re.match(r"(0x[0-9a-f]+) (\d+) : \((.*)\)\s*$", line)
         if heading:
-            rows = {}
-            tables[int(heading[2], 16)] = int(heading[1], 16), rows
+            switch, top, rows = int(heading[2], 16), int(heading[1], 16), {}
+        elif rows is not None and re.match(r"\w+ (valid )?lids dumped", line):
+            tables[switch] = top, rows
+            rows = None
+        elif re.match(r"\S+: iberror: ", line):
+            rows = None
         elif row and rows is not None:
             guid = re.search(r"portguid (0x[0-9a-f]+)", row[3])
             kind = re.match(r"Channel Adapter|Switch|Router|node info not available", row[3])
@@ -143,16 +147,35 @@ class Net:
         """The LID, and the port that has it."""
         return f"{lid} ({self.port(self.ends[lid])})" if lid in self.ends else f"{lid}"
 
-    def closing(self, ring, lids):
-        """The LIDs by which each channel of a circle waits for the next."""
-        def leaves(at, lid):
-            return self.entry(at[0], lid) == at[1]
+    def hops(self, place, lid):
+        """The ports by which packets of the LID leave switches, from this one on, until they end or come back."""
+        seen = set()
+        while place not in seen:
+            seen.add(place)
+            kind, what = self.turn(place, lid)
+            if kind != "goes":
+                return
+            yield place, self.entry(place, lid)
+            place = what
 
-        for a, b in zip(ring, ring[1:] + ring[:1]):
-            yield self.whose(min(lid for lid in lids if leaves(a, lid) and leaves(b, lid)))
+    def used(self, lid):
+        """The ports by which packets of hosts leave switches for other switches."""
+        return {at for place in self.attached for at in self.hops(place, lid)}
 
-    def circle_line(self, word, ring, lids):
-        return f"{word} {' '.join(map(self.port, ring))} by LIDs {' '.join(self.closing(ring, lids))}"
+    def steps(self, lids, by_hosts=()):
+        """Of each two ports that packets leave by one behind the other, the LIDs. For these LIDs packets of hosts count alone."""
+        steps = collections.defaultdict(set)
+        for lid in lids:
+            froms = self.used(lid) if lid in by_hosts else {(place, self.entry(place, lid)) for place in self.switches}
+            for at in froms:
+                there = self.far.get(at)
+                if there and self.is_switch(there[0]):
+                    steps[at, (there[0], self.entry(there[0], lid))].add(lid)
+        return steps
+
+    def circle_line(self, word, ring, steps):
+        closing = (self.whose(min(steps[step])) for step in zip(ring, ring[1:] + ring[:1]))
+        return f"{word} {' '.join(map(self.port, ring))} by LIDs {' '.join(closing)}"
 
     def entry(self, place, lid):
         """A port, `None`, or 'unknown'."""
@@ -197,6 +220,8 @@ class Net:
     def files(self):
         for a, b in self.apart:
             yield f"# passed over: {self.port(a)} {self.port(b)}"
+        if not self.switches:
+            yield "# no switches"
         for place in self.switches:
             if self.nodes[place].guid not in self.tables:
                 yield f"no-table {self.name(place)}"
@@ -220,6 +245,8 @@ class Net:
             row = rows.get(lid)
             if row and row.kind == "node info not available" and row.port != 255:
                 yield f"stray {self.name(place)} {lid}"
+            if kind == "unknown" and self.nodes[place].guid in self.tables and self.is_fed(place, lid):
+                yield f"left-out {self.name(place)} {lid}"
         elif kind == "hole":
             yield f"hole {self.name(place)} {self.whose(lid)}"
         elif kind == "unknown" and self.nodes[place].guid in self.tables:
@@ -232,26 +259,47 @@ class Net:
         if ring and min(ring) == place:
             yield f"loop {self.whose(lid)} {' '.join(map(self.name, ring))}"
 
+    def is_fed(self, place, lid):
+        """Some switch sends the LID there."""
+        return any(self.turn(other, lid) == ("goes", place) for other in self.switches)
+
+    def named(self, places):
+        """How many switches, and the names of eight."""
+        more = [f"and {len(places) - 8} more"] if len(places) > 8 else []
+        return f"{len(places)} switches: " + " ".join([*map(self.name, places[:8]), *more])
+
+    def unreached(self, hosts):
+        """The LIDs of hosts that packets from some switch with a host are lost on their way to."""
+        for lid in hosts:
+            places = [place for place in self.attached if self.fate(place, lid) not in ("reached", "unknown")]
+            if places:
+                yield f"unreached {self.whose(lid)} from {self.named(places)}"
+
+    def unknown(self, hosts, others):
+        """The LIDs whose entry is unknown at a switch that has a table, and to which packets come."""
+        for lid in others:
+            lacking = [place for place in self.switches if self.nodes[place].guid in self.tables and self.entry(place, lid) == "unknown"]
+            places = [place for place in lacking if (lid in hosts and place in self.attached) or self.is_fed(place, lid)]
+            if places:
+                yield f"unknown {self.whose(lid)} at {self.named(places)}"
+
     def asks(self):
         """The switches whose table may lack rows of ports from 128 on, by their LIDs."""
         for place in self.switches:
             if self.nodes[place].ports < 128 or self.nodes[place].guid not in self.tables:
                 continue
-            if any(lid in self.ends and self.turn(place, lid)[0] == "unknown" for lid in self.lids):
+            if any(self.turn(place, lid)[0] == "unknown" and (lid in self.ends or self.is_fed(place, lid)) for lid in self.lids):
                 for lid in [lid for lid in self.lids if self.ends.get(lid) == (place, 0)][:1]:
                     yield f"# ask: ibroute {lid}, and append its table to the dump"
 
-    def circle(self, lids):
-        """The shortest circle through the least channel that is on one, by the least channel at each step."""
+    def circle(self, steps):
+        """The shortest circle of these steps through the least channel that is on one, by the least channel at each step."""
         ports = [(place, number) for place in self.switches for number in range(1, self.nodes[place].ports + 1)]
         channels = {at for at in ports if at in self.far and self.nodes[self.far[at][0]].is_switch}
         nexts = {at: set() for at in channels}
-        for at in channels:
-            there = self.far[at][0]
-            for lid in lids:
-                after = (there, self.entry(there, lid))
-                if self.entry(at[0], lid) == at[1] and after in channels:
-                    nexts[at].add(after)
+        for at, after in steps:
+            if at in channels and after in channels:
+                nexts[at].add(after)
         for home in sorted(channels):
             # how many steps lead home from each
             steps, front = {}, {home}
@@ -275,20 +323,26 @@ class Net:
         kind, what = self.turn(place, lid)
         return kind != "goes" or self.turn(what, lid)[0] != "unknown"
 
-    def audit(self):
-        """The lines, and the status."""
+    def audit(self, whole=False):
+        """The lines, with all those by switch and LID or with their number, and the status."""
         hosts = [lid for lid in self.lids if lid in self.ends and self.is_host(self.ends[lid][0])]
         aggregation = [lid for lid in self.lids if lid in self.ends and self.nodes[self.ends[lid][0]].is_aggregation]
         own = [lid for lid in self.lids if lid in self.ends and self.is_switch(self.ends[lid][0])]
         others = [lid for lid in self.lids if lid not in own]
-        ring = self.circle(others)
-        other = None if ring else self.circle(self.lids)
+        words = {"deadlock": self.steps(others, aggregation), "deadlock aggregation-lids": self.steps(others), "deadlock switch-lids": self.steps(self.lids)}
+        circles = {}
+        for word, steps in words.items():
+            circles[word] = None if any(circles.values()) else self.circle(steps)
+        ring = circles["deadlock"]
         lines = list(self.files())
         unnamed = any(line.startswith("no-lid") for line in lines)
-        lines += [line for place in self.switches for lid in self.lids for line in self.trouble(place, lid)]
+        lines += self.unreached(hosts)
+        lines += self.unknown(hosts, others)
         lines += self.asks()
-        lines += [self.circle_line("deadlock", ring, others)] if ring else []
-        lines += [self.circle_line("deadlock switch-lids", other, self.lids)] if other else []
+        lines += [self.circle_line(word, found, words[word]) for word, found in circles.items() if found]
+        troubles = [line for place in self.switches for lid in self.lids for line in self.trouble(place, lid)]
+        counted = [f"# {len(troubles)} lines by switch and LID: --all prints them"] if troubles else []
+        lines += troubles if whole else counted
         transit = [place for place in self.switches if place not in self.attached]
         groups = [
             ("adapters", [(place, lid) for place in self.attached for lid in hosts], ", deadlock" if ring else ", no deadlock"),
@@ -296,7 +350,7 @@ class Net:
             ("aggregation", [(place, lid) for place in self.switches for lid in aggregation], ""),
             ("switches", [(place, lid) for place in self.switches for lid in own], ""),
         ]
-        groups.append(("audit", [pair for _, pairs, _ in groups for pair in pairs], ", deadlock" if ring or other else ", no deadlock"))
+        groups.append(("audit", [pair for _, pairs, _ in groups for pair in pairs], ", deadlock" if any(circles.values()) else ", no deadlock"))
         for title, pairs, words in groups:
             if title == "aggregation" and not pairs:
                 continue
@@ -322,6 +376,6 @@ class Net:
 
 
 if __name__ == "__main__":
-    lines, status = Net(*sys.argv[1:]).audit()
+    lines, status = Net(*sys.argv[1:3]).audit(whole="--all" in sys.argv[3:])
     print("\n".join(lines))
     sys.exit(status)

@@ -68,14 +68,16 @@ class Fabric:
 
 
 def answers(file):
-    """By the words of their queries: the fields of an answer, or the words of a table; nothing if it is not whole."""
-    found, words, rows, fields = {}, None, [], {}
+    """By the words of their queries: the fields of an answer, or the words of a table; nothing if it is not whole, or the query failed."""
+    found, words, rows, fields, failed = {}, None, [], {}, False
     for line in [*open(file, errors="replace"), "# smpquery end"]:
         line = line.rstrip()
         if line.startswith("# smpquery "):
             if words:
-                found[words] = fields
-            words, rows, fields = tuple(line.split()[2:]), [], {}
+                found[words] = {} if failed else fields
+            words, rows, fields, failed = tuple(line.split()[2:]), [], {}, False
+        elif failed or re.match(r"[^ ]*: iberror: ", line):
+            failed = True
         elif re.match(r"\s*\d+: ", line):
             rows += [int(key, 16) for key in line.split()[1:]]
         elif line.endswith("pkeys capacity for this port"):
@@ -87,10 +89,11 @@ def answers(file):
 
 
 def memberships(file, fabric, manager):
-    """The keys that the file gives each end, and those that OpenSM reads in it, by its GUID; and the GUIDs that it lists."""
+    """The keys that the file gives each end, and those that OpenSM reads in it, by its GUID; the GUIDs that it lists, and the bases that
+    an end has by it."""
     if file == "-":
         given = {end.guid: [0xFFFF] for end in fabric.ends}
-        return given, given, []
+        return given, given, [], [0x7FFF] if given else []
     text = re.sub(r"#.*", "", open(file).read())
     items = collections.OrderedDict({0x7FFF: []})
     ruled = False
@@ -109,8 +112,7 @@ def memberships(file, fabric, manager):
     listed_guids = [int(port, 16) for listed in items.values() for port, _ in listed if port.startswith("0x")]
     words = items[0x7FFF]
     built_in = [("ALL", False), ("SELF", True)]
-    # A rule that says `ALL=limited` alone is read as none.
-    opensms = {**items, 0x7FFF: built_in + ([] if words == [("ALL", False)] else words)}
+    opensms = {**items, 0x7FFF: built_in + words}
     if not ruled:
         items[0x7FFF] = [("ALL", False)]
     items[0x7FFF] = items[0x7FFF] + [("SELF", True)]
@@ -124,7 +126,7 @@ def memberships(file, fabric, manager):
                 given[end.guid].append(base | (0x8000 if any(met) else 0))
             if last:
                 read[end.guid].append(base | (0x8000 if last[-1] else 0))
-    return given, read, list(dict.fromkeys(listed_guids))
+    return given, read, list(dict.fromkeys(listed_guids)), [one for one in items if any(one == key & 0x7FFF for keys in given.values() for key in keys)]
 
 
 def base(key):
@@ -147,7 +149,7 @@ class Audit:
         self.answers = answers(pkeys)
         self.all_pairs = all_pairs
         self.manager = manager or self.fabric.manager
-        self.given, self.opensms, self.listed = memberships(partitions, self.fabric, self.manager)
+        self.given, self.opensms, self.listed, self.bases = memberships(partitions, self.fabric, self.manager)
         self.keys, self.facing, self.cut, self.moved, self.unread = [], [], [], [], []
         self.counts = collections.Counter()
         self.clean = self.agrees = True
@@ -177,19 +179,19 @@ class Audit:
             self.moved.append(f"moved {end.name} {end.lid} 0x{end.guid:016x} 0x{int(node[field], 16):016x}")
             self.clean = False
             return None
-        table = self.table(end.lid, end.number, 0)
+        table = self.table(end.lid, end.number, 0) if node else None
         if table is None:
             self.unread.append(f"unread {end.name}")
             self.clean = False
             return None
-        held, given = [key for key in table if base(key)], self.given[end.guid]
+        held, given = list(dict.fromkeys(key for key in table if base(key))), self.given[end.guid]
         missing = lacking(given, held)
         changed = [key for key in held if key not in given and base(key) in {base(other) for other in given}]
         opensms = self.opensms[end.guid]
         self.note(self.keys, "extra", end.name, lacking(held, given), lambda key: key in opensms)
         self.note(self.keys, "missing", end.name, missing, lambda key: lacking([key], opensms))
         self.note(self.keys, "membership", end.name, changed, lambda key: key in opensms)
-        if missing and len(held) == len(table):
+        if missing and all(map(base, table)):
             self.keys.append(f"full {end.name}")
             self.counts["full"] += 1
         if set(held) == set(given):
@@ -203,7 +205,7 @@ class Audit:
         port = f"{name}/{end.far[1]}"
         self.counts["faced"] += 1
         node, lid = self.node(switch["lid"]), str(switch["lid"])
-        known = not node or int(node["Guid"], 16) == switch["guid"]
+        known = node and int(node["Guid"], 16) == switch["guid"]
         info = self.answers.get(("portinfo", lid, str(end.far[1])), {}) if known else {}
         table = self.table(lid, end.far[1]) if known else None
         if not {"PartEnforceInb", "PartEnforceOutb"} <= info.keys():
@@ -224,7 +226,7 @@ class Audit:
             self.counts["unread switch"] += 1
             self.clean = False
         elif held is not None:
-            keys = [key for key in table if base(key)]
+            keys = list(dict.fromkeys(key for key in table if base(key)))
             self.note(self.facing, "lacks", port, [base(key) for key in lacking(held, keys)])
             self.cut += [(port, end, base(key)) for key in lacking(held, keys)]
             self.note(self.facing, "more", port, [base(key) for key in lacking(keys, held)])
@@ -256,6 +258,24 @@ class Audit:
             others = sum(talk(wanted, held[end.guid], keys) for other, keys in read if other is not end)
             if others:
                 yield f"cut {port} 0x{wanted:04x} {others}"
+
+    def trunks(self):
+        """What ports between switches lack that drop packets."""
+        for name, switch in self.fabric.switches.values():
+            node, lid = self.node(switch["lid"]), str(switch["lid"])
+            for number, _, far, _, _ in switch["ports"] if node and int(node["Guid"], 16) == switch["guid"] else []:
+                info, table = self.answers.get(("portinfo", lid, str(number)), {}), self.table(lid, number)
+                drops = {"PartEnforceInb", "PartEnforceOutb"} <= info.keys() and "1" in info["PartEnforceInb"] + info["PartEnforceOutb"]
+                if far in self.fabric.switches and drops and table is not None:
+                    yield from (f"trunk {name}/{number} lacks 0x{one:04x}" for one in self.bases if one not in map(base, table))
+
+    def wide(self, read):
+        """The partitions in which the file lets at least half of the pairs of ports talk that were read."""
+        pairs = list(itertools.combinations([self.given[end.guid] for end, _ in read], 2))
+        for wanted in sorted(self.bases):
+            count = sum(talk(wanted, one, other) for one, other in pairs)
+            if count and 2 * count >= len(pairs):
+                yield f"by the file: {count} of {len(pairs)} pairs may talk in 0x{wanted:04x}"
 
     def diagnosis(self, read, alone):
         lines = []
@@ -294,11 +314,13 @@ class Audit:
                 read.append((end, held))
             if end.far:
                 self.faced(end, held)
-        count = self.counts
+        count, trunks = self.counts, list(self.trunks())
+        if trunks:
+            self.clean = self.agrees = False
         alone, pairs = self.partitions(read)
         facing = ["off everywhere"] if count["faced"] and count["off"] == count["faced"] else self.facing
         verdict = "the tables follow the file" if self.clean else "not all tables were read; those that were follow the file" if self.agrees else "the tables do not follow the file"
-        return self.diagnosis(read, alone) + alone + pairs + self.keys + facing + list(self.cuts(read)) + self.moved + self.unread + list(self.strangers()) + [
+        return self.diagnosis(read, alone) + alone + pairs + self.keys + facing + list(self.cuts(read)) + trunks + self.moved + self.unread + list(self.strangers()) + list(self.wide(read)) + [
             f"ports: {len(self.fabric.ends)}, {count['as the file']} as the file, {len(self.unread)} unread, {len(self.moved)} moved",
             f"keys: {count['extra']} extra, {count['missing']} missing, {count['membership']} of other membership",
             f"switch ports: {count['faced']}, {count['off']} off, {count['half']} half, {count['unread switch']} unread",
@@ -370,7 +392,7 @@ def make(seed):
     open("partitions", "w").write("\n".join(rules) + "\n")
 
     fabric = Fabric("netdiscover")
-    given, _, _ = memberships("partitions", fabric, fabric.manager)
+    given, _, _, bases = memberships("partitions", fabric, fabric.manager)
 
     # Some files have a GUID that is none, so OpenSM dropped them.
     dropped = chance.randrange(8) == 0
@@ -388,15 +410,25 @@ def make(seed):
             place = chance.randrange(len(keys))
             keys[place] = chance.choice([0, keys[place] ^ 0x8000, 0x8000, 0x7777, 0x8003])
         if chance.randrange(6) == 0:
-            keys.append(chance.choice([0x8001, 0x0002, 0x8055, 0xFFFF]))
+            keys.append(chance.choice([0x8001, 0x0002, 0x8055, 0xFFFF, *keys]))
         return table_text(keys, capacity)
 
     out = []
 
+    def failure(words):
+        return f"{chance.choice(['', '/usr/sbin/'])}smpquery: iberror: failed: operation {words.split()[0]}: node info query failed"
+
     def ask(words, answer):
         out.append("# smpquery " + words)
-        if chance.randrange(30):
-            out.extend(answer if chance.randrange(40) else answer[: chance.randrange(len(answer))])
+        way, place = chance.randrange(90), chance.randrange(len(answer) + 1)
+        if way == 0:
+            out.append(failure(words))
+        elif way == 1:
+            out.extend([*answer[:place], failure(words), *answer[place:], *chance.choice([[], ["broken off"]])])
+        elif way == 2:
+            out.extend(answer[:-1][:place])
+        elif way > 3:
+            out.extend(answer)
 
     def node_info(lid, guid, port):
         moved = chance.choice([0] * 25 + [0x40])
@@ -406,14 +438,17 @@ def make(seed):
         ask(f"nodeinfo {switch['lid']}", node_info(switch["lid"], switch["guid"], switch["guid"]))
         ask(f"pkeys {switch['lid']} 0", edited(given[switch["guid"]], chance.choice([8, 12, 32])))
         for port, (far, number) in sorted(switch["ports"].items()):
-            keys = [0xFFFF] if isinstance(far["ports"], dict) else given[far["guid"] + number]
+            is_trunk = isinstance(far["ports"], dict)
+            keys = chance.choice([[0xFFFF], bases, bases]) if is_trunk else given[far["guid"] + number]
             ask(f"pkeys {switch['lid']} {port}", edited(keys, chance.choice([8, 32])))
-            bits = chance.choice(["11"] * 5 + ["01", "10", "00"])
+            bits = chance.choice(["00"] * 5 + ["01", "10", "11"] if is_trunk else ["11"] * 5 + ["01", "10", "00"])
             ask(f"portinfo {switch['lid']} {port}", [f"# Port info: Lid {switch['lid']} port {port}", "CapMask:....0x2", "\t\tIsSM", f"PartEnforceInb:..{bits[0]}", f"PartEnforceOutb:.{bits[1]}"])
     for node in adapters:
         for port in node["ports"]:
             ask(f"nodeinfo {port['lid']}", node_info(port["lid"], node["guid"], port["guid"]))
             ask(f"pkeys {port['lid']}{chance.choice(['', ' ' + str(port['number'])])}", edited(given[port["guid"]], chance.choice([8, 64, 128])))
+    if chance.randrange(20) == 0:
+        out.insert(0, failure("nodeinfo"))
     open("pkeys", "w").write("\n".join(out) + "\n")
 
 

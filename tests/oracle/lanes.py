@@ -135,13 +135,13 @@ class Lanes:
         return lines, {word for word, holds in words if holds}
 
 
-def audit_with(net, lanes):
-    """All lines, and the status."""
-    routes, _ = net.audit()
+def audit_with(net, lanes, whole=False):
+    """The lines, with all those of the LFTs by switch and LID or with their number, and the status."""
+    routes, _ = net.audit(whole)
     found = re.search(r"not safe \(([^)]*)\)", routes[-1])
     words = set(found[1].split(", ")) if found else set()
     lines, others = Lanes(net, *lanes).lines()
-    if "deadlock" in words - others:
+    if "deadlock" in words - others and "unknown" not in others:
         lines.append("# lanes: by virtual lanes the deadlock above does not happen")
     lines.append("# lanes: packets of a path record use its SL; other packets are not judged")
     words = words - {"deadlock"} | others
@@ -151,6 +151,6 @@ def audit_with(net, lanes):
 
 
 if __name__ == "__main__":
-    lines, status = audit_with(audit.Net(*sys.argv[1:3]), read_lanes(sys.argv[3]))
+    lines, status = audit_with(audit.Net(*sys.argv[1:3]), read_lanes(sys.argv[3]), whole="--all" in sys.argv[4:])
     print("\n".join(lines))
     sys.exit(status)

@@ -6,6 +6,7 @@ may talk. It knows nothing of the program: it follows the packets of each pair o
 a switch.
 """
 import collections
+import itertools
 import re
 import sys
 
@@ -51,12 +52,13 @@ def tops(net):
 
 def level_lines(net, loads, channels):
     levels = distances(net)
-    for level in range(16):
-        numbers = [loads[at] for at in channels if levels.get(at[0]) == level]
+    steps = {"up": lambda step: step > 0, "across": lambda step: step == 0, "down": lambda step: step < 0}
+    for level, (word, fits) in itertools.product(range(16), steps.items()):
+        numbers = [loads[at] for at in channels if levels.get(at[0]) == level and fits(min(levels.get(net.far[at][0], 16), 16) - level)]
         if numbers:
             total = sum(numbers)
             ratio = max(numbers) * len(numbers) * 100 // total if total else 0
-            yield f"level {level} most {max(numbers)} mean {hundredths(total * 100 // len(numbers))} ratio {hundredths(ratio)}"
+            yield f"level {level} {word} most {max(numbers)} mean {hundredths(total * 100 // len(numbers))} ratio {hundredths(ratio)}"
 
 
 def memberships(file, guids, manager):

@@ -11,17 +11,20 @@ import sys
 sys.dont_write_bytecode = True
 import audit  # noqa: E402
 
-ORDER = ["no-lid", "unreached", "deadlock", "mismatch", "unknown", "multicast-loop", "multicast-copies"]
+ORDER = ["no-lid", "unreached", "deadlock", "mismatch", "unknown", "multicast-loop", "multicast-copies", "multicast-cut"]
 
 
 def read_mfts(file):
-    """Of each switch, by its GUID, the ports of the mask of each MLID."""
-    tables, rows = {}, None
+    """Of each switch, by its GUID, the ports of the mask of each MLID. An MFT counts at its last line."""
+    tables, rows, guid = {}, None, 0
     for line in open(file, errors="surrogateescape"):
         heading = re.match(r"Multicast mlids \[0xc000-0x[0-9a-f]+\] of switch .* guid (0x[0-9a-f]+) \(", line)
         if heading:
-            rows = tables.setdefault(int(heading[1], 16), {})
-        elif line.startswith("Unicast lids"):
+            guid, rows = int(heading[1], 16), {}
+        elif rows is not None and re.match(r"\w+ (valid )?mlids dumped", line):
+            tables[guid] = rows
+            rows = None
+        elif line.startswith("Unicast lids") or re.match(r"\S+: iberror: ", line):
             rows = None
         elif rows is not None and re.match(r"0x[cdef]", line):
             cells = line.rstrip()[12:]
@@ -56,6 +59,31 @@ class Masks:
                 return there
             met.add(there)
             flying.extend(self.next(at))
+        return None
+
+    def members(self, place):
+        """The ports of the switch that are in its mask, and lead to end ports."""
+        ends = ((number, self.net.far.get((place, number))) for number in sorted(self.ports[place]))
+        return [(place, number) for number, end in ends if number and end and not self.net.is_switch(end[0])]
+
+    def receives(self, place):
+        """The switches to which a packet that enters there comes."""
+        met, seen, flying = {place}, set(), list(self.outs(place))
+        while flying:
+            at = flying.pop()
+            if at not in seen:
+                seen.add(at)
+                met.add(self.net.far[at][0])
+                flying.extend(self.next(at))
+        return met
+
+    def cut(self):
+        """The first member that others do not receive, and these."""
+        members = [at for place in self.net.switches for at in self.members(place)]
+        for place in dict.fromkeys(at[0] for at in members):
+            met = self.receives(place)
+            if missed := [at for at in members if at[0] not in met]:
+                return self.members(place)[0], missed
         return None
 
     def loop(self):
@@ -95,7 +123,7 @@ def lines_of(net, tables):
                     lines.append(f"multicast {word} {net.name(place)} 0x{mlid:04x} port {number}")
     entrances = [place for place in net.switches if any(at[0] == place and not net.is_switch(end[0]) for at, end in net.far.items())]
     mlids = sorted({mlid for rows in tables.values() for mlid in rows})
-    loops = copies = 0
+    loops = copies = cuts = 0
     for mlid in mlids:
         masks = Masks(net, tables, mlid)
         if ring := masks.loop():
@@ -105,15 +133,19 @@ def lines_of(net, tables):
         if found:
             copies += 1
             lines.append(f"multicast copies 0x{mlid:04x} {net.name(found[1])} from {net.name(found[0])}")
-    lines.append(f"multicast: {len(mlids)} MLIDs, {loops} with a loop, {copies} with copies")
-    lines.append("# multicast: members that no packet reaches are unknown, since MFTs do not say who is a member")
-    words = [("mismatch", strange), ("unknown", lacking), ("multicast-loop", loops), ("multicast-copies", copies)]
+        if found := masks.cut():
+            cuts += 1
+            here, there = (net.port(net.far[at]) for at in (found[0], found[1][0]))
+            lines.append(f"multicast cut 0x{mlid:04x} {there} from {here}, and {len(found[1]) - 1} more")
+    lines.append(f"multicast: {len(mlids)} MLIDs, {loops} with a loop, {copies} with copies, {cuts} cut")
+    lines.append("# multicast: a member to which no mask leads is unknown, since MFTs do not say who is a member")
+    words = [("mismatch", strange), ("unknown", lacking), ("multicast-loop", loops), ("multicast-copies", copies), ("multicast-cut", cuts)]
     return lines, {word for word, holds in words if holds}
 
 
-def audit_with(net, tables):
-    """All lines, and the status."""
-    routes, _ = net.audit()
+def audit_with(net, tables, whole=False):
+    """The lines, with all those of the LFTs by switch and LID or with their number, and the status."""
+    routes, _ = net.audit(whole)
     found = re.search(r"not safe \(([^)]*)\)", routes[-1])
     lines, words = lines_of(net, tables)
     words |= set(found[1].split(", ")) if found else set()
@@ -124,6 +156,6 @@ def audit_with(net, tables):
 
 
 if __name__ == "__main__":
-    lines, status = audit_with(audit.Net(*sys.argv[1:3]), read_mfts(sys.argv[3]))
+    lines, status = audit_with(audit.Net(*sys.argv[1:3]), read_mfts(sys.argv[3]), whole="--all" in sys.argv[4:])
     print("\n".join(lines))
     sys.exit(status)
