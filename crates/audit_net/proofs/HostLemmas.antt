@@ -6,29 +6,22 @@ use Rattle.std.proofs.Math.ListN.{drop_of_length-le}
 use Rattle.std.proofs.lemmas.Bool.{and_from, and_parts, cases_Bool, cases_lt, false≢true}
 use Rattle.std.proofs.lemmas.Bool.Decides.{nat_tests}
 use Rattle.step_results.proofs.ListLemmas.{all_at}
+use Rattle.step_results.proofs.BoolLemmas.{or_assoc, or_false}
 use Rattle.topo_file.specs.Connectivity.{switches}
 use Rattle.topo_file.specs.Node.{is_switch_at}
 use Rattle.topo_file.specs.declared.node.Node.{Node}
+use Rattle.topo_file.specs.Rounds.{is_marked}
 use Rattle.audit_net.specs.declared.following.Turn.{Turn}
 use Rattle.audit_net.specs.declared.following.Turn.TheVariants as turns
 use Rattle.audit_net.specs.Attached.{carries_host}
 use Rattle.audit_net.specs.Following.{switch_total, turn}
 use Rattle.audit_net.specs.Hosts.{host_comes, hosts_come, hosts_marks}
 use Rattle.audit_net.specs.Laws.{ComesBy, GoesTo, HostsAreFollowed, HostsCome}
-use Rattle.audit_net.specs.Marked.{is_marked}
 use Rattle.audit_net.specs.Net.{NetState}
 use Rattle.audit_net.specs.Ways.{is_on, then_on, way, way_within}
 use Rattle.audit_net.proofs.EndlessLemmas.{any_of, is_listed, some_of, turn_goes, within_nodes}
 use Rattle.audit_net.proofs.WholeLemmas.{are_switches, ways_are_whole}
 use Rattle.audit_net.proofs.WayLemmas.{Stays, goes_step, stays_alone}
-
-or_moved : (a b c : Bool) → ((a || b) || c) ≡ (a || (b || c))
-or_moved true b c = refl
-or_moved false b c = refl
-
-or_last : (b : Bool) → (b || false) ≡ b
-or_last true = refl
-or_last false = refl
 
 -- ---- a walk along a way: what was marked, and what is left of the way, are what was marked before, and the whole way
 pub record AreWalked (net : NetState) (lid from count at : ℕ) (before marks : List Bool) : Type 0 where
@@ -45,7 +38,7 @@ marked_here : (net : NetState) (lid from count at : ℕ) (before marks after : L
 marked_here net lid from count at before marks after rest less so_far more goes there =
     let one : switch_total net - count ≡ suc (switch_total net - (count + 1)) = omega (arith, less) in
     ap (λ (b : Bool). b || is_on there rest) (more there)
-    ∙ or_moved (is_marked marks there) (at == there) (is_on there rest)
+    ∙ or_assoc (is_marked marks there) (at == there) (is_on there rest)
     ∙ ap (λ (xs : List ℕ). is_marked marks there || is_on there (at ∷ xs)) (sym goes)
     ∙ ap (λ (n : ℕ). is_marked marks there || is_on there (way_within net lid n at)) (sym one)
     ∙ so_far.marked there
@@ -64,7 +57,7 @@ pub walk_ends : (net : NetState) (lid from count at : ℕ) (before marks after :
     → AreWalked net lid from count at before marks → ((other : ℕ) → is_marked after other ≡ (is_marked marks other || (at == other)))
     → Stays net lid at → (there : ℕ) → is_marked after there ≡ (is_marked before there || is_on there (way net lid from))
 walk_ends net lid from count at before marks after less so_far more stays there =
-    sym (or_last (is_marked after there))
+    sym (or_false (is_marked after there))
     ∙ marked_here net lid from count at before marks after [] less so_far more
     (stays_alone (λ n. way_within net lid (switch_total net - (count + 1)) n) (turn net lid at) stays) there
 
@@ -72,7 +65,7 @@ pub walk_is_whole : (net : NetState) (lid from count at : ℕ) (before marks : L
     → AreWalked net lid from count at before marks → (there : ℕ) → is_marked marks there ≡ (is_marked before there || is_on there (way net lid from))
 walk_is_whole net lid from count at before marks most so_far there =
     let none : switch_total net - count ≡ 0 = omega (arith, most) in
-    sym (or_last (is_marked marks there))
+    sym (or_false (is_marked marks there))
     ∙ ap (λ (n : ℕ). is_marked marks there || is_on there (way_within net lid n at)) (sym none)
     ∙ so_far.marked there
 
@@ -127,23 +120,6 @@ kept_all p (x ∷ xs) = elim (cases_Bool (p x)) [
 pub each_switch : (nodes : List Node) (index : ℕ) → index < length (switches nodes) → is_switch_at nodes (get_or (switches nodes) index 0) ≡ true
 each_switch nodes index within = all_at (is_switch_at nodes) (switches nodes) index 0 (kept_all (is_switch_at nodes) (range_with_len 0 (length nodes))) within
 
-first_of : (places : List ℕ) (index : ℕ) → index < length places → drop index places ≡ get_or places index 0 ∷ drop (index + 1) places
-first_of places index within = rw (add-one, drop-cons places index 0) refl
-
-pub one_followed : (net : NetState) (lid index : ℕ) (marks after : List Bool) → index < length (switches net.plan.nodes) → AreFollowed net lid index marks
-    → length after ≡ length marks
-    → ((there : ℕ) → is_marked after there ≡ (is_marked marks there || host_comes net lid there (get_or (switches net.plan.nodes) index 0)))
-    → AreFollowed net lid (index + 1) after
-one_followed net lid index marks after within so_far long more = record {
-  long = long ∙ so_far.long;
-  marked = λ there.
-      let places = switches net.plan.nodes in
-      ap (λ (b : Bool). b || list_any (host_comes net lid there) (drop (index + 1) places)) (more there)
-      ∙ or_moved (is_marked marks there) (host_comes net lid there (get_or places index 0)) (list_any (host_comes net lid there) (drop (index + 1) places))
-      ∙ ap (λ (rest : List ℕ). is_marked marks there || list_any (host_comes net lid there) rest) (sym (first_of places index within))
-      ∙ so_far.marked there;
-}
-
 -- as a list
 listed : (f : ℕ → Bool) (low : ℕ) (xs : List Bool) → ((i k : ℕ) → low + i ≡ k → i < length xs → is_marked xs i ≡ f k) → xs ≡ map f (range_with_len low (length xs))
 listed f low [] same = refl
@@ -156,7 +132,7 @@ pub all_followed : (net : NetState) (lid index : ℕ) (marks : List Bool) → le
 all_followed net lid index marks most so_far =
     listed (hosts_come net lid) 0 marks (λ there k is within.
     let same : there ≡ k = omega (arith, is) in
-    sym (or_last (is_marked marks there))
+    sym (or_false (is_marked marks there))
     ∙ ap (λ (rest : List ℕ). is_marked marks there || list_any (host_comes net lid there) rest) (sym (drop_of_length-le (switches net.plan.nodes) most))
     ∙ so_far.marked there ∙ ap (hosts_come net lid) same)
     ∙ ap (λ (n : ℕ). map (hosts_come net lid) (range_with_len 0 n)) so_far.long

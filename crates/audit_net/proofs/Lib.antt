@@ -10,3 +10,9 @@ pub mod WholeLemmas
 pub mod HostLemmas
 pub mod WrongLemmas
 pub mod ExampleLemmas
+pub mod LidLemmas
+pub mod LidIndexLemmas
+pub mod KindLemmas
+pub mod LidLawLemmas
+pub mod OwnerWrongLemmas
+pub mod OwnerExampleLemmas

@@ -4,7 +4,7 @@ use Rattle.std.proofs.lemmas.Bool.{cases_Bool, eq-eqb, false≢true, or_right}
 use Rattle.std.proofs.lemmas.Bool.Decides.{nat_tests}
 use Rattle.std.proofs.lemmas.Option.{slice_get-get_or}
 use Rattle.step_results.proofs.ElementLemmas.{get_other, get_written}
-use Rattle.audit_net.specs.Marked.{is_marked}
+use Rattle.topo_file.specs.Rounds.{is_marked}
 
 pub marked_more : (marks : List Bool) (i other : ℕ) → i < length marks → is_marked (slice_set marks i true) other ≡ (is_marked marks other || (i == other))
 marked_more marks i other within = elim (cases_Bool (i == other)) [

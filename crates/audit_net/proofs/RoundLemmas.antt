@@ -2,7 +2,7 @@
 -- are marks.
 use Rattle.std.proofs.Common.{◌≡◌, ◌∙◌, ◌⊎◌, inl, inr, ap, refl, subst, sym, ℕ, zero, suc, ◌<◌, ◌≤◌, Bool, true, false, not, ◌&&◌, ◌||◌, List, [], ◌∷◌, length, arith}
 use Rattle.std.proofs.lemmas.Bool.{and_parts, cases_lt, false≢true}
-use Rattle.audit_net.specs.Marked.{is_marked}
+use Rattle.topo_file.specs.Rounds.{is_marked}
 
 -- each mark of the one list stands in the other too, and both are equally long
 abbrev pub are_below : List Bool → List Bool → Bool

@@ -1,12 +1,12 @@
 -- What is so of all fabrics and dumps: the statements of the laws of `src/laws.rt`.
 use Rattle.std.specs.Prelude.{ℕ, ◌≡◌, Bool, true, List, [], ◌∷◌, Option, Some, None}
 use Rattle.topo_file.specs.Node.{is_switch_at}
+use Rattle.topo_file.specs.Rounds.{is_marked}
 use Rattle.audit_net.specs.declared.following.Turn.{Turn}
 use Rattle.audit_net.specs.declared.following.Turn.TheVariants as turns
 use Rattle.audit_net.specs.Attached.{carries_host}
 use Rattle.audit_net.specs.Following.{end_from, end_within, loop_from, turn}
 use Rattle.audit_net.specs.Hosts.{hosts_marks}
-use Rattle.audit_net.specs.Marked.{is_marked}
 use Rattle.audit_net.specs.Net.{NetState}
 use Rattle.audit_net.specs.Ways.{is_on, way}
 

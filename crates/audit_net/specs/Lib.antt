@@ -3,10 +3,15 @@ pub mod Net
 pub mod Lookup
 pub mod Following
 pub mod Attached
-pub mod Marked
 pub mod Ways
 pub mod Hosts
 pub mod Laws
 pub mod SmallNets
 pub mod WrongRules
 pub mod Examples
+pub mod Lids
+pub mod Kinds
+pub mod LidIndex
+pub mod OwnerLaws
+pub mod OwnerWrongRules
+pub mod OwnerExamples

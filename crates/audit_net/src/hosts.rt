@@ -2,8 +2,8 @@
 
 ghost use Rattle.std.specs.Prelude.{◌≡◌, ◌||◌, true, length, IfOk, ℕ};
 ghost use Rattle.topo_file.specs.Node.{is_switch_at};
+ghost use Rattle.topo_file.specs.Rounds.{is_marked};
 ghost use Rattle.audit_net.specs.Hosts.{host_comes, hosts_come, hosts_marks};
-ghost use Rattle.audit_net.specs.Marked.{is_marked};
 ghost use Rattle.audit_net.specs.Ways.{is_on, way};
 
 use crate::following::Turn;

@@ -1,7 +1,7 @@
 //! A mark, or none, for each of what is numbered.
 
 ghost use Rattle.std.specs.Prelude.{◌≡◌, ◌==◌, ◌||◌, ◌<◌, false, length, IfOk, ℕ};
-ghost use Rattle.audit_net.specs.Marked.{is_marked};
+ghost use Rattle.topo_file.specs.Rounds.{is_marked};
 
 use std::alloc::{AllocError, Global};
 
@@ -20,14 +20,4 @@ pub fn mark(marks: &mut [bool], place: usize)
     ensures marked { (other : ℕ) → is_marked marks.new other ≡ (is_marked marks.old other || (place == other)) }
 {
     marks[place] = true;
-}
-
-/// Whether what has this number is marked.
-pub fn is_marked(marks: &[bool], place: usize) -> bool
-    ensures { result ≡ is_marked marks.now place }
-{
-    match marks.get(place) {
-        Some(mark) => *mark,
-        None => false,
-    }
 }

@@ -5,7 +5,7 @@ use Rattle.netdiscover_file.specs.declared.node.Node.{Node as FoundNode}
 use Rattle.netdiscover_file.specs.Discovery.{DiscoveryState}
 use Rattle.audit_plan.specs.declared.ends.EndGuid.{EndGuid}
 use Rattle.fabric_parts.specs.declared.node_type.NodeType.TheVariants.{Switch, ChannelAdapter}
-use Rattle.text_parts.specs.Parts.{guid_text}
+use Rattle.text_words.specs.Parts.{guid_text}
 use Rattle.topo_file.specs.declared.node.Node.{Node}
 use Rattle.fabric_parts.specs.Cable.{port}
 use Rattle.audit_plan.specs.Plan.{ends_of, found_ends, found_nodes, is_host, is_unicast, plan_found, port_of, PlanState}

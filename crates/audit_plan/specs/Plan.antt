@@ -15,7 +15,7 @@ use Rattle.netdiscover_file.specs.Agreement.{far_line}
 use Rattle.netdiscover_file.specs.Discovery.{DiscoveryState}
 use Rattle.netdiscover_file.specs.Kind.{is_switch as is_switch_kind}
 use Rattle.netdiscover_file.specs.Node.{is_switch_at as is_found_switch}
-use Rattle.text_parts.specs.Parts.{guid_text}
+use Rattle.text_words.specs.Parts.{guid_text}
 use Rattle.topo_file.specs.declared.node.Node.{Node}
 use Rattle.topo_file.specs.Node.{is_switch, is_switch_at}
 use Rattle.topo_file.specs.Topology.{TopologyState}

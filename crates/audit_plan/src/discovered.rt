@@ -14,7 +14,7 @@ use crate::plan::{Plan, PlanNode};
 use fabric_parts::{Cable, LAST_UNICAST_LID, NodeType, PortRef};
 use netdiscover_file::{Discovery, Node, NodeKind, PortLine};
 use std::alloc::{AllocError, Global};
-use text_parts::push_guid;
+use text_words::push_guid;
 
 fn type_of(kind: NodeKind) -> NodeType
     ensures { result ≡ type_of kind }

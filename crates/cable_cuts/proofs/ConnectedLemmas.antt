@@ -5,7 +5,7 @@ use Rattle.std.specs.Option.{option_and_then, option_map_or}
 use Rattle.std.proofs.Math.Bool.{or-true}
 use Rattle.std.proofs.lemmas.Bool.{and_from, eq-eqb, eqb-true, false≢true}
 use Rattle.std.proofs.lemmas.Option.{none-some, same_Some}
-use Rattle.fabric_parts.specs.Cable.{far_end, is_same_port, port}
+use Rattle.fabric_parts.specs.Cable.{far_end, is_same_port, last_of, port}
 use Rattle.fabric_parts.specs.declared.cable.Cable.{Cable}
 use Rattle.fabric_parts.specs.declared.cable.PortRef.{PortRef}
 use Rattle.fabric_wire.proofs.OfTopologyLemmas.{switch_there}
@@ -13,7 +13,7 @@ use Rattle.fabric_wire.specs.OfTopology.{fabric_of}
 use Rattle.smp_wire.proofs.CableLemmas.{far_end_before, same_port}
 use Rattle.smp_wire.specs.FabricState.{FabricState, is_port, is_switch_at}
 use Rattle.smp_wire.specs.Good.{SwitchesJoined}
-use Rattle.smp_wire.specs.Walk.{hop, last_of, walk}
+use Rattle.smp_wire.specs.Walk.{hop, walk}
 use Rattle.topo_file.proofs.WalkLemmas.{if_joined}
 use Rattle.topo_file.specs.Connectivity.{AllJoined, Joined, is_connected, joins}
 use Rattle.topo_file.specs.Node.{is_switch_at as is_planned_at}

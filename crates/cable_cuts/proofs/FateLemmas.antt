@@ -2,18 +2,17 @@
 use Rattle.std.proofs.Common.{ℕ, ◌+◌, ◌<◌, nat_le, arith, ◌≡◌, ◌∙◌, ◌==◌, ap, refl, sym, subst, true, false, List, unwrap_or, Option, ◌↔◌}
 use Rattle.std.specs.Option.{option_map_or}
 use Rattle.std.proofs.lemmas.Bool.{and_from, eq-eqb, false≢true, le-leb, lt-ltb}
-use Rattle.fabric_parts.specs.Cable.{port}
+use Rattle.fabric_parts.specs.Cable.{last_of, port}
 use Rattle.fabric_parts.specs.declared.cable.Cable.{Cable}
 use Rattle.fabric_parts.specs.declared.cable.PortRef.{PortRef}
 use Rattle.fabric_wire.specs.OfTopology.{fabric_of}
 use Rattle.lid_assign.specs.Lids.{AreLids, end_ports}
-use Rattle.route_order_laws.proofs.AlikeLemmas.{one_pair_is_refused}
-use Rattle.route_order_laws.proofs.ChoiceLemmas.{next_hops_are_the_fabrics}
-use Rattle.route_order_laws.proofs.OfFabricLemmas.{graphs_of_one_fabric_are_alike}
-use Rattle.route_order_laws.specs.Alike.{layout_of}
+use Rattle.updn_routes.proofs.AlikeLemmas.{one_pair_is_refused}
+use Rattle.updn_routes.proofs.ChoiceLemmas.{next_hops_are_the_fabrics}
+use Rattle.updn_routes.proofs.OfFabricLemmas.{graphs_of_one_fabric_are_alike}
+use Rattle.updn_routes.specs.Alike.{layout_of}
 use Rattle.smp_wire.specs.FabricState.{FabricState}
 use Rattle.smp_wire.specs.Good.{IsGood, SwitchesJoined}
-use Rattle.smp_wire.specs.Walk.{last_of}
 use Rattle.subnet_fabric.proofs.FoundLemmas.{laid_out}
 use Rattle.subnet_fabric.proofs.StandingLookLemmas.{joined_alike, no_path_alike, planned_alike}
 use Rattle.subnet_fabric.specs.BringUp.{HasNoPath, IsBroughtUpBy, root_guids}
@@ -40,7 +39,7 @@ use Rattle.cable_cuts.specs.Changes.{changes, entry_by, entry_in}
 use Rattle.cable_cuts.specs.Fate.{ArePlannedFor, HaveBroughtUp, IsFate, IsStop}
 use Rattle.cable_cuts.specs.Laws.{ChangesAreTheFabrics, KeptIsWhatComesUp, MasksAreTheFabrics, OneFateIsReported, ReportTheSame}
 use Rattle.cable_cuts.specs.Masks.{mask_by, receives_all}
-use Rattle.sa_groups.specs.Groups.{first_mlid}
+use Rattle.sa_model.specs.Groups.{first_mlid}
 use Rattle.agent_rules.specs.declared.power_up.TheConstants.{MULTICAST_TABLE}
 use Rattle.fabric_parts.specs.Lid.{is_multicast}
 use Rattle.fabric_parts.specs.declared.lid.TheConstants.{FIRST_MULTICAST_LID}

@@ -6,9 +6,9 @@ use Rattle.std.proofs.lemmas.Option.{slice_get-map}
 use Rattle.fabric_parts.specs.declared.cable.PortRef.{PortRef}
 use Rattle.lid_assign.specs.Lids.{AreLids, end_ports}
 use Rattle.partition_file.specs.declared.heading.Heading.{Heading}
-use Rattle.route_order_laws.proofs.AlikeLemmas.{home_low}
-use Rattle.route_order_laws.proofs.OfFabricLemmas.{has_switch, meets, not_without, within_rows}
-use Rattle.route_order_laws.specs.Alike.{layout_of, placed_home}
+use Rattle.updn_routes.proofs.AlikeLemmas.{home_low}
+use Rattle.updn_routes.proofs.OfFabricLemmas.{has_switch, meets, not_without, within_rows}
+use Rattle.updn_routes.specs.Alike.{layout_of, placed_home}
 use Rattle.smp_wire.specs.FabricState.{FabricState}
 use Rattle.smp_wire.specs.Good.{IsGood}
 use Rattle.subnet_model.specs.declared.subnet_port.SubnetPort.{SubnetPort}
@@ -18,7 +18,7 @@ use Rattle.updn_routes.specs.Subnet.{RoutesState, homes_of, place_of as place_in
 use Rattle.cable_cuts.proofs.TreeHopLemmas.{alike, count, hop_same, lids, place}
 use Rattle.subnet_fabric.specs.Planning.{ArePlannedOver}
 use Rattle.cable_cuts.specs.Masks.{mask_by, receives_all}
-use Rattle.sa_groups.specs.Groups.{first_mlid}
+use Rattle.sa_model.specs.Groups.{first_mlid}
 
 module _ (fabric : FabricState) (good : IsGood fabric) (one other : RoutesState) (roots : List ℕ) (planned : ArePlannedOver fabric roots one)
     (planned_too : ArePlannedOver fabric roots other) where

@@ -1,10 +1,11 @@
 -- Each entry that differs is reported once, and so is each mask, where each end port has a LID of its own.
 use Rattle.std.proofs.Common.{ℕ, ◌+◌, ◌<◌, ◌≡◌, ◌==◌, ◌&&◌, refl, sym, subst, Bool, true, false, if◌then◌else◌, List, [], ◌∷◌, ◌++◌, is_some, length, map, arith}
 use Rattle.std.specs.List.{AllByRecursion, IsDistinct, enumerate_from, flat_map, range_with_len}
-use Rattle.std.proofs.lemmas.Bool.{false≢true, ne_eqb}
+use Rattle.std.proofs.lemmas.Bool.{and_left, and_right, ne_eqb}
 use Rattle.std.proofs.lemmas.Bool.Decides.{nat_tests}
 use Rattle.std.proofs.lemmas.Map.Keys.{IsDistinct-cons, IsDistinct-head, IsDistinct-tail}
 use Rattle.step_results.proofs.ListLemmas.{IsDistinct-nil}
+use Rattle.step_results.proofs.ElementLemmas.{each_joined, each_weaker}
 use Rattle.fabric_parts.specs.NodeType.{is_switch_type}
 use Rattle.partition_file.specs.declared.heading.Heading.{Heading}
 use Rattle.subnet_model.specs.declared.subnet_port.SubnetPort.{SubnetPort}
@@ -15,15 +16,6 @@ use Rattle.cable_cuts.specs.Laws.{EntriesAreReportedOnce, LidsAreOwn, MasksAreRe
 use Rattle.cable_cuts.specs.Masks.{Masks, differs, mask_change_at, mask_changes, mask_changes_at}
 use Rattle.cable_cuts.specs.declared.changes.Change.{Change}
 use Rattle.cable_cuts.specs.declared.masks.MaskChange.{MaskChange}
-
--- ---- lists
-all_joined : {Y : Type 0} (P : Y → Type 0) (ys zs : List Y) → AllByRecursion P ys → AllByRecursion P zs → AllByRecursion P (ys ++ zs)
-all_joined P [] zs all more = more
-all_joined P (y ∷ ys) zs all more = (all.0, all_joined P ys zs all.1 more)
-
-all_so : {Y : Type 0} (P Q : Y → Type 0) → ((y : Y) → P y → Q y) → (ys : List Y) → AllByRecursion P ys → AllByRecursion Q ys
-all_so P Q so [] all = tt
-all_so P Q so (y ∷ ys) all = (so y all.0, all_so P Q so ys all.1)
 
 -- what is given by things of different keys, each of which gives no two that are the same, and all of its own key
 module _ {X Y : Type 0} (same : Y → Y → Bool) (key : Y → ℕ) (of : X → ℕ) (f : X → List Y)
@@ -36,16 +28,16 @@ module _ {X Y : Type 0} (same : Y → Y → Bool) (key : Y → ℕ) (of : X → 
   others : (n : ℕ) (xs : List X) → AllByRecursion (λ x. (n == of x) ≡ false) xs → AllByRecursion (Other n) (flat_map f xs)
   others n [] all = tt
   others n (x ∷ xs) all =
-      all_joined (Other n) (f x) (flat_map f xs)
-      (all_so (λ y. key y ≡ of x) (Other n) (λ y is. subst (λ (k : ℕ). (n == k) ≡ false) (sym is) all.0) (f x) (own x)) (others n xs all.1)
+      each_joined (Other n) (f x) (flat_map f xs)
+      (each_weaker (λ y. key y ≡ of x) (Other n) (λ y is. subst (λ (k : ℕ). (n == k) ≡ false) (sym is) all.0) (f x) (own x)) (others n xs all.1)
 
   joined : (n : ℕ) (ys zs : List Y) → AllByRecursion (λ y. key y ≡ n) ys → IsDistinct same ys → AllByRecursion (Other n) zs → IsDistinct same zs
       → IsDistinct same (ys ++ zs)
   joined n [] zs are once other more = more
   joined n (y ∷ ys) zs are once other more =
       IsDistinct-cons same y (ys ++ zs)
-      (all_joined (λ z. same y z ≡ false) ys zs (IsDistinct-head same y ys once)
-      (all_so (Other n) (λ z. same y z ≡ false) (λ z is. apart y z (subst (λ (k : ℕ). (k == key z) ≡ false) (sym are.0) is)) zs other))
+      (each_joined (λ z. same y z ≡ false) ys zs (IsDistinct-head same y ys once)
+      (each_weaker (Other n) (λ z. same y z ≡ false) (λ z is. apart y z (subst (λ (k : ℕ). (k == key z) ≡ false) (sym are.0) is)) zs other))
       (joined n ys zs are.1 (IsDistinct-tail same y ys once) other more)
 
   once_all : (xs : List X) → IsDistinct (λ a b. of a == of b) xs → IsDistinct same (flat_map f xs)
@@ -75,14 +67,6 @@ lids_are_own ports are = lids_differ 1 ports are
 pub one_alone : {Y : Type 0} (same : Y → Y → Bool) (y : Y) → IsDistinct same (y ∷ [])
 one_alone same y = IsDistinct-cons same y [] tt (IsDistinct-nil same)
 
-first_apart : (a b : Bool) → a ≡ false → (a && b) ≡ false
-first_apart true b is = absurd (false≢true (sym is))
-first_apart false b is = refl
-
-second_apart : (a b : Bool) → b ≡ false → (a && b) ≡ false
-second_apart true b is = is
-second_apart false b is = refl
-
 -- ---- entries
 module _ (ports : List SubnetPort) (one other : Tables) where
   reported_one : (switch port : SubnetPort) → IsDistinct same_entry (change_at one other switch port)
@@ -103,8 +87,8 @@ module _ (ports : List SubnetPort) (one other : Tables) where
   all_of_switch : (switch : SubnetPort) (some : List SubnetPort) → AllByRecursion (λ (change : Change). change.switch ≡ switch.lid) (flat_map (change_at one other switch) some)
   all_of_switch switch [] = tt
   all_of_switch switch (port ∷ some) =
-      all_joined (λ (change : Change). change.switch ≡ switch.lid) (change_at one other switch port) (flat_map (change_at one other switch) some)
-      (all_so (λ (change : Change). (change.switch ≡ switch.lid) × (change.lid ≡ port.lid)) (λ (change : Change). change.switch ≡ switch.lid) (λ change is. is.0) (change_at one other switch port) (own_one switch port))
+      each_joined (λ (change : Change). change.switch ≡ switch.lid) (change_at one other switch port) (flat_map (change_at one other switch) some)
+      (each_weaker (λ (change : Change). (change.switch ≡ switch.lid) × (change.lid ≡ port.lid)) (λ (change : Change). change.switch ≡ switch.lid) (λ change is. is.0) (change_at one other switch port) (own_one switch port))
       (all_of_switch switch some)
 
   at_switch : IsDistinct have_same_lid ports → (switch : SubnetPort) → IsDistinct same_entry (changes_at ports one other switch)
@@ -113,8 +97,8 @@ module _ (ports : List SubnetPort) (one other : Tables) where
       by : (b : Bool) → IsDistinct same_entry (if b then flat_map (change_at one other switch) ports else [])
       by true =
           once_all same_entry (λ (change : Change). change.lid) (λ port. port.lid) (change_at one other switch)
-          (λ a b is. second_apart (a.switch == b.switch) (a.lid == b.lid) is)
-          (λ port. all_so (λ (change : Change). (change.switch ≡ switch.lid) × (change.lid ≡ port.lid)) (λ (change : Change). change.lid ≡ port.lid) (λ change is. is.1) (change_at one other switch port) (own_one switch port))
+          (λ a b is. and_right (a.switch == b.switch) (a.lid == b.lid) is)
+          (λ port. each_weaker (λ (change : Change). (change.switch ≡ switch.lid) × (change.lid ≡ port.lid)) (λ (change : Change). change.lid ≡ port.lid) (λ change is. is.1) (change_at one other switch port) (own_one switch port))
           (reported_one switch) ports lids
       by false = IsDistinct-nil same_entry
 
@@ -128,7 +112,7 @@ module _ (ports : List SubnetPort) (one other : Tables) where
 pub entries_are_reported_once : EntriesAreReportedOnce
 entries_are_reported_once ports one other lids =
     once_all same_entry (λ (change : Change). change.switch) (λ port. port.lid) (changes_at ports one other)
-    (λ a b is. first_apart (a.switch == b.switch) (a.lid == b.lid) is) (of_switch ports one other) (at_switch ports one other lids) ports lids
+    (λ a b is. and_left (a.switch == b.switch) (a.lid == b.lid) is) (of_switch ports one other) (at_switch ports one other lids) ports lids
 
 -- ---- masks
 module _ (partitions : List Heading) (one other : Masks) where
@@ -149,8 +133,8 @@ module _ (partitions : List Heading) (one other : Masks) where
   masks_of_switch : (switch : SubnetPort) (some : List (ℕ × Heading)) → AllByRecursion (λ (change : MaskChange). change.switch ≡ switch.lid) (flat_map (mask_change_at one other switch) some)
   masks_of_switch switch [] = tt
   masks_of_switch switch (p ∷ some) =
-      all_joined (λ (change : MaskChange). change.switch ≡ switch.lid) (mask_change_at one other switch p) (flat_map (mask_change_at one other switch) some)
-      (all_so (λ (change : MaskChange). (change.switch ≡ switch.lid) × (change.partition ≡ p.0)) (λ (change : MaskChange). change.switch ≡ switch.lid) (λ change is. is.0) (mask_change_at one other switch p) (own_mask switch p))
+      each_joined (λ (change : MaskChange). change.switch ≡ switch.lid) (mask_change_at one other switch p) (flat_map (mask_change_at one other switch) some)
+      (each_weaker (λ (change : MaskChange). (change.switch ≡ switch.lid) × (change.partition ≡ p.0)) (λ (change : MaskChange). change.switch ≡ switch.lid) (λ change is. is.0) (mask_change_at one other switch p) (own_mask switch p))
       (masks_of_switch switch some)
 
   -- numbers rise
@@ -169,8 +153,8 @@ module _ (partitions : List Heading) (one other : Masks) where
       by : (b : Bool) → IsDistinct same_mask (if b then flat_map (mask_change_at one other switch) (enumerate_from 0 partitions) else [])
       by true =
           once_all same_mask (λ (change : MaskChange). change.partition) (λ p. p.0) (mask_change_at one other switch)
-          (λ a b is. second_apart (a.switch == b.switch) (a.partition == b.partition) is)
-          (λ p. all_so (λ (change : MaskChange). (change.switch ≡ switch.lid) × (change.partition ≡ p.0)) (λ (change : MaskChange). change.partition ≡ p.0) (λ change is. is.1) (mask_change_at one other switch p) (own_mask switch p))
+          (λ a b is. and_right (a.switch == b.switch) (a.partition == b.partition) is)
+          (λ p. each_weaker (λ (change : MaskChange). (change.switch ≡ switch.lid) × (change.partition ≡ p.0)) (λ (change : MaskChange). change.partition ≡ p.0) (λ change is. is.1) (mask_change_at one other switch p) (own_mask switch p))
           (mask_one switch) (enumerate_from 0 partitions) (numbers_differ 0 partitions)
       by false = IsDistinct-nil same_mask
 
@@ -184,7 +168,7 @@ module _ (partitions : List Heading) (one other : Masks) where
 pub masks_are_reported_once : MasksAreReportedOnce
 masks_are_reported_once configuration one other lids =
     once_all same_mask (λ (change : MaskChange). change.switch) (λ port. port.lid) (mask_changes_at configuration.partitions one other)
-    (λ a b is. first_apart (a.switch == b.switch) (a.partition == b.partition) is) (masks_of configuration.partitions one other) (masks_at configuration.partitions one other)
+    (λ a b is. and_left (a.switch == b.switch) (a.partition == b.partition) is) (masks_of configuration.partitions one other) (masks_at configuration.partitions one other)
     configuration.ports lids
 
 -- ---- numbers

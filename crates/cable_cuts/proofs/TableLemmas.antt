@@ -15,7 +15,7 @@ use Rattle.table_push.proofs.SetUpLemmas.{with_all}
 use Rattle.table_push.specs.Masks.{all_masks_pushed, is_in_mask, masks_of, with_all_masks}
 use Rattle.cable_cuts.specs.Masks.{masks_of_switch}
 use Rattle.fabric_wire.specs.OfTopology.{fabric_of}
-use Rattle.route_order_laws.proofs.OfFabricLemmas.{has_switch, not_without}
+use Rattle.updn_routes.proofs.OfFabricLemmas.{has_switch, not_without}
 use Rattle.smp_wire.specs.FabricState.{FabricState, is_switch, is_switch_at}
 use Rattle.smp_wire.specs.Good.{node_guid}
 use Rattle.smp_wire.specs.declared.node.Node.{Node}

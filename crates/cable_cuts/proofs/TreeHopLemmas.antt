@@ -7,8 +7,8 @@ use Rattle.std.proofs.lemmas.Option.{get_or_from_slice_get, none-some, same_Some
 use Rattle.fabric_parts.specs.Cable.{far_end, port}
 use Rattle.fabric_parts.specs.declared.cable.PortRef.{PortRef}
 use Rattle.lid_assign.specs.Lids.{AreLids, end_ports}
-use Rattle.route_order_laws.proofs.OfFabricLemmas.{graphs_of_one_fabric_are_alike}
-use Rattle.route_order_laws.specs.Alike.{AreAlike, layout_of, placed_home}
+use Rattle.updn_routes.proofs.OfFabricLemmas.{graphs_of_one_fabric_are_alike}
+use Rattle.updn_routes.specs.Alike.{AreAlike, layout_of, placed_home}
 use Rattle.smp_wire.specs.FabricState.{FabricState, is_switch_at}
 use Rattle.smp_wire.specs.Good.{IsGood}
 use Rattle.sweep.proofs.EndPortLemmas.{of_one, one_of}

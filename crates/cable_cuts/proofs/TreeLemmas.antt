@@ -5,8 +5,8 @@ use Rattle.std.specs.Option.{option_and_then, option_map_or}
 use Rattle.std.proofs.Math.Bool.{or-false}
 use Rattle.std.proofs.lemmas.Bool.{and_parts, eqb-false, eqb-true, eq-eqb, ltb-true, ne_eqb}
 use Rattle.std.proofs.lemmas.Option.{none-some, same_Some}
-use Rattle.route_order_laws.proofs.AlikeLemmas.{ranks_are_alike}
-use Rattle.route_order_laws.specs.Alike.{AreAlike, Layout}
+use Rattle.updn_routes.proofs.AlikeLemmas.{ranks_are_alike}
+use Rattle.updn_routes.specs.Alike.{AreAlike, Layout}
 use Rattle.updn_routes.specs.Cabling.{links_of}
 use Rattle.updn_routes.specs.Order.{AreDistances, AreRanks, is_first_root, is_root}
 use Rattle.updn_routes.specs.Places.{placed_link}

@@ -19,7 +19,7 @@ use Rattle.cable_cuts.specs.Cables.{can_be_cut, without_cable}
 use Rattle.cable_cuts.specs.Changes.{Tables, changes, entry_by, entry_in}
 use Rattle.cable_cuts.specs.Fate.{ArePlannedFor, HaveBroughtUp, IsFate}
 use Rattle.cable_cuts.specs.Masks.{Masks, mask_by, mask_changes, mask_in, receives_all}
-use Rattle.sa_groups.specs.Groups.{first_mlid}
+use Rattle.sa_model.specs.Groups.{first_mlid}
 use Rattle.cable_cuts.specs.Outcomes.{IsOutcome, difference_by}
 use Rattle.cable_cuts.specs.Texts.{ReportsAll, ReportsOne, keeps}
 use Rattle.cable_cuts.specs.declared.changes.Change.{Change}

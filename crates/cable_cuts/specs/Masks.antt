@@ -7,7 +7,7 @@ use Rattle.std.specs.Option.{option_map_or}
 use Rattle.fabric_parts.specs.NodeType.{is_switch_type}
 use Rattle.partition_file.specs.declared.heading.Heading.{Heading}
 use Rattle.pkey_rules.specs.KeyTable.{has_base}
-use Rattle.sa_groups.specs.Groups.{first_mlid}
+use Rattle.sa_model.specs.Groups.{first_mlid}
 use Rattle.smp_wire.specs.FabricState.{FabricState}
 use Rattle.subnet_fabric.specs.Recabled.{masks_in}
 use Rattle.subnet_model.specs.Configuration.{ConfigurationState}

@@ -13,10 +13,10 @@ use crate::fate::{Cut, Stop};
 use crate::loss::{Loss, losses};
 use crate::outcome::{Difference, Outcome, outcome_of};
 use fabric_parts::{Cable, NO_PORT, PortRef};
-use line_parts::push_port;
+use partition_reports::push_port;
 use std::alloc::{AllocError, Global};
 use subnet_model::{Configuration, SubnetPort};
-use text_parts::{push_decimal, push_port_name};
+use text_words::{push_decimal, push_port_name};
 use topo_file::{Topology, name_at};
 use updn_routes::Routes;
 

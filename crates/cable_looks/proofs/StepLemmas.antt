@@ -6,7 +6,7 @@ use Rattle.std.proofs.lemmas.Bool.{cases_lt, le-leb, lt-leb, lt-ltb}
 use Rattle.std.proofs.Math.Nat.{lt_of_mul-lt-mul_left}
 use Rattle.step_results.proofs.RangeLemmas.{range_more}
 use Rattle.step_results.proofs.RisingLemmas.{counted}
-use Rattle.text_parts.proofs.RowLemmas.{text_of_one_more}
+use Rattle.text_words.proofs.RowLemmas.{text_of_one_more}
 use Rattle.cable_looks.specs.Laws.{EachLoadHasOneRow, StepsAreFifths, has_load}
 use Rattle.cable_looks.specs.Steps.{exceeds, least_of, step_of, top_of}
 use Rattle.cable_looks.specs.WrongRules.{NotAllAreHot, RowsDoNotOverlap, StepsAreNotQuarters}

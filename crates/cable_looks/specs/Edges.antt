@@ -1,7 +1,7 @@
 -- How the edge of a cable is drawn, in DOT: in red if it is needed, or by its load, as
 -- `, color="orange", penwidth=3, tooltip="A/2 to B/2 31, B/2 to A/2 7"`.
 use Rattle.std.specs.Prelude.{ℕ, List, [], ◌++◌, codes, decimal}
-use Rattle.text_parts.specs.Parts.{port_name}
+use Rattle.text_words.specs.Parts.{port_name}
 use Rattle.cable_looks.specs.declared.looks.CableLoad.{CableLoad}
 use Rattle.cable_looks.specs.declared.looks.Look.{Look}
 use Rattle.cable_looks.specs.declared.looks.Look.TheVariants.{Loaded, Needed, Plain}

@@ -7,7 +7,7 @@ use crate::looks::{CableLoad, Look, busier};
 use crate::steps::{step_colour, step_of};
 use fabric_parts::{Cable, PortRef};
 use std::alloc::AllocError;
-use text_parts::{push_decimal, push_port_name};
+use text_words::{push_decimal, push_port_name};
 use topo_file::{Node, name_at};
 
 /// Adds the name of a port.

@@ -9,7 +9,7 @@ ghost use Rattle.cable_looks.specs.Looks.{most_of};
 use crate::looks::Look;
 use crate::steps::{least_of, step_colour, top_of};
 use std::alloc::AllocError;
-use text_parts::push_decimal;
+use text_words::push_decimal;
 
 fn is_loaded(look: Look) -> bool
     ensures { result ≡ is_loaded look }

@@ -9,7 +9,7 @@ use Rattle.clap.proofs.OnLiterals.{clap_on_literals}
 use Rattle.code_texts.specs.Codes.{code_of}
 use Rattle.code_texts.specs.declared.code.Code.{Code}
 use Rattle.cli_args.specs.Laws.{FilesAreNamedAsGiven, FilesStandInOrder, IsWordOf, NamesKeepTheirBlanks}
-use Rattle.cli_args.specs.Words.{Names, audit_by, audit_keys_by, audit_keys_with, audit_three, audit_with, asked_by, asked_by_command, asked_of, asked_or, call_in, compare_by, cuts_by, diff_by, dumped_by, explain_by, file_in, graph_with, guid_by, import_by, is_given, in_subnet, inspect_by, load_by, load_with, manage_by, opened_for, roots_by, run_by, scripts_by, smps_by}
+use Rattle.cli_args.specs.Words.{Names, audit_by, audit_keys_by, audit_keys_with, audit_three, audit_with, asked_by, asked_by_command, asked_of, asked_or, call_in, compare_by, cuts_by, diff_by, explain_by, file_in, graph_with, guid_by, import_by, is_given, in_subnet, inspect_by, load_by, load_with, manage_by, opened_for, roots_by, run_by, scripts_by, smps_by}
 use Rattle.cli_args.specs.Words.{subcommand_in, text_for, trace_by, work_names}
 use Rattle.cli_args.specs.declared.call.Call.{Call}
 use Rattle.cli_args.specs.declared.call.CutView.TheVariants.{All as AllCuts, One, Picture}
@@ -18,8 +18,6 @@ use Rattle.cli_args.specs.declared.call.Work.{Work}
 use Rattle.cli_args.specs.declared.call.Work.TheVariants.{Check, Compare, Cuts, Diff, Inspect, Manage, Run, Shares, Smps}
 use Rattle.cli_args.specs.declared.call.Inspection.{Inspection}
 use Rattle.cli_args.specs.declared.call.Inspection.TheVariants.{Graph, Keys, LoadGraph, Tables}
-use Rattle.cli_args.specs.declared.call.DumpView.{DumpView}
-use Rattle.cli_args.specs.declared.call.DumpView.TheVariants as dump_view
 use Rattle.cli_args.specs.declared.call.ThirdFile.{ThirdFile}
 use Rattle.cli_args.specs.declared.call.ThirdFile.TheVariants.{Lanes, Mfts}
 use Rattle.cli_args.specs.declared.call.Subcommand.{Subcommand}

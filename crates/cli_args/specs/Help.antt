@@ -1,5 +1,5 @@
 -- The program's own texts in help, where a contract can see them: what clap makes of them is clap's.
-use Rattle.std.specs.Prelude.{List, ℕ, codes, Option, option_map}
+use Rattle.std.specs.Prelude.{List, ℕ, ◌++◌, codes, Option, option_map}
 use Rattle.std.specs.Borrow.{Bor}
 
 -- a text that was set, if it was
@@ -12,6 +12,10 @@ program_name = codes "fabric"
 
 abbrev pub program_version : List ℕ
 program_version = codes "1.0.0"
+
+-- what is printed of the version: `fabric 1.0.0` and LF
+abbrev pub version_line : List ℕ
+version_line = program_name ++ (codes " " ++ (program_version ++ codes "\n"))
 
 abbrev pub about_program : List ℕ
 about_program = codes "An InfiniBand subnet manager over a simulated fabric"

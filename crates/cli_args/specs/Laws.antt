@@ -1,9 +1,10 @@
 -- What holds of all command lines: the statements of the laws of `src/laws.rt`.
-use Rattle.std.specs.Prelude.{◌≡◌, ◌∷◌, [], List, Ok, Some, codes}
+use Rattle.std.specs.Prelude.{◌≡◌, ◌∷◌, [], List, Option, Ok, Err, Some, None, codes}
 use Rattle.std.specs.List.{All}
 use Rattle.clap.specs.Words.{Row, Text, first_of}
-use Rattle.cli_args.specs.Words.{Names, asked_by_clap, asked_in, opened_for}
+use Rattle.cli_args.specs.Words.{Names, asked_by_clap, asked_in, asked_of, opened_for}
 use Rattle.cli_args.specs.declared.call.Call.{Call}
+use Rattle.cli_args.specs.declared.call.Call.TheVariants.{Version}
 
 -- the name is the value of an argument, unchanged
 abbrev pub IsWordOf : List Row → Text → Type 0
@@ -14,6 +15,13 @@ abbrev pub FilesAreNamedAsGiven : Type 0
 FilesAreNamedAsGiven =
     (word : Text) (rows : List Row) (call : Call Names Text) → asked_in (Some (word, rows)) ≡ Ok call
     → All (IsWordOf rows) (opened_for (Ok call))
+
+-- `--version` or `-V` as the first argument requests the version, whatever comes after it; behind help or a command neither does
+pub record VersionIsRequested : Type 0 where
+  pub long : (shown : List Text → Option Text) (program : Text) (rest : List Text) → asked_of shown (program ∷ codes "--version" ∷ rest) ≡ Ok Version
+  pub short : (shown : List Text → Option Text) (program : Text) (rest : List Text) → asked_of shown (program ∷ codes "-V" ∷ rest) ≡ Ok Version
+  pub behind_help : asked_by_clap (codes "fabric" ∷ codes "--help" ∷ codes "--version" ∷ []) ≡ Err None
+  pub behind_a_command : asked_by_clap (codes "fabric" ∷ codes "check" ∷ codes "--version" ∷ []) ≡ Err None
 
 -- the names that are opened if the arguments after the program's own name are these
 abbrev pub opened_by : List Text → List Text

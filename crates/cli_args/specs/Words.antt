@@ -16,7 +16,9 @@ use Rattle.cli_args.specs.declared.call.Asked.{Asked}
 use Rattle.cli_args.specs.declared.call.Call.{Call}
 use Rattle.cli_args.specs.declared.call.CutView.{CutView}
 use Rattle.cli_args.specs.declared.call.CutView.TheVariants.{All, One, Picture}
-use Rattle.cli_args.specs.declared.call.Call.TheVariants.{AuditKeys, AuditThree, Dumped, Explain, Import, Subnet}
+use Rattle.clap.specs.declared.error.kind.ErrorKind.{ErrorKind}
+use Rattle.clap.specs.declared.error.kind.ErrorKind.TheVariants.{DisplayVersion}
+use Rattle.cli_args.specs.declared.call.Call.TheVariants.{AuditKeys, AuditThree, Dumped, Explain, Import, Subnet, Version}
 use Rattle.cli_args.specs.declared.call.Work.{Work}
 use Rattle.cli_args.specs.declared.call.Inspection.{Inspection}
 use Rattle.cli_args.specs.declared.call.Inspection.TheVariants.{Graph, Keys, Load, LoadGraph, Tables, Trace}
@@ -74,6 +76,7 @@ named_call (Dumped view fabric dump) = Dumped view fabric.now dump.now
 named_call (AuditThree third fabric dump file) = AuditThree third fabric.now dump.now file.now
 named_call (AuditKeys netdiscover pkeys partitions manager all) = AuditKeys netdiscover.now pkeys.now (option_map (λ name. name.now) partitions) manager all
 named_call (Explain code) = Explain code
+named_call Version = Version
 
 -- what arguments ask for, or the text of their refusal, if it is known
 abbrev pub Asking : Type 0
@@ -293,13 +296,23 @@ abbrev pub asked_in : Option (Text × List Row) → Asking
 asked_in (Some found) = asked_by_command (subcommand_in found.0) found.1
 asked_in None = Err (Some NO_SUCH_CODE.now)
 
+-- by what a parser finds: the name of a command and its arguments, or that the version is requested
+abbrev pub asked_if_parsed : Option (Option (Text × List Row)) → Asking
+asked_if_parsed (Some found) = asked_in found
+asked_if_parsed None = Ok Version
+
+abbrev pub is_version : ErrorKind → Bool
+is_version DisplayVersion = true
+is_version _ = false
+
+-- the version is requested if and only if clap has this kind for it: it has no other kind beside that
 abbrev pub unless_refused : Option Text → Kinds → Asking → Asking
 unless_refused shown [] asked = asked
-unless_refused shown (kind ∷ kinds) asked = Err shown
+unless_refused shown (kind ∷ kinds) asked = if is_version kind then Ok Version else Err shown
 
--- what the arguments ask for, the first of them the program's own name. If clap refuses them, or help or the version is
--- requested, they are refused with the text of `shown`, if there is one; if one is not the code or number that it has to be,
--- with a text of the program's own
+-- what the arguments ask for, the first of them the program's own name: the version, if it is requested. If clap refuses them,
+-- or help is requested, they are refused with the text of `shown`, if there is one; if one is not the code or number that it
+-- has to be, with a text of the program's own
 unfoldable pub asked_of : (shown : List Text → Option Text) → List Text → Asking
 asked_of shown words =
     unless_refused (shown words) (fault_of fabric_command words) (asked_in (subcommand_of fabric_command words))
@@ -350,3 +363,4 @@ opened_for (Ok (Dumped view fabric dump)) = fabric ∷ dump ∷ []
 opened_for (Ok (AuditThree third fabric dump file)) = fabric ∷ dump ∷ file ∷ []
 opened_for (Ok (AuditKeys netdiscover pkeys partitions manager all)) = netdiscover ∷ pkeys ∷ option_to_list partitions
 opened_for (Ok (Explain code)) = []
+opened_for (Ok Version) = []

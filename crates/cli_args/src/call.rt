@@ -203,6 +203,8 @@ pub enum Call<A, W> {
     },
     /// Explain a code, or list all codes.
     Explain(Option<Code>),
+    /// Print the version.
+    Version,
 }
 
 /// What is asked for in a subnet, with the names of the files.
@@ -221,7 +223,7 @@ pub struct Asked<'a> {
 pub enum Refused<T> {
     /// Out of memory.
     NoMemory,
-    /// The arguments are refused, or help or the version is requested: the text of that.
+    /// The arguments are refused, or help is requested: the text of that.
     Words(T),
 }
 

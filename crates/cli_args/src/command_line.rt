@@ -1,6 +1,6 @@
 //! The command line of the program, for `clap`.
 
-ghost use Rattle.std.specs.Prelude.{◌≡◌, false, true, List, ℕ, Option, None, Some, codes, map, string_bytes, IfOk, IfErr, IsSomeAnd};
+ghost use Rattle.std.specs.Prelude.{◌≡◌, false, true, List, ℕ, Option, None, Some, codes, map, option_map, string_bytes, IfOk, IfErr, IsSomeAnd};
 ghost use Rattle.clap.specs.Words.{App, Rule, app_of, rule_of, subcommand_rows_of, with_rule, with_subcommand};
 ghost use Rattle.clap.specs.declared.builder.command.Command.TheViews.{out-Command as fields_of};
 ghost use Rattle.cli_args.specs.CommandLine.{Reads};
@@ -17,7 +17,7 @@ ghost use Rattle.cli_args.specs.Help.{help_of_fabric, help_of_manager, help_of_n
 ghost use Rattle.cli_args.specs.Help.{help_of_second_partitions, help_of_sender, help_of_topology};
 ghost use Rattle.cli_args.specs.Help.{program_name, program_version, text_in};
 ghost use Rattle.cli_args.specs.Refusals.{IsShown};
-ghost use Rattle.cli_args.specs.Words.{asked_in, asked_of};
+ghost use Rattle.cli_args.specs.Words.{asked_if_parsed, asked_of};
 ghost use Rattle.cli_args.specs.declared.help.TheConstants.{AUDIT, AUDIT_KEYS, CHANGES, CODES, COMPARISON, CUTS, GRAPH, IMPORT, KEYS, LISTING, REPORT, SHARES, STATUSES, TABLES};
 ghost use Rattle.cli_args.specs.declared.help.TheConstants.{LOAD, MANAGE, SMPS, TRACE};
 
@@ -723,19 +723,19 @@ fn fabric_command<'a>(alloc: Global) -> Result<Command<'a>, AllocError>
 ///
 /// Its ghost member is what a contract may know of that: `shown` is the text of a refusal, if it is known.
 pub trait Parser {
-    /// Why arguments are refused, or what is printed of help or the version: its text is for the user.
+    /// Why arguments are refused, or that help is requested: its text is for the user.
     type Error: Display + Drop;
 
     ghost shown: { Self → List (List ℕ) → Option (List ℕ) };
 
-    /// What is in the arguments, the first of them the program's own name.
+    /// What is in the arguments, the first of them the program's own name; none if the version is requested.
     fn parse<'a>(
         &self,
         alloc: Global,
         words: &'a [String],
-    ) -> Result<ArgMatches<'a>, Refused<Self::Error>>
-        ensures found { IfOk result (λ matches.
-            asked_of (shown self.now) (map string_bytes words.entry.now) ≡ asked_in (subcommand_rows_of matches)) }
+    ) -> Result<Option<ArgMatches<'a>>, Refused<Self::Error>>
+        ensures found { IfOk result (λ parsed.
+            asked_of (shown self.now) (map string_bytes words.entry.now) ≡ asked_if_parsed (option_map (λ matches. subcommand_rows_of matches) parsed)) }
         ensures refused { IfErr result (IsShown Self.Error.output (shown self.now) (map string_bytes words.entry.now)) };
 }
 
@@ -752,11 +752,12 @@ impl Parser for Clap {
         &self,
         alloc: Global,
         words: &'a [String],
-    ) -> Result<ArgMatches<'a>, Refused<Error>> {
+    ) -> Result<Option<ArgMatches<'a>>, Refused<Error>> {
         let command = fabric_command(alloc)?;
         match command.try_get_matches_from(words) {
-            Ok(matches) => Ok(matches),
+            Ok(matches) => Ok(Some(matches)),
             Err(error) if error.kind() == ErrorKind::OutOfMemory => Err(Refused::NoMemory),
+            Err(error) if error.kind() == ErrorKind::DisplayVersion => Ok(None),
             Err(error) => Err(Refused::Words(error)),
         }
     }

@@ -1,5 +1,8 @@
 //! The program's own texts in help, and for arguments that are refused.
 
+/// The line for the version.
+pub(crate) const VERSION_LINE: &str = "fabric 1.0.0\n";
+
 pub(crate) const ABOUT: &str = "An InfiniBand subnet manager over a simulated fabric";
 
 pub(crate) const ABOUT_CHECK: &str =
@@ -47,18 +50,15 @@ pub(crate) const ABOUT_AUDIT_KEYS: &str =
 pub(crate) const ABOUT_EXPLAIN: &str =
     "Explains the code of an error or a refusal, or lists all codes";
 
-/// The help `$before`, then the exit statuses, of which 2 is also that of a request for `$asked`, then
-/// `$after`, and at last how codes are explained.
+/// The help `$before`, then the exit statuses, then `$after`, and at last how codes are explained.
 macro_rules! with_statuses {
-    ($($before:literal)+, $asked:literal, $after:literal) => {
+    ($($before:literal)+, $after:literal) => {
         concat!(
             $($before,)+
             "Exit statuses:
   0  success
   1  an error in the input, printed on standard error in one line
-  2  the arguments are refused, or ",
-            $asked,
-            " is requested
+  2  the arguments are refused, or help is requested
   3  out of memory, a file cannot be read, or output cannot be written",
             $after,
             "
@@ -75,7 +75,6 @@ macro_rules! with_script {
             $before "With SCRIPT the fabric is as the commands of that script leave it" $further ".
 
 ",
-            "help",
             ""
         )
     };
@@ -83,7 +82,6 @@ macro_rules! with_script {
 
 pub(crate) const STATUSES: &str = with_statuses!(
     "",
-    "help or the version",
     "
 
 LFTs are linear forwarding tables, MFTs multicast forwarding tables, a CA is a channel adapter (HCA),
@@ -137,7 +135,6 @@ For example, for `P1=0x0001: 0x111=full, 0x121;` in PARTS:
   member 0x0001 h2/1
 
 ",
-    "help",
     ""
 );
 
@@ -155,7 +152,6 @@ For example, for `P1=0x0001: 0x111=full, 0x121, 0x131;` in PARTS:
   share h1/1 h3/1 0x0001
 
 ",
-    "help",
     ""
 );
 
@@ -173,7 +169,6 @@ For example, if `P1=0x0001: 0x111=full, 0x121, 0x131;` gets `0x121=full`:
   + share h2/1 h3/1 0x0001
 
 ",
-    "help",
     ""
 );
 
@@ -268,7 +263,6 @@ For example, after the line `send h1/1 5 0xffff 7 2:beef` of a script:
 HEX leaves out the zero bytes at the end of the N bytes.
 
 ",
-    "help",
     ""
 );
 
@@ -283,7 +277,6 @@ For each there is a line, before the next is read: the reply as it comes to the 
 Empty lines and comments are passed over. What an SMP sets stays set for those after it.
 
 ",
-    "help",
     ""
 );
 
@@ -304,7 +297,6 @@ How many end ports it has, how many SMPs were printed, and at how many switch po
 port only the CA port keeps partitions apart.
 
 ",
-    "help",
     ""
 );
 
@@ -319,7 +311,6 @@ ports do may differ, and which cables are cut. If the scripts agree, the events 
 proved that `no` never follows `yes`.
 
 ",
-    "help",
     ""
 );
 
@@ -364,7 +355,6 @@ that changes, in the order of the tables; `none` is no port:
 Nothing is cut: routes are planned over the fabric as it is brought up.
 
 ",
-    "help",
     ""
 );
 
@@ -389,7 +379,6 @@ A line that ibnetdiscover does not print is refused, and so are lines that contr
 a fabric that no topology describes.
 
 ",
-    "help",
     ""
 );
 
@@ -499,7 +488,6 @@ For example, for your own fabric:
   fabric audit discovered tables --sl2vl lanes
 
 ",
-    "help",
     ""
 );
 
@@ -527,7 +515,7 @@ use, and in a loop once on each:
   most PAIRS
   least PAIRS
   mean PAIRS
-  level LEVEL most PAIRS mean PAIRS ratio RATIO
+  level LEVEL up|across|down most PAIRS mean PAIRS ratio RATIO
   pairs PAIRS, lost PAIRS, unknown PAIRS
 
 For example, for your own fabric:
@@ -536,7 +524,6 @@ For example, for your own fabric:
   fabric load discovered --dump tables
 
 ",
-    "help",
     ""
 );
 
@@ -600,7 +587,6 @@ For example, on a node of your own fabric:
   fabric audit-keys discovered pkeys partitions.conf
 
 ",
-    "help",
     ""
 );
 
@@ -625,6 +611,5 @@ Without CODE there is a line for each code, with its cause.
 For example, `fabric explain PF2` explains a line as `fault PF2 partitions line 3`.
 
 ",
-    "help",
     ""
 );

@@ -2,6 +2,7 @@
 
 ghost use Rattle.std.specs.Prelude.{◌≡◌, ◌^◌, Ok, Some, map, string_bytes, option_map, IfOk, IfErr};
 ghost use Rattle.clap.specs.Words.{first_of, found_of, rows_of, subcommand_rows_of};
+ghost use Rattle.cli_args.specs.Help.{version_line};
 ghost use Rattle.cli_args.specs.Refusals.{IsOfGiven, IsOfWords, ReportsAll};
 ghost use Rattle.cli_args.specs.Words.{asked_by, asked_in, asked_of, audit_by, audit_three, audit_with, call_in, compare_by, cuts_by, diff_by, dumped_by, explain_by, file_in, given_items, guid_by};
 ghost use Rattle.cli_args.specs.Words.{audit_keys_by, import_by, in_subnet, roots_by};
@@ -15,7 +16,7 @@ use crate::call::{
 use crate::command_line::Parser;
 use crate::help::{
     NO_SECOND_PORT, NO_SUCH_CODE, NO_SUCH_IMPORT, NO_SUCH_KEYS_GUID, NO_SUCH_NUMBER, NOT_TEXT,
-    ONE_PICTURE, ONE_THIRD_FILE, PARTS_OR_DUMP,
+    ONE_PICTURE, ONE_THIRD_FILE, PARTS_OR_DUMP, VERSION_LINE,
 };
 use clap::ArgMatches;
 use code_texts::Code;
@@ -48,10 +49,11 @@ pub fn read_words<'a, P: Parser>(
     ensures refused { IfErr result (IsOfWords (asked_of (P.shown parser.now) (map string_bytes words.entry.now))) }
 {
     match parser.parse(alloc, words) {
-        Ok(matches) => match call_in(&matches) {
+        Ok(Some(matches)) => match call_in(&matches) {
             Ok(call) => Ok(call),
             Err(text) => Err(Refused::Words(String::from_str(alloc, text)?)),
         },
+        Ok(None) => Ok(Call::Version),
         Err(Refused::NoMemory) => Err(Refused::NoMemory),
         Err(Refused::Words(error)) => Err(shown(alloc, &error)),
     }
@@ -81,6 +83,13 @@ fn call_in<'a>(matches: &ArgMatches<'a>) -> Result<Call<Asked<'a>, &'a str>, &'s
         Some(call) => Ok(call),
         None => Err(text_for(command)),
     }
+}
+
+/// What is printed of the version.
+pub fn version_line() -> &'static str
+    ensures { result.now ≡ version_line }
+{
+    VERSION_LINE
 }
 
 /// The command of that name.

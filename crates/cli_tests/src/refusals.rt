@@ -3,10 +3,10 @@
 use crate::calls::{Answer, RUN, plain, read_so, reported, sink};
 use crate::fixtures::{FAULTY, FIRST, REPORT, SENDS};
 use crate::memory::{Manner, Refusal, Source};
-use example_texts::TWO_SWITCHES;
 use std::alloc::{AllocError, Global};
 use std::process::Abort;
 use std::test::Fail;
+use test_fabrics::TWO_SWITCHES;
 
 /// The names of the topology, the partition file and the script; the status, both outputs, and how many files
 /// were opened.

@@ -2,8 +2,8 @@
 
 use crate::calls::reported_of;
 use crate::fixtures::{REPORT, SENDS};
-use example_texts::TWO_SWITCHES;
 use std::test::Fail;
+use test_fabrics::TWO_SWITCHES;
 
 /// With enough memory the report; if an allocation fails, status 3 and the beginning of a line that says so.
 /// tests/refused-memory lets each allocation of this test fail in turn.

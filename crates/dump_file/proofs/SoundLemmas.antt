@@ -124,12 +124,3 @@ sound_closed so_far heading sound under =
       one_end_closed = ap have_one_end (rows_of_closed so_far.tables heading so_far.rows) ∙ sound.one_end;
       one_end = ap have_one_end (rows_closed so_far.tables heading so_far.rows) ∙ sound.one_end;
     }
-
--- ---- the table that is open is broken off
-pub sound_broken_off : (so_far : DraftState) → IsSoundSoFar so_far → IsSoundSoFar (broken_off so_far)
-sound_broken_off so_far sound = record {
-  rising = sound.rising;
-  open_rows = refl;
-  one_end_closed = sound.one_end_closed;
-  one_end = ap have_one_end (append-nil (rows_of so_far.tables)) ∙ sound.one_end_closed;
-}

@@ -4,7 +4,7 @@ use Rattle.std.specs.List.{list_any, starts_with}
 use Rattle.std.specs.Option.{option_map_or}
 use Rattle.step_results.specs.AtLine.{AtLine, after_lines}
 use Rattle.step_results.specs.Steps.{◌>>=◌}
-use Rattle.text_words.specs.Cut.{cut_at}
+use Rattle.text_words.specs.Cut.{cut_at, trimmed}
 use Rattle.text_words.specs.Failure.{is_failure}
 use Rattle.text_words.specs.Lines.{lines}
 use Rattle.text_words.specs.Number.{number_in}
@@ -16,7 +16,7 @@ use Rattle.dump_file.specs.declared.stage.Stage.{Stage}
 use Rattle.dump_file.specs.declared.stage.Stage.TheVariants.{Between, FirstTitle, SecondTitle, Rows, Multicast}
 use Rattle.dump_file.specs.declared.table.Table.{Table}
 use Rattle.dump_file.specs.Heading.{heading_in}
-use Rattle.dump_file.specs.Parts.{count_in, cut, trimmed}
+use Rattle.dump_file.specs.Parts.{count_in, cut}
 use Rattle.dump_file.specs.Row.{is_said_otherwise, may_follow, row_in, valid_count}
 use Rattle.dump_file.specs.Table.{latest, place_of, rows_of, table_of}
 

@@ -7,9 +7,9 @@ use Rattle.dump_file.specs.declared.row.Row.{Row}
 use Rattle.dump_file.specs.declared.table.Table.{Table}
 use Rattle.dump_file.specs.Dump.{count_reported, dump_of}
 use Rattle.dump_file.specs.Heading.{heading_in}
-use Rattle.dump_file.specs.Parts.{trimmed}
 use Rattle.dump_file.specs.Row.{is_said_otherwise, may_follow, row_in}
 use Rattle.dump_file.specs.Sound.{have_one_end, is_rising, shares_switch}
+use Rattle.text_words.specs.Cut.{trimmed}
 
 -- the first line of a table
 pub record HeadingsAreRead : Type 0 where

@@ -1,17 +1,12 @@
 -- Parts of lines, and the numbers in them.
 use Rattle.std.specs.Prelude.{ℕ, Bool, ◌-◌, ◌^◌, ◌==◌, nat_eq, List, length, take, drop, if◌then◌else◌, Result, Ok, Err}
-use Rattle.std.specs.List.{starts_with, ends_with, suffix_len}
-use Rattle.std.specs.Char.{is_ascii_whitespace}
+use Rattle.std.specs.List.{starts_with, ends_with}
 use Rattle.std.specs.Option.{ok_or}
 use Rattle.step_results.specs.Steps.{◌>>=◌}
 use Rattle.text_words.specs.Cut.{cut_at}
 use Rattle.text_words.specs.Number.{if_under, number_in, u16_in}
 use Rattle.dump_file.specs.declared.fault.DumpCause.{DumpCause}
 use Rattle.dump_file.specs.declared.fault.DumpCause.TheVariants.{Malformed}
-
--- a line without its LF, a CR before it, and the blanks before these
-abbrev pub trimmed : List ℕ → List ℕ
-trimmed line = take (length line - suffix_len is_ascii_whitespace line) line
 
 -- what was found, if the test holds
 abbrev pub only_if : {X : Type 0} → Bool → X → Result X DumpCause

@@ -21,6 +21,6 @@ mod table;
 pub use crate::destination::Destination;
 pub use crate::dump::Dump;
 pub use crate::fault::{DumpCause, DumpFault};
-pub use crate::reader::{read, read_from};
+pub use crate::reader::{is_heading, is_multicast_heading, is_passed_over, read, read_from};
 pub use crate::row::{Row, RowList};
 pub use crate::table::Table;

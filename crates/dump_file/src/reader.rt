@@ -14,12 +14,11 @@ use crate::draft::{Draft, count_reported};
 use crate::dump::Dump;
 use crate::fault::{DumpCause, DumpFault};
 use crate::heading::Heading;
-use crate::parts::trimmed;
 use crate::stage::Stage;
 use std::alloc::Global;
 use step_results::LineError;
 use text_streams::{Reader, read_lines_of};
-use text_words::{LineReader, cut_at, is_failure, number_in, read_lines};
+use text_words::{LineReader, cut_at, is_failure, number_in, read_lines, trimmed};
 
 impl Draft {
     fn take_heading(&mut self, number: usize, text: &[u8]) -> Result<(), LineError<DumpCause>>
@@ -184,13 +183,15 @@ impl LineReader for Draft {
     }
 }
 
-fn is_heading(text: &[u8]) -> bool
+/// Whether an LFT begins here.
+pub fn is_heading(text: &[u8]) -> bool
     ensures { result ≡ is_heading text.now }
 {
     text.starts_with(b"Unicast lids [")
 }
 
-fn is_multicast_heading(text: &[u8]) -> bool
+/// Whether an MFT begins here.
+pub fn is_multicast_heading(text: &[u8]) -> bool
     ensures { result ≡ is_multicast_heading text.now }
 {
     text.starts_with(b"Multicast mlids [")
@@ -213,7 +214,7 @@ fn is_multicast_end(text: &[u8]) -> bool
 }
 
 /// Whether nothing stands on a line, or a comment.
-fn is_passed_over(text: &[u8]) -> bool
+pub fn is_passed_over(text: &[u8]) -> bool
     ensures { result ≡ is_passed_over text.now }
 {
     text.is_empty() || text.starts_with(b"#")

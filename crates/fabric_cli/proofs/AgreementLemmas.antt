@@ -4,7 +4,7 @@ use Rattle.std.specs.List.{All}
 use Rattle.std.specs.Option.{option_to_list}
 use Rattle.std.proofs.lemmas.List.Elements.{All-head, All-tail}
 use Rattle.cli_args.specs.Words.{Names, work_names}
-use Rattle.cli_args.specs.declared.call.Call.TheVariants.{AuditKeys, AuditThree, Dumped, Explain, Import, Subnet}
+use Rattle.cli_args.specs.declared.call.Call.TheVariants.{AuditKeys, AuditThree, Dumped, Explain, Import, Subnet, Version}
 use Rattle.cli_args.specs.declared.call.Work.{Work}
 use Rattle.cli_args.specs.declared.call.Work.TheVariants as work
 use Rattle.fabric_cli.specs.Files.{Contents}
@@ -88,3 +88,4 @@ judged_alike file other (Ok (AuditKeys netdiscover pkeys partitions manager all)
       partitions_alike file other partitions last,
     ) refl
 judged_alike file other (Ok (Explain code)) same = refl
+judged_alike file other (Ok Version) same = refl

@@ -15,10 +15,11 @@ use Rattle.fabric_cli.specs.declared.answering.Answer.TheVariants.{Complete, War
 use Rattle.fabric_cli.specs.Serving.{AppendsSome, Ending, Judged, bytes_if_named, keys_audited, three_viewed, broken_off, complete, faulted, managed, status_in, warned, imported, judged_for, output_in, refused, ended, to_judge, viewed}
 use Rattle.fabric_cli.specs.Serving.{Answers, BreaksOff, Ends, EndsAs, ForEnding, ForSomeBytes, GoesOut, GoesPartly, GrowsPartly, IsOfManage, IsRefusal, IsReportedStop, RunStops, Stops, StopsBehind}
 use Rattle.code_texts.specs.Texts.{explained}
+use Rattle.cli_args.specs.Help.{version_line}
 use Rattle.cli_args.specs.Words.{Asking, asked_by_given, asking_by_clap}
 use Rattle.cli_args.specs.declared.call.DumpView.{DumpView}
 use Rattle.cli_args.specs.declared.call.ThirdFile.{ThirdFile}
-use Rattle.cli_args.specs.declared.call.Call.TheVariants.{AuditKeys, AuditThree, Dumped, Explain, Import, Subnet}
+use Rattle.cli_args.specs.declared.call.Call.TheVariants.{AuditKeys, AuditThree, Dumped, Explain, Import, Subnet, Version}
 use Rattle.text_streams.specs.Writing.{AppendsPart}
 use Rattle.text_streams.proofs.KnownBytesLemmas.{appends_nothing}
 use Rattle.fabric_cli.proofs.JudgedLemmas.{for_ending}
@@ -231,6 +232,7 @@ for_some_bytes (Ok (AuditThree third fabric dump name)) P Q f some = (some.0, so
 for_some_bytes (Ok (AuditKeys netdiscover pkeys partitions manager all)) P Q f some =
     (some.0, some.1, some.2, some.3, f (ended (keys_audited manager all some.0 some.1 some.2)) some.4)
 for_some_bytes (Ok (Explain code)) P Q f some = f (ended (complete (explained code))) some
+for_some_bytes (Ok Version) P Q f some = f (ended (complete version_line)) some
 
 -- what is answered of a file that was read is what is answered of the files
 pub of_file : (reported : Option Contents) (name bytes : List ℕ) (manager : Option ℕ) (roots : Bool) (result : Result Answer Stop) (a : Bool) (out out' : Option (List ℕ))

@@ -184,14 +184,3 @@ pub reported_texts : {I : Type 0} (reported : Option Contents) (names : Names) (
 reported_texts None names texts remaining Is known are of = tt
 reported_texts (Some file) names texts remaining Is known are of =
     subst Is (sym (ap judged_if_read are)) (script_known (left_in remaining texts.work) (λ script. Is (to_judge (texts_in script texts))) known of)
-
--- ---- a file of which some bytes were read
-bytes_of : (found known : Option (List ℕ)) (bytes : List ℕ) → Some known ≡ option_map Some found → IfSome known (λ all. all ≡ bytes) → found ≡ Some bytes
-bytes_of None known bytes is same = cc
-bytes_of (Some all) known bytes is same = let e : known ≡ Some all = cc in ap Some (rw e at same)
-
--- they are those behind its name
-pub bytes_behind : (reported : Option Contents) (name : List ℕ) (known : Option (List ℕ)) (bytes : List ℕ)
-    → IfSome reported (λ file. Some known ≡ option_map Some (file name)) → IfSome known (λ all. all ≡ bytes) → IfSome reported (λ file. file name ≡ Some bytes)
-bytes_behind None name known bytes is same = tt
-bytes_behind (Some file) name known bytes is same = bytes_of (file name) known bytes is same

@@ -18,8 +18,8 @@ use Rattle.fabric_parts.specs.NodeType.{most_ports}
 use Rattle.fabric_parts.specs.declared.cable.PortRef.{PortRef}
 use Rattle.fabric_parts.specs.declared.node_type.NodeType.{NodeType}
 use Rattle.fabric_parts.specs.declared.node_type.NodeType.TheVariants.{ChannelAdapter, Switch}
-use Rattle.line_parts.specs.Ports.{port_text}
-use Rattle.text_parts.specs.Parts.{hex_text}
+use Rattle.partition_reports.specs.Ports.{port_text}
+use Rattle.text_words.specs.Parts.{hex_text}
 use Rattle.partition_file.specs.declared.partition.Partition.{Partition}
 use Rattle.step_results.proofs.ListLemmas.{all_have, all_joined, all_there}
 use Rattle.subnet_core.specs.EventLines.{line_text, name_text, outcome_text, packet_text, payload_text, report_text, trimmed}
@@ -30,9 +30,9 @@ use Rattle.subnet_model.specs.declared.event.Outcome.{Outcome}
 use Rattle.subnet_model.specs.declared.event.Outcome.TheVariants.{Received, Refused}
 use Rattle.subnet_model.specs.declared.event.PortEvent.{PortEvent}
 use Rattle.subnet_model.specs.declared.subnet_port.SubnetPort.{SubnetPort}
-use Rattle.subnet_ports.proofs.EndPortLemmas.{end_ports_stand_in_order}
-use Rattle.subnet_ports.specs.EndPorts.{IsEndPort, is_end_port}
-use Rattle.subnet_ports.specs.Ports.{ports_of}
+use Rattle.subnet_fabric.proofs.EndPortLemmas.{end_ports_stand_in_order}
+use Rattle.subnet_fabric.specs.EndPorts.{IsEndPort, is_end_port}
+use Rattle.subnet_fabric.specs.Ports.{ports_of}
 use Rattle.text_words.specs.Words.{is_name, is_name_byte}
 use Rattle.topo_file.specs.Node.{is_switch, port_guid_at}
 use Rattle.topo_file.specs.Sound.{IsSound, is_named, is_sized, shares_name}

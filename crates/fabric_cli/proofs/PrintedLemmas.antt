@@ -3,8 +3,8 @@ use Rattle.std.proofs.Common.{ℕ, ◌≡◌, ◌∙◌, ap, refl, sym, Bool, fa
 use Rattle.partition_file.specs.declared.partition.Partition.{Partition}
 use Rattle.step_results.proofs.StepLemmas.{bind_ok, same_ok}
 use Rattle.step_results.specs.AtLine.{AtLine}
-use Rattle.sa_runs.proofs.ApartLemmas.{runs_are_isolated}
-use Rattle.sa_runs.specs.Administration.{subnet_administration}
+use Rattle.sa_replies.proofs.ApartLemmas.{runs_are_isolated}
+use Rattle.sa_replies.specs.Administration.{subnet_administration}
 use Rattle.topo_file.proofs.TopologyLemmas.{topology_is_sound}
 use Rattle.script_lines.specs.Script.{command_of}
 use Rattle.script_lines.specs.declared.script_cause.ScriptCause.{ScriptCause}
@@ -20,7 +20,7 @@ use Rattle.subnet_model.specs.Restriction.{acts_in, commands_of, events_at}
 use Rattle.subnet_model.specs.declared.command.Command.{Command}
 use Rattle.subnet_model.specs.declared.event.PortEvent.{PortEvent}
 use Rattle.subnet_model.specs.declared.subnet_port.SubnetPort.{SubnetPort}
-use Rattle.subnet_ports.specs.Ports.{ports_of}
+use Rattle.subnet_fabric.specs.Ports.{ports_of}
 use Rattle.text_words.specs.Lines.{lines}
 use Rattle.topo_file.specs.Sound.{IsSound}
 use Rattle.topo_file.specs.Topology.{TopologyState, topology_of}

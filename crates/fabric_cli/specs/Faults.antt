@@ -23,7 +23,7 @@ use Rattle.dump_file.specs.Fault.{code_of as dump_code}
 use Rattle.mft_file.specs.Fault.{code_of as mft_code}
 use Rattle.sl2vl_file.specs.Fault.{code_of as lanes_code}
 use Rattle.pkeys_file.specs.Fault.{code_of as keys_code}
-use Rattle.text_parts.specs.Parts.{hex_text}
+use Rattle.text_words.specs.Parts.{hex_text}
 use Rattle.netdiscover_file.specs.Fault.{code_of as discovery_code}
 use Rattle.smp_lines.specs.declared.stop.SmpStop.{SmpStop}
 use Rattle.smp_lines.specs.declared.stop.SmpStop.TheVariants as smp

@@ -1,7 +1,7 @@
 -- What a run prints of one port.
 use Rattle.std.specs.Prelude.{ℕ, ◌≡◌, false, List, ◌∷◌, ◌++◌, codes, filter, map, nat_eq, Option, Some, Ok}
 use Rattle.std.specs.List.{starts_with}
-use Rattle.line_parts.specs.Ports.{port_text}
+use Rattle.partition_reports.specs.Ports.{port_text}
 use Rattle.script_lines.specs.Script.{command_of}
 use Rattle.subnet_core.specs.Fate.{up_from}
 use Rattle.subnet_core.specs.EventLines.{line_text, report_text}

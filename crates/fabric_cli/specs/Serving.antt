@@ -4,7 +4,7 @@ use Rattle.std.specs.Prelude.{codes, if◌then◌else◌, length, map, string_by
 use Rattle.std.specs.Io.KnownBytes.{Appends, Keeps}
 use Rattle.subnet_core.specs.declared.fault.RunFault.{RunFault}
 use Rattle.subnet_core.specs.declared.fault.RunFault.TheVariants as run
-use Rattle.port_shares.specs.Sums.{listed_shares}
+use Rattle.partition_reports.specs.Sums.{listed_shares}
 use Rattle.cable_cuts.specs.Texts.{ReportsAll, ReportsOne}
 use Rattle.fabric_parts.specs.declared.cable.Cable.{Cable}
 use Rattle.script_lines.specs.SwitchCable.{named_cable}
@@ -18,13 +18,13 @@ use Rattle.script_lines.specs.declared.script_cause.ScriptCause.{ScriptCause}
 use Rattle.script_lines.specs.ScriptCause.{code_of as script_code}
 use Rattle.fabric_graph.specs.Graph.{graph_text}
 use Rattle.cable_looks.specs.Looks.{needed_look}
-use Rattle.own_loads.specs.OwnLoads.{own_load_text, own_looks}
+use Rattle.fabric_loads.specs.OwnLoads.{own_load_text, own_looks}
 use Rattle.fabric_tables.specs.Keys.{keys_text}
 use Rattle.fabric_parts.specs.declared.cable.PortRef.{PortRef}
 use Rattle.fabric_tables.specs.Multicast.{tables_text}
 use Rattle.packet_trace.specs.Lines.{trace_text}
 use Rattle.partition_file.specs.Fault.{code_of as partitions_code}
-use Rattle.partition_changes.specs.Sums.{listed_changes}
+use Rattle.partition_reports.specs.ChangedSums.{listed_changes}
 use Rattle.subnet_core.specs.Listing.{listing_text}
 use Rattle.script_lines.specs.NamedPort.{adapter_place, named_port}
 use Rattle.script_lines.specs.Script.{commands_in}
@@ -52,7 +52,8 @@ use Rattle.fabric_cli.specs.declared.reading.OpenFile.{OpenFile}
 use Rattle.fabric_cli.specs.declared.texts.Texts.{Texts}
 use Rattle.code_texts.specs.Texts.{explained}
 use Rattle.cli_args.specs.declared.call.Call.TheVariants as call
-use Rattle.cli_args.specs.declared.call.Call.TheVariants.{Explain, Subnet}
+use Rattle.cli_args.specs.Help.{version_line}
+use Rattle.cli_args.specs.declared.call.Call.TheVariants.{Explain, Subnet, Version}
 use Rattle.cli_args.specs.declared.call.Inspection.{Inspection}
 use Rattle.cli_args.specs.declared.call.Inspection.TheVariants.{Graph, Keys, Load, LoadGraph, Tables, Trace}
 use Rattle.cli_args.specs.declared.call.Work.{Work}
@@ -65,15 +66,15 @@ use Rattle.fabric_cli.specs.declared.answering.Answer.TheVariants.{Complete, War
 use Rattle.fabric_parts.specs.declared.limits.Limits.TheVariants.{Large}
 use Rattle.dump_file.specs.Dump.{DumpState, dump_of}
 use Rattle.dump_file.specs.declared.fault.DumpCause.{DumpCause}
-use Rattle.route_audit.specs.Audit.{AuditState, audit, audit_discovery}
+use Rattle.audit_routes.specs.Audit.{AuditState, audit, audit_discovery}
 use Rattle.mft_file.specs.Mfts.{MftState, mfts_of}
 use Rattle.mft_file.specs.declared.fault.MftCause.{MftCause}
-use Rattle.multicast_audit.specs.Audit.{audit_multicast, audit_multicast_found}
+use Rattle.audit_multicast.specs.Audit.{audit_multicast, audit_multicast_found}
 use Rattle.sl2vl_file.specs.Lanes.{LanesState, lanes_of}
 use Rattle.sl2vl_file.specs.declared.fault.LanesCause.{LanesCause}
-use Rattle.lane_audit.specs.Audit.{audit_lanes, audit_lanes_found}
-use Rattle.keys_audit.specs.Text.{KeysAuditState, audit_without_partitions, keys_audit}
-use Rattle.cable_load.specs.Text.{load_text, load_text_found}
+use Rattle.audit_lanes.specs.Audit.{audit_lanes, audit_lanes_found}
+use Rattle.audit_keys.specs.Text.{KeysAuditState, audit_without_partitions, keys_audit}
+use Rattle.audit_loads.specs.Text.{load_text, load_text_found}
 use Rattle.cli_args.specs.declared.call.DumpView.{DumpView}
 use Rattle.cli_args.specs.declared.call.DumpView.TheVariants as dump_view
 use Rattle.cli_args.specs.declared.call.ThirdFile.{ThirdFile}
@@ -595,6 +596,7 @@ judged_for file (Ok (call.AuditThree third fabric dump name)) = ended (three_of_
 judged_for file (Ok (call.AuditKeys netdiscover pkeys partitions manager all)) =
     ended (keys_of_files manager all (bytes_of file netdiscover) (bytes_of file pkeys) (bytes_if_named file partitions))
 judged_for file (Ok (Explain code)) = ended (complete (explained code))
+judged_for file (Ok Version) = ended (complete version_line)
 
 -- what is to be done, whatever its files contain
 abbrev pub without_files : {W S R : Type 0} → Work W S R → Work W (Unit {0}) (Unit {0})
@@ -622,6 +624,7 @@ ForSomeBytes (Ok (call.AuditThree third fabric dump name)) Is = (plan tables fil
 ForSomeBytes (Ok (call.AuditKeys netdiscover pkeys partitions manager all)) Is =
     (found answers : List ℕ) × (parts : Option (List ℕ)) × (is_some parts ≡ is_some partitions) × Is (ended (keys_audited manager all found answers parts))
 ForSomeBytes (Ok (Explain code)) Is = Is (ended (complete (explained code)))
+ForSomeBytes (Ok Version) Is = Is (ended (complete version_line))
 
 -- the text is the known one
 abbrev pub IsKnown : Option (List ℕ) → List ℕ → Type 0

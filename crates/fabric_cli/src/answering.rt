@@ -12,8 +12,8 @@ use crate::faults::{COMPLETE, FAULT, Stop};
 use crate::outputs::{DumpOutput, changed, compared, cut, inspected, listed, shared};
 use crate::reading::OpenFile;
 use crate::texts::Texts;
+use audit_routes::Audit;
 use cli_args::Work;
-use route_audit::Audit;
 use smp_lines::{LineWire, SmpStop, answer_smps, place_text};
 use std::alloc::{AllocError, Global};
 use subnet_core::{

@@ -20,7 +20,7 @@ use smp_lines::SmpStop;
 use std::alloc::{AllocError, AllocFailed, Global};
 use subnet_core::{RunFault, ScriptCause};
 use sweep::SweepFault;
-use text_parts::push_hex;
+use text_words::push_hex;
 use topology_import::ImportCause;
 
 /// The exit status of success.
@@ -38,7 +38,7 @@ pub const MEMORY_LINE: &str = "fault memory\n";
 /// Why the program stops.
 #[derive(Drop)]
 pub enum Stop<'a> {
-    /// The arguments are refused, or help or the version is requested: the text of that.
+    /// The arguments are refused, or help is requested: the text of that.
     Words(String),
     /// Out of memory.
     NoMemory,

@@ -23,21 +23,20 @@ ghost use Rattle.script_lines.specs.NamedPort.{adapter_place};
 ghost use Rattle.subnet_core.specs.Inventory.{large_inventory_of};
 
 use crate::faults::{ForeignCause, Stop};
+use audit_loads::{load_text, load_text_found};
+use audit_routes::{Audit, audit, audit_discovery};
 use cable_cuts::{cut_text, cuts_text, needed};
-use cable_load::{load_text, load_text_found};
 use cable_looks::needed_looks;
 use cli_args::{CutView, DumpView, Inspection};
 use dump_file::{Dump, DumpFault};
 use fabric_graph::graph_text;
+use fabric_loads::{own_load_text, own_looks};
 use fabric_parts::Limits;
 use fabric_tables::{keys_text, tables_text};
 use netdiscover_file::{Discovery, DiscoveryFault, is_discovery};
-use own_loads::{own_load_text, own_looks};
 use packet_trace::trace_text;
-use partition_changes::changes_text;
-use port_shares::listed_shares;
+use partition_reports::{changes_text, listed_shares};
 use rooted_import::rooted_topology_text;
-use route_audit::{Audit, audit, audit_discovery};
 use script_lines::named_cable;
 use std::alloc::{AllocError, Global};
 use subnet_core::{

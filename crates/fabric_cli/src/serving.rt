@@ -13,7 +13,7 @@ ghost use Rattle.fabric_cli.specs.KeyFiles.{keys_call, keys_names};
 ghost use Rattle.fabric_cli.specs.ThreeFiles.{three_call, three_names};
 ghost use Rattle.text_streams.specs.Writing.{Writes};
 
-use crate::answering::{Answer, answered_of_texts, written, written_view};
+use crate::answering::{Answer, answered_of_texts, written, written_as, written_view};
 use crate::faults::{MEMORY_LINE, REFUSED, Stop};
 use crate::files::Files;
 use crate::key_audits::{KeysFiles, keys_audited, read_keys_files, written_keys};
@@ -21,7 +21,9 @@ use crate::outputs::{imported, text_or_stop, viewed};
 use crate::reading::{read_fabric_and_dump, read_file};
 use crate::texts::read_texts;
 use crate::three_files::{ThreeFiles, read_three_files, three_viewed};
-use cli_args::{Asked, Call, Clap, DumpView, Parser, ThirdFile, given_words, read_words};
+use cli_args::{
+    Asked, Call, Clap, DumpView, Parser, ThirdFile, given_words, read_words, version_line,
+};
 use code_texts::explained;
 use std::alloc::Global;
 use std::env::Args;
@@ -193,6 +195,7 @@ fn answered<'a, P: Parser, F: Files, O: Output>(
             answered_of_keys(alloc, &asked, manager, all, files, out)
         }
         Ok(Call::Explain(code)) => written(out, text_or_stop(explained(alloc, code))),
+        Ok(Call::Version) => written_as(out, version_line().as_bytes(), Answer::Complete),
         Err(refused) => Err(Stop::of_words(refused)),
     }
 }

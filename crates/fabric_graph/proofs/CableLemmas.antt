@@ -4,7 +4,7 @@ use Rattle.std.proofs.Common.{Bool, true, false, List, [], ◌∷◌, length, na
 use Rattle.std.specs.Prelude.{filter, find}
 use Rattle.std.specs.List.{IsDistinct, list_any, range_with_len}
 use Rattle.std.specs.Option.{option_and_then}
-use Rattle.std.proofs.lemmas.Bool.{cases_Bool, eq-eqb, eqb-true, leb-true}
+use Rattle.std.proofs.lemmas.Bool.{cases_Bool, eq-eqb, eqb-true, leb-true, or_cases, or_right}
 use Rattle.std.proofs.lemmas.List.{length-map}
 use Rattle.std.proofs.lemmas.List.FromFn.{length-range_with_len}
 use Rattle.std.proofs.lemmas.Map.Keys.{IsDistinct-tail}
@@ -23,18 +23,9 @@ use Rattle.topo_file.specs.Sound.{AreSound, ends_at_ports, is_port, joins_right,
 use Rattle.topo_file.specs.Topology.{TopologyState}
 use Rattle.topo_file.specs.declared.node.Node.{Node}
 
--- ---- ports
-or_both : (a b : Bool) → (a || b) ≡ true → (a ≡ true) ⊎ (b ≡ true)
-or_both true b e = inl refl
-or_both false b e = inr e
-
 or_left : (a b : Bool) → a ≡ true → (a || b) ≡ true
 or_left true b e = refl
 or_left false b e = absurd (clashing (sym e))
-
-or_right : (a b : Bool) → b ≡ true → (a || b) ≡ true
-or_right true b e = refl
-or_right false b e = e
 
 and_of : (a b : Bool) → a ≡ true → b ≡ true → (a && b) ≡ true
 and_of true b e f = f
@@ -52,7 +43,7 @@ port_same a b e =
 
 -- ---- the one cable at a port
 ends_at_end : (at : PortRef) (a b : Cable) → ends_at at a ≡ true → ends_at at b ≡ true → shares_port a b ≡ true
-ends_at_end at a b one other = by (or_both (is_same_port a.first at) (is_same_port a.second at) one)
+ends_at_end at a b one other = by (or_cases (is_same_port a.first at) (is_same_port a.second at) one)
   where
     by : (is_same_port a.first at ≡ true) ⊎ (is_same_port a.second at ≡ true) → shares_port a b ≡ true
     by (inl first) = or_left _ _ (ap (λ (p : PortRef). ends_at p b) (same_port a.first at first) ∙ other)
@@ -239,7 +230,7 @@ module _ (plan : TopologyState) (subnet : ConfigurationState) where
         by : (given : Option AttachmentState) → listed_attachment attachments place ≡ given
             → ((cable.first.node ≡ place) ⊎ (cable.second.node ≡ place)) × ((attachment : AttachmentState) × (listed_attachment attachments place ≡ Some attachment))
         by None e = absurd (clashing (sym shows ∙ rw e refl))
-        by (Some attachment) e = by_end attachment e (or_both _ _ (sym (rw e refl) ∙ shows))
+        by (Some attachment) e = by_end attachment e (or_cases _ _ (sym (rw e refl) ∙ shows))
 
     -- not both ends of a cable stand in lists
     one_listed : (one other : AttachmentState) → listed_attachment attachments cable.first.node ≡ Some one → listed_attachment attachments cable.second.node ≡ Some other → ⊥

@@ -23,6 +23,7 @@ use Rattle.cable_looks.specs.declared.looks.Look.TheVariants.{Loaded, Needed, Pl
 use Rattle.fabric_parts.specs.declared.cable.Cable.{Cable}
 use Rattle.smp_wire.specs.FabricState.{FabricState}
 use Rattle.step_results.proofs.ListLemmas.{range_at}
+use Rattle.step_results.proofs.BoolLemmas.{and_false}
 use Rattle.subnet_model.specs.Configuration.{ConfigurationState}
 use Rattle.topo_file.specs.Node.{is_switch_at}
 use Rattle.topo_file.specs.Topology.{TopologyState}
@@ -217,11 +218,6 @@ pub thick_edges_show_numbers : ThickEdgesShowNumbers
 thick_edges_show_numbers picture ranks rank low =
     get_or-map-range_with_len (thickness picture) 0 ranks rank rank 0 low (omega arith) ∙ thickness_is picture rank
 
--- ---- a cable is counted by one thick edge at most, and by one if it is merged
-no_more : (b : Bool) → (b && false) ≡ false
-no_more true = refl
-no_more false = refl
-
 some_kept : (p : ℕ → Bool) (xs : List ℕ) (k x : ℕ) → slice_get xs k ≡ Some x → p x ≡ true → 1 ≤ length (filter p xs)
 some_kept p [] k x there is = absurd (cc)
 some_kept p (y ∷ ys) zero x there is = let same : y ≡ x = cc in let here : p y ≡ true = ap p same ∙ is in rw here (omega arith)
@@ -280,7 +276,7 @@ module _ (picture : Picture) (ranks k : ℕ) (cable : Cable) (there : slice_get 
     where
       -- no other rank's
       other_rank : (rank : ℕ) → (upper == rank) ≡ false → is_counted picture rank k ≡ false
-      other_rank rank differ = counted_by (Some upper) true e f rank ∙ rw differ (no_more (joins_rows picture rank))
+      other_rank rank differ = counted_by (Some upper) true e f rank ∙ rw differ (and_false (joins_rows picture rank))
 
       own_rank : joins_rows picture upper ≡ true → is_counted picture upper k ≡ true
       own_rank joined = counted_by (Some upper) true e f upper ∙ rw (joined, eq-eqb upper upper refl) refl
@@ -325,11 +321,11 @@ module _ (picture : Picture) (ranks k : ℕ) (cable : Cable) (there : slice_get 
   counted_once = by (upper_rank picture.ranks cable) refl (is_ordinary picture.fabric look cable) refl
     where
       by : (own : Option ℕ) → upper_rank picture.ranks cable ≡ own → (ordinary : Bool) → is_ordinary picture.fabric look cable ≡ ordinary → times ≡ (if merged then 1 else 0)
-      by None e o f = nothing (λ rank. counted_by None o e f rank ∙ no_more (joins_rows picture rank)) (merged_by None o e f)
+      by None e o f = nothing (λ rank. counted_by None o e f rank ∙ and_false (joins_rows picture rank)) (merged_by None o e f)
       by (Some upper) e true f = of_upper upper e f
       by (Some upper) e false f =
-          nothing (λ rank. counted_by (Some upper) false e f rank ∙ rw (no_more (upper == rank)) (no_more (joins_rows picture rank)))
-          (merged_by (Some upper) false e f ∙ no_more (is_thick thick upper))
+          nothing (λ rank. counted_by (Some upper) false e f rank ∙ rw (and_false (upper == rank)) (and_false (joins_rows picture rank)))
+          (merged_by (Some upper) false e f ∙ and_false (is_thick thick upper))
 
 -- ---- the law
 module _ (plan : TopologyState) (subnet : ConfigurationState) (routes : RoutesState) (fabric : FabricState) (looks : List Look) (crowded : Bool) (k : ℕ) (cable : Cable) where

@@ -3,7 +3,7 @@
 -- before, and adapters stand below their switches.
 use Rattle.std.specs.Prelude.{ℕ, Bool, true, false, nat_lt, if◌then◌else◌, List, [], ◌++◌, codes, decimal, Option}
 use Rattle.std.specs.Prelude.{Some, None, is_none}
-use Rattle.text_parts.specs.Parts.{quoted}
+use Rattle.text_words.specs.Parts.{quoted}
 use Rattle.cable_looks.specs.declared.looks.Look.{Look}
 use Rattle.fabric_graph.specs.declared.cables.TheConstants.{LABELLED}
 use Rattle.cable_looks.specs.Edges.{end_name, shade}

@@ -12,7 +12,7 @@ use Rattle.fabric_graph.specs.Partitions.{fill, is_of, partitions_of}
 use Rattle.fabric_parts.specs.Cable.{far_end, port}
 use Rattle.fabric_parts.specs.declared.cable.Cable.{Cable}
 use Rattle.fabric_parts.specs.declared.cable.PortRef.{PortRef}
-use Rattle.text_parts.specs.Parts.{hex_text, quoted}
+use Rattle.text_words.specs.Parts.{hex_text, quoted}
 use Rattle.subnet_model.specs.Configuration.{ConfigurationState}
 use Rattle.subnet_model.specs.declared.subnet_port.SubnetPort.{SubnetPort}
 use Rattle.topo_file.specs.Node.{is_switch, name_at}

@@ -4,7 +4,7 @@ use Rattle.std.specs.Prelude.{slice_get}
 use Rattle.std.specs.Int.{w16, to_be_bytes}
 use Rattle.std.specs.Option.{option_map_or}
 use Rattle.fabric_graph.specs.Partitions.{fill_of, is_of}
-use Rattle.text_parts.specs.Parts.{guid_text, hex_text, quoted}
+use Rattle.text_words.specs.Parts.{guid_text, hex_text, quoted}
 use Rattle.subnet_model.specs.Configuration.{ConfigurationState}
 use Rattle.subnet_model.specs.declared.subnet_port.SubnetPort.{SubnetPort}
 use Rattle.topo_file.specs.Node.{is_switch}

@@ -3,7 +3,7 @@ use Rattle.std.specs.Prelude.{ℕ, ◌==◌, Bool, false, if◌then◌else◌, L
 use Rattle.std.specs.Prelude.{None, option_map}
 use Rattle.std.specs.List.{range_with_len}
 use Rattle.std.specs.Option.{option_map_or}
-use Rattle.text_parts.specs.Parts.{quoted}
+use Rattle.text_words.specs.Parts.{quoted}
 use Rattle.topo_file.specs.Node.{is_switch, name_at}
 use Rattle.topo_file.specs.declared.node.Node.{Node}
 use Rattle.updn_routes.specs.Subnet.{RoutesState, place_of}

@@ -3,7 +3,7 @@ use Rattle.std.specs.Prelude.{ℕ, ◌+◌, ◌-◌, ◌/◌, ◌&&◌, ◌||◌
 use Rattle.std.specs.List.{list_any}
 use Rattle.fabric_graph.specs.Ranks.{row_of}
 use Rattle.fabric_graph.specs.Rows.{is_thick}
-use Rattle.text_parts.specs.Parts.{quoted}
+use Rattle.text_words.specs.Parts.{quoted}
 use Rattle.topo_file.specs.Node.{name_at}
 use Rattle.topo_file.specs.declared.node.Node.{Node}
 

@@ -10,7 +10,7 @@ use cable_looks::{Look, push_end_name, push_shade};
 use fabric_parts::Cable;
 use fabric_wire::Fabric;
 use std::alloc::AllocError;
-use text_parts::{push_decimal, push_quoted};
+use text_words::{push_decimal, push_quoted};
 use topo_file::{Node, Topology, name_at};
 
 /// How many cables a picture has at most in which the numbers of ports are at the ends of edges. The number is ours.

@@ -9,7 +9,7 @@ use crate::nodes::push_node_line;
 use crate::partitions::{is_of, push_fill};
 use std::alloc::{AllocError, Global};
 use subnet_model::{Configuration, SubnetPort};
-use text_parts::{push_decimal, push_hex, push_quoted};
+use text_words::{push_decimal, push_hex, push_quoted};
 use topo_file::{Node, Topology, name_at};
 
 /// Adds what is drawn where the node of this place stands.

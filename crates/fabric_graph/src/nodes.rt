@@ -7,7 +7,7 @@ ghost use Rattle.fabric_graph.specs.Nodes.{node_line, port_words, shape, tooltip
 use crate::partitions::{is_of, push_fill_of};
 use std::alloc::{AllocError, Global};
 use subnet_model::{Configuration, SubnetPort};
-use text_parts::{push_decimal, push_guid, push_hex, push_quoted};
+use text_words::{push_decimal, push_guid, push_hex, push_quoted};
 use topo_file::{Node, Topology};
 
 /// Adds the line of a node.

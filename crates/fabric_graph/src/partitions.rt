@@ -6,7 +6,7 @@ ghost use Rattle.fabric_graph.specs.Partitions.{partitions_of, style, style_word
 
 use std::alloc::{AllocError, Global};
 use subnet_model::{Configuration, SubnetPort};
-use text_parts::push_decimal;
+use text_words::push_decimal;
 use topo_file::Node;
 
 /// Adds the attributes that colour a channel adapter.

@@ -4,7 +4,7 @@ ghost use Rattle.std.specs.Prelude.{◌≡◌, ◌++◌, IfOk, OnOk, flat_map};
 ghost use Rattle.fabric_graph.specs.Ranks.{has_rank, member, rank_at, rank_count, rank_line, rank_of, ranks_of, row, row_head, row_if, row_of, row_words};
 
 use std::alloc::{AllocError, Global};
-use text_parts::{push_decimal, push_quoted};
+use text_words::{push_decimal, push_quoted};
 use topo_file::{Node, name_at};
 use updn_routes::Routes;
 

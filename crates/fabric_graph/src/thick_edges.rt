@@ -7,7 +7,7 @@ ghost use Rattle.fabric_graph.specs.ThickEdges.{at_box, compound, has_thick, is_
 use crate::ranks::row_of;
 use crate::rows::is_thick;
 use std::alloc::{AllocError, Global};
-use text_parts::{push_decimal, push_quoted};
+use text_words::{push_decimal, push_quoted};
 use topo_file::{Node, name_at};
 
 /// That an edge may end at a box, if there is a thick one.

@@ -6,7 +6,7 @@ use Rattle.std.specs.Int.{w16, to_be_bytes}
 use Rattle.fabric_parts.specs.Cable.{far_end}
 use Rattle.fabric_parts.specs.declared.cable.PortRef.{PortRef}
 use Rattle.fabric_tables.specs.Nodes.{node_of}
-use Rattle.text_parts.specs.Parts.{hex_text, port_name}
+use Rattle.text_words.specs.Parts.{hex_text, port_name}
 use Rattle.pkey_rules.specs.PKey.{base_of}
 use Rattle.smp_wire.specs.FabricState.{FabricState, adapter_port, is_switch_at}
 use Rattle.smp_wire.specs.declared.node.Node.{Node}

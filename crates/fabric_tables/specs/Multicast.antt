@@ -5,7 +5,7 @@ use Rattle.std.specs.List.{list_any, range_with_len}
 use Rattle.std.specs.Option.{option_map_or}
 use Rattle.agent_rules.specs.declared.power_up.TheConstants.{MULTICAST_TABLE}
 use Rattle.fabric_parts.specs.declared.lid.TheConstants.{FIRST_MULTICAST_LID}
-use Rattle.text_parts.specs.Parts.{hex_text}
+use Rattle.text_words.specs.Parts.{hex_text}
 use Rattle.fabric_tables.specs.Nodes.{node_of}
 use Rattle.fabric_tables.specs.Tables.{linear_tables, path_to, route_text, switch_text}
 use Rattle.smp_wire.specs.FabricState.{FabricState}

@@ -4,7 +4,7 @@ use Rattle.std.specs.Int.{w16, to_be_bytes}
 use Rattle.std.specs.Option.{option_and_then, option_map_or}
 use Rattle.fabric_parts.specs.NodeType.{is_switch_type}
 use Rattle.fabric_parts.specs.declared.node_type.NodeType.{NodeType}
-use Rattle.text_parts.specs.Parts.{guid_text, hex_text}
+use Rattle.text_words.specs.Parts.{guid_text, hex_text}
 use Rattle.fabric_tables.specs.Nodes.{node_of}
 use Rattle.fabric_tables.specs.Digits.{short_hex_text, three_digits}
 use Rattle.smp_wire.specs.FabricState.{FabricState}

@@ -15,7 +15,7 @@ use smp_wire::is_switch_at;
 use std::alloc::{AllocError, Global};
 use subnet_model::SubnetPort;
 use switch_model::Switch;
-use text_parts::{push_hex, push_port_name};
+use text_words::{push_hex, push_port_name};
 use topo_file::Topology;
 
 /// A line for each of these end ports with the keys in its table, and behind a switch's own line those of its ports that

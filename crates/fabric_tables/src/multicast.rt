@@ -13,7 +13,7 @@ use std::alloc::{AllocError, Global};
 use subnet_model::SubnetPort;
 use sweep::Graph;
 use switch_model::Switch;
-use text_parts::{push_decimal, push_hex};
+use text_words::{push_decimal, push_hex};
 use topo_file::Topology;
 
 /// The last multicast LID of a table.

@@ -12,7 +12,7 @@ use std::alloc::{AllocError, Global};
 use subnet_model::SubnetPort;
 use sweep::Graph;
 use switch_model::Switch;
-use text_parts::{push_decimal, push_guid, push_hex};
+use text_words::{push_decimal, push_guid, push_hex};
 use topo_file::Topology;
 
 /// The linear forwarding table of each switch, in the order of their LIDs, as `dump_fts` prints it: the path by which a

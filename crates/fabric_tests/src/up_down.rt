@@ -2,13 +2,13 @@
 
 ghost use Rattle.sweep.specs.Joined.{AllJoined};
 
-use example_texts::TWO_SWITCHES;
 use fabric_wire::Fabric;
 use lid_assign::assign;
 use std::alloc::Global;
 use std::process::Abort;
 use std::test::Fail;
 use sweep::{Graph, SweepFault, sweep};
+use test_fabrics::TWO_SWITCHES;
 use topo_file::read;
 use updn_routes::{RouteFault, Routes, are_switches, routes};
 

@@ -11,13 +11,13 @@ use Rattle.smp_route.specs.declared.hop.Hop.TheVariants.{Forward, ToAgent, ToMan
 use Rattle.smp_route.specs.HopFields.{count, is_outgoing, turned_round, with_pointer}
 use Rattle.fabric_parts.specs.declared.cable.PortRef.{PortRef}
 use Rattle.smp_wire.specs.declared.walking.Arrival.{Arrival}
-use Rattle.fabric_parts.specs.Cable.{far_end}
+use Rattle.fabric_parts.specs.Cable.{far_end, last_of}
 use Rattle.smp_wire.specs.FabricState.{FabricState, after_at, reply_at}
 use Rattle.smp_wire.specs.Good.{IsGood, is_right}
 use Rattle.fabric_wire.specs.Laws.{ExchangesGoByHops}
 use Rattle.fabric_wire.specs.HopByHop.{ComesHome, Goes, IsAnswered, Passes, ComesTo, Visit, hop_rules}
 use Rattle.fabric_wire.specs.Hopping.{node_type_at}
-use Rattle.smp_wire.specs.Walk.{arrival_of, arrived, exchange_after, exchange_reply, last_of, path_of, returned, walk, walk_of}
+use Rattle.smp_wire.specs.Walk.{arrival_of, arrived, exchange_after, exchange_reply, path_of, returned, walk, walk_of}
 use Rattle.fabric_wire.proofs.ExchangeLemmas.{IsReady, ready_before}
 use Rattle.fabric_wire.proofs.HopByHopLemmas.{back_from, direction_kept, follows, found, is_sent_by, rules_back, rules_out, set_out as set_out_by}
 use Rattle.smp_wire.proofs.ReplyLemmas.{replies}

@@ -16,7 +16,7 @@ use Rattle.smp_wire.specs.FabricState.{adapter_port}
 use Rattle.smp_wire.specs.Good.{end_port_guids, has_a_right_count}
 use Rattle.smp_wire.specs.declared.node.Node.{Node}
 use Rattle.smp_wire.specs.declared.node.Node.TheVariants.{Switch, Adapter}
-use Rattle.delivery_laws.specs.Deliveries.{adapter_ports, guid_at}
+use Rattle.smp_wire.specs.Deliveries.{adapter_ports, guid_at}
 use Rattle.fabric_wire.specs.AdapterPorts.{Finds, IsBefore, IsReported}
 
 -- ---- lists of numbers of which no two are the same

@@ -17,11 +17,11 @@ use Rattle.fabric_parts.specs.declared.cable.Cable.{Cable}
 use Rattle.fabric_parts.specs.declared.cable.PortRef.{PortRef}
 use Rattle.smp_wire.specs.declared.node.Node.{Node}
 use Rattle.smp_wire.specs.declared.walking.Arrival.{Arrival}
-use Rattle.fabric_parts.specs.Cable.{far_end, is_same_port}
+use Rattle.fabric_parts.specs.Cable.{far_end, is_same_port, last_of}
 use Rattle.smp_wire.specs.FabricState.{FabricState, is_switch_at, nodes_after}
 use Rattle.smp_wire.specs.Good.{IsGood, is_right}
 use Rattle.fabric_wire.specs.Hopping.{leads_home}
-use Rattle.smp_wire.specs.Walk.{arrival_of, arrived, is_sent, last_of, path_of, walk, with_return_ports}
+use Rattle.smp_wire.specs.Walk.{arrival_of, arrived, is_sent, path_of, walk, with_return_ports}
 use Rattle.fabric_wire.proofs.HomeLemmas.{leads_alike, leads_by, walk_leads_home}
 use Rattle.fabric_wire.proofs.HopLemmas.{byte_kept, pointer_set}
 use Rattle.smp_wire.proofs.KeptLemmas.{IsSame, after_found, stays_good, switch_same}

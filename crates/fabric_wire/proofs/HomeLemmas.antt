@@ -10,12 +10,12 @@ use Rattle.std.proofs.lemmas.Option.{same_Some}
 use Rattle.smp_route.specs.HopFields.{return_port, with_return_port}
 use Rattle.fabric_parts.specs.declared.cable.Cable.{Cable}
 use Rattle.fabric_parts.specs.declared.cable.PortRef.{PortRef}
-use Rattle.fabric_parts.specs.Cable.{is_same_port, far_end}
+use Rattle.fabric_parts.specs.Cable.{far_end, is_same_port, last_of}
 use Rattle.smp_wire.specs.declared.node.Node.{Node}
 use Rattle.smp_wire.specs.FabricState.{is_port, is_switch_at}
 use Rattle.smp_wire.specs.Good.{ends_of, is_right}
 use Rattle.fabric_wire.specs.Hopping.{leads_home}
-use Rattle.smp_wire.specs.Walk.{hands_on, hop, last_of, walk, with_return_ports}
+use Rattle.smp_wire.specs.Walk.{hands_on, hop, walk, with_return_ports}
 use Rattle.smp_wire.proofs.CableLemmas.{both_ways, far_ends_meet}
 use Rattle.step_results.proofs.DistinctLemmas.{all_differ}
 

@@ -13,8 +13,8 @@ use Rattle.smp_wire.specs.Good.{end_port_guids}
 use Rattle.smp_wire.specs.Walk.{exchange_after}
 use Rattle.smp_wire.specs.declared.node.Node.{Node}
 use Rattle.smp_wire.specs.declared.node.Node.TheVariants.{Switch, Adapter}
-use Rattle.delivery_laws.specs.Deliveries.{AreDeliveries, IsDelivered, IsOwn, adapter_ports, guid_at, numbers_of}
-use Rattle.delivery_laws.proofs.DeliveryLemmas.{no_delivery, one_delivery}
+use Rattle.smp_wire.specs.Deliveries.{AreDeliveries, IsDelivered, IsOwn, adapter_ports, guid_at, numbers_of}
+use Rattle.smp_wire.proofs.DeliveryLemmas.{no_delivery, one_delivery}
 use Rattle.fabric_wire.specs.AdapterPorts.{Finds}
 
 abbrev Guid : Option Node → ℕ → Option ℕ

@@ -6,7 +6,7 @@ use Rattle.std.proofs.lemmas.Map.Keys.{IsDistinct-tail}
 use Rattle.fabric_parts.specs.declared.cable.Cable.{Cable}
 use Rattle.fabric_parts.specs.declared.cable.PortRef.{PortRef}
 use Rattle.topo_file.specs.declared.node.Node.{Node as PlannedNode}
-use Rattle.fabric_parts.specs.Cable.{ends_at, far_end, is_cabled, is_same_port, other_end, port}
+use Rattle.fabric_parts.specs.Cable.{ends_at, far_end, is_cabled, is_same_port, last_of, other_end, port}
 use Rattle.topo_file.specs.Connectivity.{is_walk, joins}
 use Rattle.topo_file.specs.Node.{is_switch_at as is_planned_at}
 use Rattle.topo_file.specs.Sound.{IsSound, joins_right, shares_port}
@@ -16,7 +16,7 @@ use Rattle.smp_wire.specs.FabricState.{is_switch_at}
 use Rattle.smp_wire.specs.Good.{is_right, leads}
 use Rattle.fabric_wire.specs.Laws.{TopologiesAreJoined}
 use Rattle.fabric_wire.specs.OfTopology.{fabric_of}
-use Rattle.smp_wire.specs.Walk.{last_of, walk}
+use Rattle.smp_wire.specs.Walk.{walk}
 use Rattle.smp_wire.proofs.CableLemmas.{itself, same_port}
 use Rattle.fabric_wire.proofs.HopLemmas.{hop_is_far_end}
 use Rattle.fabric_wire.proofs.OfTopologyGoodLemmas.{all_right}

@@ -23,9 +23,9 @@ use Rattle.port_model.specs.AdapterState.{AdapterState}
 use Rattle.port_model.specs.Packets.{accepts_packet}
 use Rattle.smp_wire.specs.FabricState.{FabricState}
 use Rattle.smp_wire.specs.declared.node.Node.{Node}
-use Rattle.delivery_laws.proofs.DeliveryLemmas.{in_order_total}
-use Rattle.delivery_laws.specs.Deliveries.{AreDeliveries, Goes, IsDelivered, adapter_at, guid_at, in_order, numbers_of}
-use Rattle.delivery_laws.specs.declared.numbers.Numbers.{Numbers}
+use Rattle.smp_wire.proofs.DeliveryLemmas.{in_order_total}
+use Rattle.smp_wire.specs.Deliveries.{AreDeliveries, Goes, IsDelivered, adapter_at, guid_at, in_order, numbers_of}
+use Rattle.smp_wire.specs.declared.numbers.Numbers.{Numbers}
 use Rattle.fabric_wire.specs.AdapterPorts.{Finds}
 use Rattle.fabric_wire.specs.Spreading.{AreReached, Gets, has_port, numbers_at}
 use Rattle.fabric_wire.proofs.KeptPortLemmas.{own}

@@ -1,7 +1,7 @@
 -- The search for the ports where a packet to a multicast LID comes in.
 use Rattle.std.proofs.Common.{ℕ, zero, suc, ◌+◌, ◌*◌, ◌^◌, ◌≡◌, ◌<◌, ◌≤◌, ◌==◌, ◌∙◌, ◌⊎◌, inl, inr, ap, refl, sym, subst, ◌||◌, Bool, true, false, List, [], ◌∷◌, ◌++◌, length, take, flat_map, slice_get, get_or, Some, None, arith}
 use Rattle.std.specs.List.{IsDistinct, list_any}
-use Rattle.std.proofs.lemmas.Bool.{cases_Bool, cases_lt, eqb-true}
+use Rattle.std.proofs.lemmas.Bool.{cases_Bool, cases_lt, eqb-true, or_cases}
 use Rattle.std.proofs.lemmas.Bool.Decides.{nat_tests}
 use Rattle.std.specs.Int.{bit_at}
 use Rattle.std.proofs.lemmas.Nat.Bits.{bit_at-zero, bit_at_above}
@@ -17,14 +17,9 @@ use Rattle.smp_wire.proofs.CableLemmas.{count_ends, far_is_end, itself, ports_eq
 use Rattle.smp_wire.specs.Good.{ends_of}
 use Rattle.smp_wire.specs.declared.node.Node.{Node}
 use Rattle.indexmap.specs.IndexSet.{insert_key}
-use Rattle.delivery_laws.specs.Deliveries.{Goes, Passes, sends_at}
-use Rattle.delivery_laws.proofs.WayLemmas.{one_more}
+use Rattle.smp_wire.specs.Deliveries.{Goes, Passes, sends_at}
+use Rattle.smp_wire.proofs.WayLemmas.{one_more}
 use Rattle.fabric_wire.specs.Spreading.{AreReached, IsGrown, has_port}
-
--- ---- ports of a list
-by_parts : (a b : Bool) → (a || b) ≡ true → (a ≡ true) ⊎ (b ≡ true)
-by_parts true b is = inl refl
-by_parts false b is = inr is
 
 either : (a b : Bool) → (a ≡ true) ⊎ (b ≡ true) → (a || b) ≡ true
 either true b is = refl
@@ -32,7 +27,7 @@ either false b (inr is) = is
 either false b (inl is) = absurd (cc)
 
 pub in_either : (xs ys : List PortRef) (at : PortRef) → has_port (xs ++ ys) at → has_port xs at ⊎ has_port ys at
-in_either xs ys at there = by_parts (list_any (is_same_port at) xs) (list_any (is_same_port at) ys) (sym (list_any-append (is_same_port at) xs ys) ∙ there)
+in_either xs ys at there = or_cases (list_any (is_same_port at) xs) (list_any (is_same_port at) ys) (sym (list_any-append (is_same_port at) xs ys) ∙ there)
 
 pub in_first : (xs ys : List PortRef) (at : PortRef) → has_port xs at → has_port (xs ++ ys) at
 in_first xs ys at there = list_any-append (is_same_port at) xs ys ∙ either (list_any (is_same_port at) xs) (list_any (is_same_port at) ys) (inl there)
@@ -52,7 +47,7 @@ take_all (suc n) [] all = refl
 take_all (suc n) (x ∷ xs) all = ap (λ (list : List PortRef). x ∷ list) (take_all n xs (omega (arith, all)))
 
 pub alone : (first at : PortRef) → has_port (first ∷ []) at → at ≡ first
-alone first at there = elim (by_parts (is_same_port at first) false there) [
+alone first at there = elim (or_cases (is_same_port at first) false there) [
   | inl same ↦ same_port at first same
   | inr none ↦ absurd (cc)
 ]
@@ -74,7 +69,7 @@ done_or_here ports more new done here one kept is among =
     let same : take (done + 1) new ≡ take (done + 1) ports =
     ap (take (done + 1)) kept ∙ take-append-le (done + 1) ports more (omega (arith, within)) in
     let there : list_any (is_same_port one) (take (done + 1) ports) ≡ true = ap (list_any (is_same_port one)) (sym same) ∙ among in
-    elim (by_parts (list_any (is_same_port one) (take done ports)) (is_same_port one (get_or ports done here))
+    elim (or_cases (list_any (is_same_port one) (take done ports)) (is_same_port one (get_or ports done here))
     (sym (list_any_more (is_same_port one) ports done here within) ∙ there)) [
       | inl before ↦ inl before
       | inr last ↦ inr (same_port one (get_or ports done here) last ∙ get_or_from_slice_get ports done here here is)

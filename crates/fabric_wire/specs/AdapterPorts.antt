@@ -4,7 +4,7 @@ use Rattle.fabric_parts.specs.declared.cable.PortRef.{PortRef}
 use Rattle.smp_wire.specs.FabricState.{FabricState}
 use Rattle.smp_wire.specs.Good.{IsGood, ShowsLinks}
 use Rattle.smp_wire.specs.declared.node.Node.{Node}
-use Rattle.delivery_laws.specs.Deliveries.{guid_at}
+use Rattle.smp_wire.specs.Deliveries.{guid_at}
 
 -- the look-up finds the port of each GUID that one has, and no other
 abbrev pub Finds : List Node → (ℕ → Option PortRef) → Type 0

@@ -9,8 +9,8 @@ use Rattle.fabric_parts.specs.declared.cable.PortRef.{PortRef}
 use Rattle.port_model.specs.AdapterState.{AdapterState}
 use Rattle.port_model.specs.Packets.{accepts_packet}
 use Rattle.smp_wire.specs.declared.node.Node.{Node}
-use Rattle.delivery_laws.specs.Deliveries.{Goes, IsDelivered, Passes, adapter_at, numbers_of}
-use Rattle.delivery_laws.specs.declared.numbers.Numbers.{Numbers}
+use Rattle.smp_wire.specs.Deliveries.{Goes, IsDelivered, Passes, adapter_at, numbers_of}
+use Rattle.smp_wire.specs.declared.numbers.Numbers.{Numbers}
 
 -- ---- ports where the packet comes in
 abbrev pub has_port : List PortRef → PortRef → Type 0

@@ -5,7 +5,7 @@ ghost use Rattle.std.specs.List.{IsDistinct, list_all};
 ghost use Rattle.std.specs.Option.{option_copied};
 ghost use Rattle.indexmap.specs.IndexMap.{get};
 ghost use Rattle.smp_wire.specs.Good.{end_port_guids, has_a_right_count};
-ghost use Rattle.delivery_laws.specs.Deliveries.{adapter_at};
+ghost use Rattle.smp_wire.specs.Deliveries.{adapter_at};
 ghost use Rattle.fabric_wire.specs.AdapterPorts.{Finds, IsReported};
 
 use fabric_parts::{NodeType, PortRef};

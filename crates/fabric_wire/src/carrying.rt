@@ -4,8 +4,8 @@ ghost use Rattle.std.specs.Prelude.{◌≡◌, false, IfSome, None};
 ghost use Rattle.fabric_parts.specs.Lid.{is_multicast};
 ghost use Rattle.fabric_parts.specs.declared.cable.PortRef.{PortRef};
 ghost use Rattle.port_model.specs.AdapterState.{AdapterState};
-ghost use Rattle.delivery_laws.specs.Deliveries.{IsDelivered};
-ghost use Rattle.delivery_laws.specs.Unicast.{IsEnd, next_port};
+ghost use Rattle.smp_wire.specs.Deliveries.{IsDelivered};
+ghost use Rattle.smp_wire.specs.Unicast.{IsEnd, next_port};
 
 use crate::adapter_ports::adapter_at;
 use crate::cabling::Cabling;

@@ -1,10 +1,10 @@
 //! A packet at a port that received it, which only the fabric makes.
 
 ghost use Rattle.std.specs.Prelude.{◌≡◌, map, IfOk};
-ghost use Rattle.delivery_laws.specs.Deliveries.{DeliveryState};
+ghost use Rattle.smp_wire.specs.Deliveries.{DeliveryState};
 
 use data_packet::Packet;
-use delivery_laws::Numbers;
+use smp_wire::Numbers;
 use std::alloc::{AllocError, Global};
 use std::marker::Model;
 
@@ -16,7 +16,7 @@ pub struct Delivery {
 }
 
 impl Model for Delivery {
-    ghost use Rattle.delivery_laws.specs.Deliveries.{DeliveryState};
+    ghost use Rattle.smp_wire.specs.Deliveries.{DeliveryState};
 
     ghost Value = { DeliveryState };
 

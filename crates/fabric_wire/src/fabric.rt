@@ -6,7 +6,7 @@ ghost use Rattle.data_packet.specs.declared.payload.TheConstants.{PAYLOAD_BYTES}
 ghost use Rattle.fabric_parts.specs.Cable.{far_end};
 ghost use Rattle.fabric_parts.specs.Lid.{is_multicast};
 ghost use Rattle.fabric_parts.specs.declared.cable.PortRef.{PortRef};
-ghost use Rattle.delivery_laws.specs.Deliveries.{AreDeliveries, HasPort, adapter_at, guid_at};
+ghost use Rattle.smp_wire.specs.Deliveries.{AreDeliveries, HasPort, adapter_at, guid_at};
 ghost use Rattle.port_model.specs.AdapterState.{AdapterState};
 ghost use Rattle.port_model.specs.Packets.{stamped};
 ghost use Rattle.smp_wire.specs.Good.{IsGood, ShowsLinks, SwitchesJoined};

@@ -5,17 +5,16 @@ ghost use Rattle.std.specs.Int.{bit_at};
 ghost use Rattle.std.specs.List.{Contains};
 ghost use Rattle.std.specs.List.Sorted.{IsStrictlySortedBy};
 ghost use Rattle.fabric_parts.specs.Lid.{is_multicast};
-ghost use Rattle.delivery_laws.specs.Deliveries.{in_order, sends_at};
-ghost use Rattle.delivery_laws.specs.declared.numbers.Numbers.{Numbers as NumbersState};
+ghost use Rattle.smp_wire.specs.Deliveries.{in_order, sends_at};
+ghost use Rattle.smp_wire.specs.declared.numbers.Numbers.{Numbers as NumbersState};
 ghost use Rattle.fabric_wire.specs.Spreading.{AreReached, Gets, IsGrown, numbers_at};
 
 use crate::adapter_ports::adapter_at;
 use crate::cabling::Cabling;
 use data_packet::Packet;
-use delivery_laws::Numbers;
 use fabric_parts::PortRef;
 use indexmap::IndexSet;
-use smp_wire::Node;
+use smp_wire::{Node, Numbers};
 use std::alloc::{AllocError, Global};
 
 /// The ports by which a packet to a multicast LID that came in here goes on, bit n for port n.

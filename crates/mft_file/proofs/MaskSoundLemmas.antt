@@ -10,7 +10,7 @@ use Rattle.step_results.proofs.ListLemmas.{IsDistinct-nil, list_all_push}
 use Rattle.step_results.proofs.PlaceLemmas.{not_there}
 use Rattle.mft_file.specs.declared.heading.Heading.{Heading}
 use Rattle.mft_file.specs.declared.row.MaskRow.{MaskRow}
-use Rattle.mft_file.specs.declared.stage.Stage.TheVariants.{Between}
+use Rattle.mft_file.specs.declared.stage.MftStage.TheVariants.{Between}
 use Rattle.mft_file.specs.declared.table.MaskTable.{MaskTable}
 use Rattle.mft_file.specs.Mfts.{DraftState, broken_off, heading_of, nothing, with_rows}
 use Rattle.mft_file.specs.Row.{is_above, may_follow}
@@ -75,7 +75,3 @@ sound_with_masks so_far heading sound under =
       };
       open_rows = refl;
     }
-
--- ---- the table that is open is broken off
-pub sound_broken_off : (so_far : DraftState) → IsSoundSoFar so_far → IsSoundSoFar (broken_off so_far)
-sound_broken_off so_far sound = record { tables = sound.tables; open_rows = refl }

@@ -1,7 +1,7 @@
 -- Lines as they are printed, what they say, and which tables are not sound.
 use Rattle.std.specs.Prelude.{ℕ, ◌≡◌, true, false, ◌+◌, ◌%◌, List, [], ◌∷◌, ◌++◌, codes, flat_map, map, Ok, Err}
 use Rattle.std.specs.List.{IsDistinct, range_with_len}
-use Rattle.dump_file.specs.Parts.{trimmed}
+use Rattle.text_words.specs.Cut.{trimmed}
 use Rattle.mft_file.specs.declared.fault.MftCause.TheVariants.{DuplicateTable, Malformed, Unfinished, WrongCount, WrongMlid}
 use Rattle.mft_file.specs.declared.row.MaskRow.{MaskRow}
 use Rattle.mft_file.specs.declared.table.MaskTable.{MaskTable}

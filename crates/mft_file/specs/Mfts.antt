@@ -4,18 +4,17 @@ use Rattle.std.specs.List.{starts_with}
 use Rattle.std.specs.Option.{option_map_or}
 use Rattle.step_results.specs.AtLine.{AtLine, after_lines}
 use Rattle.step_results.specs.Steps.{◌>>=◌}
-use Rattle.text_words.specs.Cut.{cut_at}
+use Rattle.text_words.specs.Cut.{cut_at, trimmed}
 use Rattle.text_words.specs.Failure.{is_failure}
 use Rattle.text_words.specs.Lines.{lines}
 use Rattle.text_words.specs.Number.{number_in}
 use Rattle.dump_file.specs.Dump.{is_heading as is_unicast_heading, is_multicast_heading, is_passed_over}
-use Rattle.dump_file.specs.Parts.{trimmed}
 use Rattle.mft_file.specs.declared.fault.MftCause.{MftCause}
 use Rattle.mft_file.specs.declared.fault.MftCause.TheVariants.{Malformed, DuplicateTable, WrongMlid, WrongCount, Unfinished}
 use Rattle.mft_file.specs.declared.heading.Heading.{Heading}
 use Rattle.mft_file.specs.declared.row.MaskRow.{MaskRow}
-use Rattle.mft_file.specs.declared.stage.Stage.{Stage}
-use Rattle.mft_file.specs.declared.stage.Stage.TheVariants.{Between, Titles, LastTitle, Rows, Unicast}
+use Rattle.mft_file.specs.declared.stage.MftStage.{MftStage}
+use Rattle.mft_file.specs.declared.stage.MftStage.TheVariants.{Between, Titles, LastTitle, Rows, Unicast}
 use Rattle.mft_file.specs.declared.table.MaskTable.{MaskTable}
 use Rattle.mft_file.specs.Heading.{columns_in, heading_in, is_tens}
 use Rattle.mft_file.specs.Parts.{count_in, cut, only_if}
@@ -29,11 +28,11 @@ pub record MftState : Type 0 where
 -- what the lines so far report: tables that are whole, what is to come next, and the rows of the table that is open
 pub record DraftState : Type 0 where
   pub tables : List MaskTable
-  pub stage : Stage
+  pub stage : MftStage
   pub rows : List MaskRow
 
 -- of the table that is open
-abbrev pub heading_of : Stage → Option Heading
+abbrev pub heading_of : MftStage → Option Heading
 heading_of (Titles heading) = Some heading
 heading_of (LastTitle heading) = Some heading
 heading_of (Rows heading) = Some heading
@@ -48,7 +47,7 @@ heading_reported number so_far text = do
   heading ← heading_in number text
   new_heading so_far heading
 
-abbrev pub at : DraftState → Stage → DraftState
+abbrev pub at : DraftState → MftStage → DraftState
 at so_far stage = record so_far { stage = stage }
 
 abbrev pub with_heading : DraftState → Result Heading MftCause → Result DraftState MftCause
@@ -118,7 +117,7 @@ after_unicast so_far text =
     if is_unicast_heading text || is_multicast_heading text then Err Malformed
     else Ok (if is_unicast_end text then at so_far Between else so_far)
 
-abbrev pub after_text : Stage → ℕ → DraftState → List ℕ → Result DraftState MftCause
+abbrev pub after_text : MftStage → ℕ → DraftState → List ℕ → Result DraftState MftCause
 after_text Between number so_far text = after_between number so_far text
 after_text (Titles heading) number so_far text = after_titles so_far heading text
 after_text (LastTitle heading) number so_far text = if_title so_far heading text
@@ -137,7 +136,7 @@ unfoldable pub after_line : ℕ → DraftState → List ℕ → Result DraftStat
 after_line number so_far line = if is_passed_over (trimmed line) then Ok so_far else after_words number so_far (trimmed line)
 
 -- ---- the whole text: its last table has ended, and there is one
-abbrev pub is_between : Stage → Bool
+abbrev pub is_between : MftStage → Bool
 is_between Between = true
 is_between _ = false
 

@@ -11,7 +11,7 @@ use crate::fault::MftCause;
 use crate::heading::{Heading, heading_in};
 use crate::parts::{count_in, cut};
 use crate::row::{MaskRow, may_follow, row_in};
-use crate::stage::Stage;
+use crate::stage::MftStage;
 use crate::table::MaskTableList;
 use std::alloc::{AllocError, Global};
 use std::marker::Model;
@@ -21,7 +21,7 @@ use step_results::LineError;
 #[derive(Drop)]
 pub(crate) struct Draft {
     pub(crate) tables: MaskTableList,
-    pub(crate) stage: Stage,
+    pub(crate) stage: MftStage,
     // Of the table that is open.
     pub(crate) rows: Vec<MaskRow>,
 }
@@ -43,7 +43,7 @@ impl Draft {
     {
         Draft {
             tables: MaskTableList::new(alloc),
-            stage: Stage::Between,
+            stage: MftStage::Between,
             rows: Vec::new(alloc),
         }
     }
@@ -103,7 +103,7 @@ impl Draft {
         ensures { self.new ≡ broken_off self.old }
     {
         self.rows = Vec::new(alloc);
-        self.stage = Stage::Between;
+        self.stage = MftStage::Between;
     }
 }
 

@@ -3,18 +3,10 @@
 ghost use Rattle.std.specs.Prelude.{◌≡◌, Ok};
 ghost use Rattle.step_results.specs.Gives.{seen_by};
 ghost use Rattle.text_words.specs.Cut.{both};
-ghost use Rattle.dump_file.specs.Parts.{trimmed};
 ghost use Rattle.mft_file.specs.Parts.{behind, count_in, cut, guid_in, mlid_in};
 
 use crate::fault::MftCause;
 use text_words::{cut_at, number_in, u16_in};
-
-/// A line without what ends it, and without the blanks before that.
-pub(crate) fn trimmed(line: &[u8]) -> &[u8]
-    ensures { result.now ≡ trimmed line.now }
-{
-    line.trim_ascii_end()
-}
 
 /// What stands behind this beginning of a text.
 pub(crate) fn behind<'a>(first: &[u8], text: &'a [u8]) -> Result<&'a [u8], MftCause>

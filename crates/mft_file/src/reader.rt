@@ -3,7 +3,6 @@
 ghost use Rattle.std.specs.Prelude.{◌≡◌, Some, None, IfOk};
 ghost use Rattle.step_results.specs.Gives.{LineGives};
 ghost use Rattle.step_results.specs.TextGives.{TextGives};
-ghost use Rattle.dump_file.specs.Dump.{is_heading as is_unicast_heading, is_multicast_heading, is_passed_over};
 ghost use Rattle.mft_file.specs.Mfts.{after_between, after_line, after_rows, after_text, after_titles, after_unicast, after_words, are_lids_counted, count_reported, heading_of, heading_reported};
 ghost use Rattle.mft_file.specs.Mfts.{if_title, is_unicast_end, mfts_of, row_reported, whole, with_columns, with_heading, with_row, with_table};
 ghost use Rattle.mft_file.specs.Heading.{columns_in};
@@ -13,11 +12,11 @@ use crate::draft::{Draft, count_reported};
 use crate::fault::{MftCause, MftFault};
 use crate::heading::{Heading, columns_in, is_tens};
 use crate::mfts::Mfts;
-use crate::parts::trimmed;
-use crate::stage::Stage;
+use crate::stage::MftStage;
+use dump_file::{is_heading as is_unicast_heading, is_multicast_heading, is_passed_over};
 use std::alloc::Global;
 use step_results::LineError;
-use text_words::{LineReader, cut_at, is_failure, number_in, read_lines};
+use text_words::{LineReader, cut_at, is_failure, number_in, read_lines, trimmed};
 
 impl Draft {
     fn take_heading(&mut self, number: usize, text: &[u8]) -> Result<(), LineError<MftCause>>
@@ -25,7 +24,7 @@ impl Draft {
         ensures { LineGives (λ _. self.new) result (with_heading self.old (heading_reported number self.old text.now)) }
     {
         let heading = self.heading_reported(number, text)?;
-        self.stage = Stage::Titles(heading);
+        self.stage = MftStage::Titles(heading);
         Ok(())
     }
 
@@ -37,7 +36,7 @@ impl Draft {
             return self.take_heading(number, text);
         }
         if is_unicast_heading(text) {
-            self.stage = Stage::Unicast;
+            self.stage = MftStage::Unicast;
             return Ok(());
         }
         if text.starts_with(b"*** WARNING ***") {
@@ -51,7 +50,7 @@ impl Draft {
         ensures { LineGives (λ _. self.new) result (with_columns self.old heading (columns_in text.now)) }
     {
         let columns = columns_in(text)?;
-        self.stage = Stage::LastTitle(Heading { columns, ..heading });
+        self.stage = MftStage::LastTitle(Heading { columns, ..heading });
         Ok(())
     }
 
@@ -72,7 +71,7 @@ impl Draft {
         if text != b" MLid".as_slice() {
             return Err(LineError::Fault(MftCause::Malformed));
         }
-        self.stage = Stage::Rows(heading);
+        self.stage = MftStage::Rows(heading);
         Ok(())
     }
 
@@ -101,7 +100,7 @@ impl Draft {
     {
         count_reported(self.rows.as_slice(), text)?;
         self.tables.push(alloc, heading, &mut self.rows)?;
-        self.stage = Stage::Between;
+        self.stage = MftStage::Between;
         Ok(())
     }
 
@@ -128,7 +127,7 @@ impl Draft {
             return Err(LineError::Fault(MftCause::Malformed));
         }
         if is_unicast_end(text) {
-            self.stage = Stage::Between;
+            self.stage = MftStage::Between;
         }
         Ok(())
     }
@@ -142,11 +141,11 @@ impl Draft {
         ensures { LineGives (λ _. self.new) result (after_text self.old.stage number self.old text.now) }
     {
         match self.stage {
-            Stage::Between => self.take_between(number, text),
-            Stage::Titles(heading) => self.take_titles(heading, text),
-            Stage::LastTitle(heading) => self.take_last_title(heading, text),
-            Stage::Rows(heading) => self.take_in_table(alloc, heading, text),
-            Stage::Unicast => self.take_unicast(text),
+            MftStage::Between => self.take_between(number, text),
+            MftStage::Titles(heading) => self.take_titles(heading, text),
+            MftStage::LastTitle(heading) => self.take_last_title(heading, text),
+            MftStage::Rows(heading) => self.take_in_table(alloc, heading, text),
+            MftStage::Unicast => self.take_unicast(text),
         }
     }
 
@@ -203,18 +202,6 @@ impl LineReader for Draft {
     }
 }
 
-fn is_unicast_heading(text: &[u8]) -> bool
-    ensures { result ≡ is_unicast_heading text.now }
-{
-    text.starts_with(b"Unicast lids [")
-}
-
-fn is_multicast_heading(text: &[u8]) -> bool
-    ensures { result ≡ is_multicast_heading text.now }
-{
-    text.starts_with(b"Multicast mlids [")
-}
-
 fn are_lids_counted(words: &[u8]) -> bool
     ensures { result ≡ are_lids_counted words.now }
 {
@@ -229,13 +216,6 @@ fn is_unicast_end(text: &[u8]) -> bool
         Some((number, words)) => number_in(number).is_some() && are_lids_counted(words),
         None => false,
     }
-}
-
-/// Whether nothing stands on a line, or a comment.
-fn is_passed_over(text: &[u8]) -> bool
-    ensures { result ≡ is_passed_over text.now }
-{
-    text.is_empty() || text.starts_with(b"#")
 }
 
 /// What a text of `dump_fts -M` reports, or its first fault with the line.

@@ -7,7 +7,7 @@ use crate::heading::Heading;
 
 /// What is to come after the lines so far.
 #[derive(Clone, Copy)]
-pub(crate) enum Stage {
+pub(crate) enum MftStage {
     /// A table.
     Between,
     /// The title with the numbers of ports, or the tens of these numbers.
@@ -20,11 +20,11 @@ pub(crate) enum Stage {
     Unicast,
 }
 
-impl Stage {
+impl MftStage {
     /// Whether the lines so far end outside a table.
     pub(crate) fn is_between(self) -> bool
         ensures { result ≡ is_between self }
     {
-        matches!(self, Stage::Between)
+        matches!(self, MftStage::Between)
     }
 }

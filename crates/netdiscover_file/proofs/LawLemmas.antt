@@ -8,6 +8,7 @@ use Rattle.std.proofs.lemmas.Map.Keys.{any_passes_from_place}
 use Rattle.std.proofs.lemmas.Option.{slice_get-get_or}
 use Rattle.step_results.proofs.DistinctLemmas.{all_differ, differ}
 use Rattle.step_results.proofs.TestLemmas.{same_either_way}
+use Rattle.step_results.proofs.BoolLemmas.{none_of}
 use Rattle.netdiscover_file.specs.declared.assignment.SwitchGuids.{SwitchGuids}
 use Rattle.netdiscover_file.specs.declared.ends.NodeId.{NodeId}
 use Rattle.netdiscover_file.specs.declared.kind.NodeKind.{NodeKind}
@@ -22,7 +23,7 @@ use Rattle.netdiscover_file.specs.Port.{is_reported, is_reported_already}
 use Rattle.netdiscover_file.specs.Sound.{shares_guid}
 use Rattle.netdiscover_file.proofs.AgreementLemmas.{all_lead_back}
 use Rattle.netdiscover_file.proofs.OtherEndLemmas.{same_numbers, same_tested}
-use Rattle.netdiscover_file.proofs.SoundLemmas.{fresh, guids_with_node, is_none, sound_with_node}
+use Rattle.netdiscover_file.proofs.SoundLemmas.{fresh, guids_with_node, sound_with_node}
 
 pub missing_ends_are_reported : MissingEndsAreReported
 missing_ends_are_reported nodes ports none = all_lead_back nodes ports (ap (option_map (λ line. line.line)) none)
@@ -79,7 +80,7 @@ own_guids so_far node reported free =
     let parts = or_parts (is_of_another so_far.switch_guids node.id) _ free in
     let own = or_parts (is_some (place_of node.id.guid so_far.nodes)) _ parts.1 in
     record {
-      apart = (sound_with_node so_far.nodes so_far.ports so_far.port_guids node reported.sound (is_none (place_of node.id.guid so_far.nodes) own.0) own.1).lines;
+      apart = (sound_with_node so_far.nodes so_far.ports so_far.port_guids node reported.sound (none_of (place_of node.id.guid so_far.nodes) own.0) own.1).lines;
       meant = λ guids is. reported_switch guids node.id (ap (λ other. is_of_another other node.id) (sym is) ∙ parts.0);
     }
 

@@ -10,6 +10,7 @@ use Rattle.step_results.specs.AtLine.{after_lines, on_line}
 use Rattle.step_results.specs.Steps.{◌>>=◌}
 use Rattle.step_results.proofs.ListLemmas.{all_joined, list_all_weaker}
 use Rattle.step_results.proofs.StepLemmas.{bind_done, bind_ok, not_stopped, same_ok}
+use Rattle.step_results.proofs.BoolLemmas.{none_of}
 use Rattle.text_words.specs.Lines.{lines, words_of}
 use Rattle.fabric_parts.specs.declared.cable.PortRef.{PortRef}
 use Rattle.netdiscover_file.specs.declared.assignment.SwitchGuids.{SwitchGuids}
@@ -31,7 +32,7 @@ use Rattle.netdiscover_file.specs.Lids.{own_lid, own_lid_in, owns}
 use Rattle.netdiscover_file.specs.Node.{is_switch_at, place_of, port_at, ports_at}
 use Rattle.netdiscover_file.specs.Port.{is_reported, is_reported_already, is_said_already, place_of_line}
 use Rattle.netdiscover_file.specs.Sound.{has_own, is_port, port_guids}
-use Rattle.netdiscover_file.proofs.SoundLemmas.{guids_with_line, guids_with_node, is_none, nothing_sound, sound_with_line, sound_with_node}
+use Rattle.netdiscover_file.proofs.SoundLemmas.{guids_with_line, guids_with_node, nothing_sound, sound_with_line, sound_with_node}
 
 -- ---- one more GUID, somewhere among others
 here : (guid : ℕ) (xs ys : List ℕ) → is_reported guid (xs ++ guid ∷ ys) ≡ true
@@ -76,7 +77,7 @@ reported_with_node so_far node reported free =
     let parts = or_parts (is_of_another so_far.switch_guids node.id) _ free in
     let own = or_parts (is_some (place_of node.id.guid so_far.nodes)) _ parts.1 in
     record {
-      sound = sound_with_node so_far.nodes so_far.ports so_far.port_guids node reported.sound (is_none (place_of node.id.guid so_far.nodes) own.0) own.1;
+      sound = sound_with_node so_far.nodes so_far.ports so_far.port_guids node reported.sound (none_of (place_of node.id.guid so_far.nodes) own.0) own.1;
       noted_alone = rw (guids_with_node so_far.nodes node so_far.ports) (alone_with node.port_guid so_far.port_guids front back reported.noted_alone);
     }
 
@@ -179,7 +180,7 @@ is_line so_far line first words comment reported h =
 new_line : (so_far : DraftState) (made line : PortLine) → IsLine so_far made → new_port so_far made ≡ Ok line → IsNewLine so_far line
 new_line so_far made line it h =
     let taken = let_in so_far made line h in
-    let new : IsNewLine so_far made = record { new = is_none (place_of_line made.port so_far.ports) taken.0; own = taken.1; is = it.is; has = it.has } in
+    let new : IsNewLine so_far made = record { new = none_of (place_of_line made.port so_far.ports) taken.0; own = taken.1; is = it.is; has = it.has } in
     rw taken.2 at new
 
 reported_with_line : (so_far : DraftState) (line : PortLine) → IsReportedSoFar so_far → IsNewLine so_far line → IsReportedSoFar (with_one_line so_far line)

@@ -1,6 +1,6 @@
 -- What stays so with one more node and one more line, and so of every discovery that was read.
 use Rattle.std.proofs.Common.{◌≡◌, ◌∙◌, ap, ap₂, refl, sym, ℕ, Bool, true, false, not, ◌==◌, ◌&&◌, nat_eq, List, [], ◌∷◌, ◌++◌, flat_map}
-use Rattle.std.proofs.Common.{Option, Some, None, option_to_list, is_some, arith}
+use Rattle.std.proofs.Common.{Option, Some, None, option_to_list, arith}
 use Rattle.std.specs.List.{list_all, list_any, IsDistinct}
 use Rattle.std.proofs.lemmas.Bool.{and_parts, and_from, false_from_ne_true, not_from_false, not-true, or_from, or_parts, or_right}
 use Rattle.std.proofs.lemmas.Bool.Decides.{nat_tests}
@@ -167,7 +167,3 @@ nothing_sound = record {
   };
   all_noted = refl;
 }
-
-pub is_none : {X : Type 0} (o : Option X) → is_some o ≡ false → o ≡ None
-is_none None h = refl
-is_none (Some x) h = absurd cc

@@ -1,6 +1,7 @@
 -- Nodes, in the order of their headers.
-use Rattle.std.specs.Prelude.{ℕ, Bool, bytes_eq, false, ◌-◌, ◌==◌, ◌&&◌, nat_le, nat_lt, List, length, position, slice_get, Option, Some, None, if◌then◌else◌}
+use Rattle.std.specs.Prelude.{ℕ, Bool, bytes_eq, false, ◌-◌, ◌==◌, ◌&&◌, nat_lt, List, length, position, slice_get, Option, Some, None, if◌then◌else◌}
 use Rattle.std.specs.Option.{option_map_or}
+use Rattle.fabric_parts.specs.Cable.{port_within}
 use Rattle.fabric_parts.specs.declared.cable.PortRef.{PortRef}
 use Rattle.netdiscover_file.specs.declared.node.Node.{Node}
 use Rattle.netdiscover_file.specs.declared.node.NewNode.{NewNode}
@@ -36,8 +37,7 @@ ports_at nodes place = option_map_or (λ node. node.ports) (slice_get nodes plac
 
 -- the port of this number at the node there
 abbrev pub port_at : List Node → ℕ → ℕ → Option PortRef
-port_at nodes place number =
-    if nat_le 1 number && nat_le number (ports_at nodes place) then Some (record { node = place; port = number }) else None
+port_at nodes place number = port_within (ports_at nodes place) place number
 
 -- ---- both headers say the same, on whatever lines
 abbrev pub has_same_port_0 : Node → Node → Bool

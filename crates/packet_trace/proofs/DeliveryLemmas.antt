@@ -12,9 +12,9 @@ use Rattle.fabric_parts.specs.declared.cable.PortRef.{PortRef}
 use Rattle.packet_trace.specs.Trace.{next_after, step, steps_from, turn_after, turn_at, turn_by, turn_in, turn_of_fate, way_of}
 use Rattle.packet_trace.specs.declared.turn.Step.{Step}
 use Rattle.packet_trace.specs.declared.turn.Turn.TheVariants.{Accepts, DropsKey, GoesOut, NoCable}
-use Rattle.delivery_laws.proofs.WayLemmas.{adapter_stops, few_hops, from_next, in_none, no_longer, to_next}
-use Rattle.delivery_laws.specs.Deliveries.{Goes, IsDelivered, Passes, adapter_at, adapter_ports}
-use Rattle.delivery_laws.specs.Unicast.{next_port, node_out_port}
+use Rattle.smp_wire.proofs.WayLemmas.{adapter_stops, few_hops, from_next, in_none, no_longer, to_next}
+use Rattle.smp_wire.specs.Deliveries.{Goes, IsDelivered, Passes, adapter_at, adapter_ports}
+use Rattle.smp_wire.specs.Unicast.{next_port, node_out_port}
 use Rattle.port_model.specs.AdapterState.{AdapterState}
 use Rattle.port_model.specs.Packets.{accepts_packet}
 use Rattle.smp_wire.proofs.CableLemmas.{same_port}

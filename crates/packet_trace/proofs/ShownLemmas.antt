@@ -16,9 +16,9 @@ use Rattle.packet_trace.proofs.EndLemmas.{AreAmong, AreAt, IsAmong, at_more, com
 use Rattle.packet_trace.specs.Trace.{next_after, step, steps_from, turn_after, way_of}
 use Rattle.packet_trace.specs.declared.turn.Step.{Step}
 use Rattle.packet_trace.specs.declared.turn.Turn.{Turn}
-use Rattle.delivery_laws.proofs.WayLemmas.{to_next}
-use Rattle.delivery_laws.specs.Deliveries.{Goes}
-use Rattle.delivery_laws.specs.Unicast.{next_port}
+use Rattle.smp_wire.proofs.WayLemmas.{to_next}
+use Rattle.smp_wire.specs.Deliveries.{Goes}
+use Rattle.smp_wire.specs.Unicast.{next_port}
 use Rattle.step_results.proofs.DistinctLemmas.{all_differ}
 use Rattle.smp_wire.proofs.CableLemmas.{count_ends, itself, same_port}
 use Rattle.smp_wire.specs.FabricState.{FabricState}

@@ -22,8 +22,8 @@ use Rattle.packet_trace.specs.Trace.{next_after, step, turn_by}
 use Rattle.packet_trace.specs.declared.turn.Step.{Step}
 use Rattle.packet_trace.specs.declared.turn.Turn.{Turn}
 use Rattle.packet_trace.specs.declared.turn.Turn.TheVariants.{DropsInbound, DropsMask, Takes, DropsOutbound, NoCable, Meets, GoesOut, Accepts, DropsKey}
-use Rattle.delivery_laws.proofs.WayLemmas.{in_none}
-use Rattle.delivery_laws.specs.Deliveries.{adapter_at, sends_at}
+use Rattle.smp_wire.proofs.WayLemmas.{in_none}
+use Rattle.smp_wire.specs.Deliveries.{adapter_at, sends_at}
 use Rattle.port_model.specs.AdapterState.{AdapterState}
 use Rattle.port_model.specs.Packets.{accepts_packet}
 use Rattle.smp_wire.proofs.CableLemmas.{ports_equiv}

@@ -10,7 +10,7 @@ use Rattle.packet_trace.specs.WrongRules.{EndsAreNotAll, ends_alone}
 use Rattle.packet_trace.specs.declared.turn.Step.{Step}
 use Rattle.packet_trace.specs.declared.turn.Turn.{Turn}
 use Rattle.packet_trace.specs.declared.turn.Turn.TheVariants.{Accepts}
-use Rattle.delivery_laws.specs.Examples.{two_switches}
+use Rattle.smp_wire.specs.DeliveryExamples.{two_switches}
 use Rattle.switch_model.specs.Fate.{fate}
 
 -- from h0 on switch A, at place 0, to h2, at place 4, on switch B

@@ -10,7 +10,7 @@ use Rattle.packet_trace.specs.Trace.{step}
 use Rattle.packet_trace.specs.declared.turn.Step.{Step}
 use Rattle.packet_trace.specs.declared.turn.Turn.{Turn}
 use Rattle.packet_trace.specs.declared.turn.Turn.TheVariants.{Accepts, GoesOut}
-use Rattle.delivery_laws.specs.Deliveries.{Goes, IsDelivered, adapter_at}
+use Rattle.smp_wire.specs.Deliveries.{Goes, IsDelivered, adapter_at}
 use Rattle.port_model.specs.AdapterState.{AdapterState}
 use Rattle.smp_wire.specs.FabricState.{FabricState}
 

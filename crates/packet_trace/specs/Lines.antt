@@ -7,13 +7,13 @@ use Rattle.data_packet.specs.declared.packet.Packet.{Packet}
 use Rattle.data_packet.specs.declared.refusal.Refusal.{Refusal}
 use Rattle.fabric_parts.specs.Cable.{far_end}
 use Rattle.fabric_parts.specs.declared.cable.PortRef.{PortRef}
-use Rattle.text_parts.specs.Parts.{hex_text, port_name}
+use Rattle.text_words.specs.Parts.{hex_text, port_name}
 use Rattle.packet_trace.specs.Steps.{steps_of}
 use Rattle.packet_trace.specs.declared.lines.TheConstants.{DATA_QP}
 use Rattle.packet_trace.specs.declared.turn.Step.{Step}
 use Rattle.packet_trace.specs.declared.turn.Turn.{Turn}
 use Rattle.packet_trace.specs.declared.turn.Turn.TheVariants.{Again, DropsInbound, DropsTop, DropsEntry, DropsMask, Takes, DropsOutbound, NoCable, Meets, GoesOut, Accepts, DropsKey}
-use Rattle.delivery_laws.specs.Deliveries.{adapter_at}
+use Rattle.smp_wire.specs.Deliveries.{adapter_at}
 use Rattle.port_model.specs.AdapterState.{AdapterState}
 use Rattle.port_model.specs.Packets.{stamped}
 use Rattle.smp_wire.specs.FabricState.{FabricState}

@@ -11,7 +11,7 @@ use fabric_parts::PortRef;
 use fabric_wire::{Fabric, adapter_at};
 use port_model::AdapterPort;
 use std::alloc::{AllocError, Global};
-use text_parts::{push_decimal, push_hex, push_port_name};
+use text_words::{push_decimal, push_hex, push_port_name};
 use topo_file::{Topology, name_at};
 
 /// A queue pair for data: neither 0 nor 1, which are for management.

@@ -6,6 +6,7 @@ use Rattle.std.specs.Option.{unwrap_or}
 use Rattle.std.proofs.lemmas.Bool.{eqb-true}
 use Rattle.std.proofs.lemmas.Bool.Decides.{nat_tests}
 use Rattle.std.proofs.lemmas.List.Sums.{fold-append, sum_by-cons}
+use Rattle.step_results.proofs.BoolLemmas.{or_true}
 use Rattle.pkey_rules.specs.declared.key_table.TheConstants.{PARTITIONS}
 use Rattle.pkey_rules.specs.PKey.{default_base}
 use Rattle.partition_file.specs.declared.definition.Definition.{Definition}
@@ -77,11 +78,6 @@ at_least (suc n) held h =
     let top : has_base (suc n) held ≡ true = h (suc n) (omega arith) (omega arith) in
     let rest : n ≤ length (without (suc n) held) = at_least n (without (suc n) held) (λ c low high. still_there (suc n) c held (top_apart n c high) (h c low (omega (arith, high)))) in
     omega (arith, rest, shorter (suc n) held top)
-
--- ---- bases, each once
-or_true : (a : Bool) → (a || true) ≡ true
-or_true true = refl
-or_true false = refl
 
 kept : (base other : ℕ) (seen : List ℕ) (b : Bool) → has_base other seen ≡ true → has_base other (cond b seen (seen ++ base ∷ [])) ≡ true
 kept base other seen true h = h

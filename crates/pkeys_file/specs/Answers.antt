@@ -6,6 +6,7 @@ use Rattle.step_results.specs.AtLine.{AtLine, after_lines}
 use Rattle.step_results.specs.Steps.{◌>>=◌}
 use Rattle.text_words.specs.Failure.{is_failure}
 use Rattle.text_words.specs.Lines.{lines}
+use Rattle.text_words.specs.Cut.{trimmed}
 use Rattle.pkeys_file.specs.declared.answer.Answer.{Answer}
 use Rattle.pkeys_file.specs.declared.answer.Reply.{Reply}
 use Rattle.pkeys_file.specs.declared.answer.Reply.TheVariants.{Unread}
@@ -17,7 +18,6 @@ use Rattle.pkeys_file.specs.declared.query.Query.{Query}
 use Rattle.pkeys_file.specs.declared.query.QueryKind.{QueryKind}
 use Rattle.pkeys_file.specs.declared.query.QueryKind.TheVariants.{NodeInfo, SwitchInfo, Keys, PortInfo}
 use Rattle.pkeys_file.specs.Fields.{field_in, no_fields, with_node_field, with_port_field, with_switch_field}
-use Rattle.pkeys_file.specs.Line.{trimmed}
 use Rattle.pkeys_file.specs.Query.{is_same_query, judged_by, query_in}
 use Rattle.pkeys_file.specs.Reply.{reply_by}
 use Rattle.pkeys_file.specs.Rows.{capacity_after, row_after}

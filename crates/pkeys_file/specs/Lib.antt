@@ -1,5 +1,4 @@
 pub mod Fault
-pub mod Line
 pub mod Parts
 pub mod Query
 pub mod Fields

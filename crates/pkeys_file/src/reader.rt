@@ -6,7 +6,6 @@ ghost use Rattle.step_results.specs.Gives.{LineGives};
 ghost use Rattle.step_results.specs.TextGives.{TextGives};
 ghost use Rattle.pkeys_file.specs.Answers.{after_answer_line, after_field_line, after_line, after_query, after_row, after_table_line, after_text, answers_of, by_kind};
 ghost use Rattle.pkeys_file.specs.Answers.{closed, fields_after, in_answer, is_flag, is_query, is_row, is_title, judged_answers, whole, with_field, with_query};
-ghost use Rattle.pkeys_file.specs.Line.{trimmed};
 
 use crate::answers::Answers;
 use crate::draft::{Asked, Draft};
@@ -16,7 +15,7 @@ use crate::query::{Query, QueryKind, query_in};
 use crate::rows::{capacity_after, push_row};
 use std::alloc::Global;
 use step_results::LineError;
-use text_words::{LineReader, cut_at, is_failure, read_lines};
+use text_words::{LineReader, cut_at, is_failure, read_lines, trimmed};
 
 fn is_row(text: &[u8]) -> bool
     ensures { result ≡ is_row text.now }
@@ -207,13 +206,6 @@ impl LineReader for Draft {
         }
         self.take_text(alloc, number, text)
     }
-}
-
-/// A line without what ends it, and without the blanks before that.
-fn trimmed(line: &[u8]) -> &[u8]
-    ensures { result.now ≡ trimmed line.now }
-{
-    line.trim_ascii_end()
 }
 
 /// What a text of `smpquery` reports, or its first fault with the line.

@@ -4,7 +4,7 @@ use Rattle.std.proofs.Common.{List, [], ◌∷◌, ◌++◌, length, get_or, tak
 use Rattle.std.specs.List.{AllByRecursion, flat_map}
 use Rattle.std.proofs.Math.ListN.{get_or-append}
 use Rattle.std.proofs.Math.Seq.{get_or-append_seam, append_snoc}
-use Rattle.std.proofs.lemmas.Bool.{and_parts, cases_Bool, eqb-true, eq-eqb, leb-true}
+use Rattle.std.proofs.lemmas.Bool.{and_parts, and_right, cases_Bool, eq-eqb, eqb-true, leb-true}
 use Rattle.std.proofs.lemmas.Bool.Decides.{nat_tests}
 use Rattle.std.proofs.lemmas.Grind.{flat_map-append}
 use Rattle.std.proofs.lemmas.List.{take_all, length-take}
@@ -62,16 +62,12 @@ after_fault : (fault : ReceiveFault) (mads : List (List ℕ)) → after_all (Err
 after_fault fault [] = refl
 after_fault fault (mad ∷ mads) = after_fault fault mads
 
-no_more : (a b : Bool) → b ≡ false → (a && b) ≡ false
-no_more true b e = e
-no_more false b e = refl
-
 -- after the last segment nothing is taken
 after_last : (r : ReassemblyState) (mad : List ℕ) → r.is_whole ≡ true → with_segment r mad ≡ Err UnexpectedSegment
 after_last r mad whole =
     let rmpp = rmpp_in mad in
     let later = (rmpp.segment_number == r.segments + 1) && (if r.segments == 0 then is_first rmpp else not (is_first rmpp)) in
-    let none : is_expected r rmpp ≡ false = no_more (is_data rmpp) (not r.is_whole && later) (ap (λ (b : Bool). not b && later) whole) in
+    let none : is_expected r rmpp ≡ false = and_right (is_data rmpp) (not r.is_whole && later) (ap (λ (b : Bool). not b && later) whole) in
     segment_gives r mad false (is_last rmpp) (has_right_length r rmpp) none refl refl
 
 -- ---- while it is not whole

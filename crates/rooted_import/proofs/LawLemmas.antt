@@ -18,9 +18,8 @@ use Rattle.netdiscover_file.specs.Discovery.{DiscoveryState}
 use Rattle.netdiscover_file.specs.Sound.{IsSound}
 use Rattle.topo_file.specs.declared.fault.TopologyCause.{TopologyCause}
 use Rattle.topo_file.specs.declared.node.Node.{Node}
-use Rattle.topo_file.specs.Node.{is_switch_at}
+use Rattle.topo_file.specs.Node.{guid_at, is_switch_at}
 use Rattle.topo_file.specs.Topology.{TopologyState, is_root, topology_within}
-use Rattle.topology_import.specs.Agreement.{guid_at}
 use Rattle.topology_import.specs.Import.{import_of}
 use Rattle.topology_import.specs.Laws.{IsGiven}
 use Rattle.topology_import.proofs.LawLemmas.{given as given_topology}

@@ -7,7 +7,7 @@ use Rattle.fabric_parts.specs.Cable.{is_same_port}
 use Rattle.fabric_parts.specs.NodeType.{node_type_code}
 use Rattle.topo_file.specs.declared.node.Node.{Node}
 use Rattle.topo_file.specs.Topology.{TopologyState}
-use Rattle.topology_import.specs.Agreement.{guid_at}
+use Rattle.topo_file.specs.Node.{guid_at}
 use Rattle.rooted_import.specs.Roots.{roots_of}
 
 abbrev pub is_same_node : Node × Node → Bool

@@ -2,9 +2,8 @@
 use Rattle.std.specs.Prelude.{ℕ, ◌≡◌, Bool, true, List, Option, Ok}
 use Rattle.fabric_parts.specs.declared.limits.Limits.TheVariants.{Large}
 use Rattle.netdiscover_file.specs.Discovery.{DiscoveryState}
-use Rattle.topo_file.specs.Node.{is_switch_at}
+use Rattle.topo_file.specs.Node.{guid_at, is_switch_at}
 use Rattle.topo_file.specs.Topology.{TopologyState, is_root, topology_within}
-use Rattle.topology_import.specs.Agreement.{guid_at}
 use Rattle.topology_import.specs.Laws.{IsGiven}
 use Rattle.rooted_import.specs.Agreement.{has_root, is_rooted}
 use Rattle.rooted_import.specs.Roots.{is_among, top_guids}

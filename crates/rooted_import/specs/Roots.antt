@@ -3,11 +3,10 @@ use Rattle.std.specs.Prelude.{ℕ, ◌==◌, ◌&&◌, Bool, List, [], ◌∷◌
 use Rattle.std.specs.List.{list_any, range_with_len}
 use Rattle.netdiscover_file.specs.Discovery.{DiscoveryState}
 use Rattle.topo_file.specs.declared.node.Node.{Node}
-use Rattle.topo_file.specs.Node.{is_switch_at, name_at}
-use Rattle.topology_import.specs.Agreement.{guid_at}
+use Rattle.topo_file.specs.Node.{guid_at, is_switch_at, name_at}
 use Rattle.topology_import.specs.Nodes.{switch_guid_at}
 use Rattle.audit_plan.specs.Plan.{plan_found}
-use Rattle.cable_load.specs.Tops.{top_switches}
+use Rattle.audit_loads.specs.Tops.{top_switches}
 
 -- the GUIDs that the top switches have in the topology
 abbrev pub top_guids : DiscoveryState → List ℕ

@@ -5,9 +5,8 @@ ghost use Rattle.std.specs.List.{list_all, zip};
 ghost use Rattle.rooted_import.specs.Agreement.{are_same, has_root, is_rooted, is_same_cable, is_same_node, is_same_place};
 ghost use Rattle.rooted_import.specs.Roots.{roots_of};
 
-use crate::roots::guid_at;
 use fabric_parts::Cable;
-use topo_file::{LargeTopology, Node};
+use topo_file::{LargeTopology, Node, guid_at};
 
 fn is_same_node(a: &Node, b: &Node) -> bool
     ensures { result ≡ is_same_node (a.now, b.now) }

@@ -1,33 +1,18 @@
 //! The switches that become roots.
 
 ghost use Rattle.std.specs.Prelude.{◌≡◌, ◌++◌, flat_map, map, IfOk, OnOk};
-ghost use Rattle.topo_file.specs.Node.{is_switch_at};
-ghost use Rattle.topology_import.specs.Agreement.{guid_at};
-ghost use Rattle.topology_import.specs.Nodes.{switch_guid, switch_guid_at};
+ghost use Rattle.topo_file.specs.Node.{guid_at, is_switch_at};
+ghost use Rattle.topology_import.specs.Nodes.{switch_guid_at};
 ghost use Rattle.audit_plan.specs.Plan.{plan_found};
-ghost use Rattle.cable_load.specs.Tops.{top_switches};
+ghost use Rattle.audit_loads.specs.Tops.{top_switches};
 ghost use Rattle.rooted_import.specs.Roots.{is_among, is_wanted, root_line, roots_of, top_guids};
 
+use audit_loads::top_switches;
 use audit_plan::Plan;
-use cable_load::top_switches;
 use netdiscover_file::{Discovery, Node as FoundNode};
 use std::alloc::{AllocError, Global};
-use topo_file::{Node, name_at};
-
-fn switch_guid(node: &FoundNode) -> u64
-    ensures { result ≡ switch_guid node.now }
-{
-    node.port_guid.unwrap_or(node.id.guid)
-}
-
-fn switch_guid_at(nodes: &[FoundNode], place: usize) -> u64
-    ensures { result ≡ switch_guid_at nodes.now place }
-{
-    match nodes.get(place) {
-        Some(node) => switch_guid(node),
-        None => 0,
-    }
-}
+use topo_file::{Node, guid_at, is_switch_at, name_at};
+use topology_import::switch_guid_at;
 
 fn guids_at(alloc: Global, nodes: &[FoundNode], places: &[usize]) -> Result<Vec<u64>, AllocError>
     ensures { IfOk result (λ guids. guids.items ≡ map (switch_guid_at nodes.now) places.now) }
@@ -53,25 +38,6 @@ pub(crate) fn top_guids(alloc: Global, discovery: &Discovery) -> Result<Vec<u64>
     let tops = tops_of(alloc, discovery)?;
     let guids = guids_at(alloc, discovery.nodes(), &tops)?;
     Ok(guids)
-}
-
-fn is_switch_at(nodes: &[Node], place: usize) -> bool
-    ensures { result ≡ is_switch_at nodes.now place }
-{
-    match nodes.get(place) {
-        Some(node) => node.is_switch(),
-        None => false,
-    }
-}
-
-/// The GUID of the node there, or 0 if there is none.
-pub(crate) fn guid_at(nodes: &[Node], place: usize) -> u64
-    ensures { result ≡ guid_at nodes.now place }
-{
-    match nodes.get(place) {
-        Some(node) => node.guid,
-        None => 0,
-    }
 }
 
 fn is_among(guids: &[u64], guid: u64) -> bool

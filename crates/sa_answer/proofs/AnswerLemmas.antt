@@ -9,7 +9,7 @@ use Rattle.mad_layout.specs.declared.status.MadStatus.{MadStatus}
 use Rattle.rmpp_core.specs.Segments.{Transfer, opened, segment_mad}
 use Rattle.subnet_model.specs.Delivery.{port_with_guid}
 use Rattle.subnet_model.specs.declared.subnet_port.SubnetPort.{SubnetPort}
-use Rattle.sa_queries.specs.Visible.{SaState}
+use Rattle.sa_model.specs.Visible.{SaState}
 use Rattle.subnet_model.specs.Configuration.{ConfigurationState}
 use Rattle.subnet_model.specs.Configured.{IsConfigured}
 use Rattle.sa_replies.specs.Answer.{Administration, answer_to, answered_with, outcome}

@@ -8,11 +8,11 @@ use Rattle.sa_records.specs.declared.node_record.NodeRecord.{NodeRecord}
 use Rattle.sa_records.specs.declared.path_record.PathRecord.{PathRecord}
 use Rattle.sa_records.specs.NodeRecord.{node_record_selected}
 use Rattle.subnet_model.specs.declared.subnet_port.SubnetPort.{SubnetPort}
-use Rattle.sa_queries.specs.Outcome.{the_only_one, unless_status}
-use Rattle.sa_queries.specs.Refusals.{refusal}
-use Rattle.sa_queries.specs.Selected.{Query, few_paths, nodes_selected, paths_wanted, selected}
-use Rattle.sa_queries.specs.Shown.{node_entry, node_record_of, path_entry}
-use Rattle.sa_queries.specs.Visible.{Path, SaState, may_know, visible_nodes}
+use Rattle.sa_model.specs.Outcome.{the_only_one, unless_status}
+use Rattle.sa_model.specs.Refusals.{refusal}
+use Rattle.sa_model.specs.Selected.{Query, few_paths, nodes_selected, paths_wanted, selected}
+use Rattle.sa_model.specs.Shown.{node_entry, node_record_of, path_entry}
+use Rattle.sa_model.specs.Visible.{Path, SaState, may_know, visible_nodes}
 use Rattle.sa_replies.specs.Answer.{all_records, get_outcome, one_record, table_outcome}
 use Rattle.sa_answer.specs.Answering.{Brings}
 use Rattle.sa_answer.specs.Asked.{is_reported, node_reported, paths_reported}

@@ -7,10 +7,10 @@ use Rattle.sa_records.specs.Component.{on, passes}
 use Rattle.sa_records.specs.ServiceRecord.{names_selected, service_record_selected}
 use Rattle.sa_records.specs.declared.service_record.ServiceRecord.{ServiceRecord}
 use Rattle.subnet_model.specs.declared.subnet_port.SubnetPort.{SubnetPort}
-use Rattle.sa_services.specs.Services.{Service}
-use Rattle.sa_queries.specs.Selected.{services_selected}
-use Rattle.sa_queries.specs.Shown.{service_record_of}
-use Rattle.sa_queries.specs.Visible.{ServiceOfPort}
+use Rattle.sa_model.specs.Services.{Service}
+use Rattle.sa_model.specs.Selected.{services_selected}
+use Rattle.sa_model.specs.Shown.{service_record_of}
+use Rattle.sa_model.specs.Visible.{ServiceOfPort}
 use Rattle.sa_store.specs.Kept.{ServicesOfBase}
 use Rattle.sa_answer.specs.Offers.{is_offered, offer, offers_shown, offers_some, service_bytes}
 

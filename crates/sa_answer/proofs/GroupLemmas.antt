@@ -1,7 +1,7 @@
 -- Groups of partitions, as they are gone through: what is passed over does not agree, and what a slot more brings.
 use Rattle.std.proofs.Common.{◌≡◌, ℕ, ◌+◌, ◌^◌, ◌<◌, ◌≤◌, ◌==◌, Bool, true, false, not, ◌&&◌, ◌||◌, bit_and, nat_le, nat_lt, List, [], ◌∷◌, ◌++◌, length, map, drop, get_or, Option, Some, None, refl, sym, ◌∙◌, ap, inl, inr, arith}
 use Rattle.std.specs.List.{flat_map}
-use Rattle.std.proofs.lemmas.Bool.{and_parts, cases_Bool, false≢true, le-leb, lt-ltb, ltb-true, ne_eqb}
+use Rattle.std.proofs.lemmas.Bool.{and_parts, and_right, cases_Bool, false≢true, le-leb, lt-ltb, ltb-true, ne_eqb}
 use Rattle.std.proofs.lemmas.List.{drop_more, map-append}
 use Rattle.std.proofs.lemmas.List.Elements.{filter-append}
 use Rattle.pkey_rules.specs.PKey.{key_of}
@@ -10,12 +10,12 @@ use Rattle.sa_records.specs.Component.{on, passes}
 use Rattle.sa_records.specs.McMemberRecord.{mc_member_record_selected}
 use Rattle.sa_records.specs.declared.mc_member_record.McMemberRecord.{McMemberRecord}
 use Rattle.subnet_model.specs.declared.subnet_port.SubnetPort.{SubnetPort}
-use Rattle.sa_groups.specs.Groups.{GroupParameters, PartitionGroups, first_mlid}
-use Rattle.sa_groups.specs.Members.{is_in}
-use Rattle.sa_groups.specs.Sound.{is_in_range}
-use Rattle.sa_queries.specs.Selected.{groups_selected}
-use Rattle.sa_queries.specs.Shown.{group_entry, group_record_of}
-use Rattle.sa_queries.specs.Visible.{GroupOfBase, groups_of, visible_groups}
+use Rattle.sa_model.specs.Groups.{GroupParameters, PartitionGroups, first_mlid}
+use Rattle.sa_model.specs.Members.{is_in}
+use Rattle.sa_model.specs.Sound.{is_in_range}
+use Rattle.sa_model.specs.Selected.{groups_selected}
+use Rattle.sa_model.specs.Shown.{group_entry, group_record_of}
+use Rattle.sa_model.specs.Visible.{GroupOfBase, groups_of, visible_groups}
 use Rattle.sa_replies.specs.State.{is_fit_group}
 use Rattle.sa_answer.specs.Taken.{bytes_of}
 use Rattle.sa_answer.proofs.TakenLemmas.{bytes_are, flat_reported}
@@ -52,15 +52,11 @@ narrow parameters fit =
 abbrev pub agrees : ℕ → McMemberRecord → GroupOfBase → Bool
 agrees mask asked one = mc_member_record_selected mask (group_record_of one) asked
 
-out : (a b : Bool) → b ≡ false → a && b ≡ false
-out true b h = h
-out false b h = refl
-
 and_fourth : (a b c d : Bool) → (a && (b && (c && (false && d)))) ≡ false
-and_fourth a b c d = out a _ (out b _ (out c _ refl))
+and_fourth a b c d = and_right a _ (and_right b _ (and_right c _ refl))
 
 and_seventh : (a b c d e f g : Bool) → (a && (b && (c && (d && (e && (f && (false && g))))))) ≡ false
-and_seventh a b c d e f g = out a _ (out b _ (out c _ (out d _ (out e _ (out f _ refl)))))
+and_seventh a b c d e f g = and_right a _ (and_right b _ (and_right c _ (and_right d _ (and_right e _ (and_right f _ refl)))))
 
 other_mgid : (mask : ℕ) (asked : McMemberRecord) (one : GroupOfBase) → passes mask (on 1 (one.group.mgid == asked.mgid)) ≡ false → agrees mask asked one ≡ false
 unfolding mc_member_record_selected

@@ -6,13 +6,13 @@ use Rattle.pkey_rules.specs.PKey.{base_of}
 use Rattle.sa_records.specs.declared.mc_member_record.McMemberRecord.{McMemberRecord}
 use Rattle.subnet_model.specs.Delivery.{port_with_guid}
 use Rattle.subnet_model.specs.declared.subnet_port.SubnetPort.{SubnetPort}
-use Rattle.sa_groups.specs.Groups.{MulticastGroup, PartitionGroups}
-use Rattle.sa_groups.specs.JoinState.{is_joined}
-use Rattle.sa_groups.specs.Joining.{may_create}
-use Rattle.sa_groups.specs.Members.{is_member}
-use Rattle.sa_queries.specs.Refusals.{first_refusal}
-use Rattle.sa_queries.proofs.NearLemmas.{member_if_in}
-use Rattle.sa_queries.specs.Visible.{SaState}
+use Rattle.sa_model.specs.Groups.{MulticastGroup, PartitionGroups}
+use Rattle.sa_model.specs.JoinState.{is_joined}
+use Rattle.sa_model.specs.Joining.{may_create}
+use Rattle.sa_model.specs.Members.{is_member}
+use Rattle.sa_model.specs.Refusals.{first_refusal}
+use Rattle.sa_model.proofs.NearLemmas.{member_if_in}
+use Rattle.sa_model.specs.Visible.{SaState}
 use Rattle.sa_replies.specs.Joins.{after_join, founding_by, group_named, group_questions, has_free_mlid, is_join_state, join_asked, join_done, join_outcome, join_questions, join_refusal, parameters_asked}
 use Rattle.sa_replies.specs.State.{is_fit_group}
 use Rattle.sa_replies.proofs.AlikeLemmas.{join_is_in, none_so, unless_not}

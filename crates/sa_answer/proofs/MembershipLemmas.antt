@@ -4,11 +4,11 @@ use Rattle.std.proofs.lemmas.Option.{same_Some}
 use Rattle.mad_layout.specs.declared.status.MadStatus.{MadStatus}
 use Rattle.sa_records.specs.declared.mc_member_record.McMemberRecord.{McMemberRecord}
 use Rattle.subnet_model.specs.declared.subnet_port.SubnetPort.{SubnetPort}
-use Rattle.sa_groups.specs.Leaving.{left}
-use Rattle.sa_groups.specs.Receivers.{changed_numbers}
-use Rattle.sa_groups.proofs.ReceiverLemmas.{nothing_changes_alone}
-use Rattle.sa_queries.specs.Refusals.{Question, first_refusal}
-use Rattle.sa_queries.specs.Visible.{SaState}
+use Rattle.sa_model.specs.Leaving.{left}
+use Rattle.sa_model.specs.Receivers.{changed_numbers}
+use Rattle.sa_model.proofs.ReceiverLemmas.{nothing_changes_alone}
+use Rattle.sa_model.specs.Refusals.{Question, first_refusal}
+use Rattle.sa_model.specs.Visible.{SaState}
 use Rattle.sa_replies.specs.Answer.{Answered, answered_with}
 use Rattle.sa_replies.specs.Joins.{leave_asked, leave_outcome, leave_questions}
 use Rattle.sa_replies.specs.Request.{Request}

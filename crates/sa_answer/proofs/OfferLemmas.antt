@@ -11,14 +11,14 @@ use Rattle.sa_records.specs.declared.service_record.ServiceRecord.{ServiceRecord
 use Rattle.subnet_model.specs.Configured.{same_guid}
 use Rattle.subnet_model.specs.Delivery.{port_with_guid}
 use Rattle.subnet_model.specs.declared.subnet_port.SubnetPort.{SubnetPort}
-use Rattle.sa_services.specs.Services.{PortServices, Service}
-use Rattle.sa_services.specs.ServiceSight.{is_shown, ports_share_base, services_seen, shares_base_with}
-use Rattle.sa_queries.proofs.SourceLemmas.{all_filtered}
-use Rattle.sa_queries.proofs.ShareLemmas.{of_one_port}
-use Rattle.sa_queries.specs.Gid.{gid_of}
-use Rattle.sa_queries.specs.Selected.{asks, services_selected}
-use Rattle.sa_queries.specs.Shown.{service_entry}
-use Rattle.sa_queries.specs.Visible.{ServiceOfPort, visible_services}
+use Rattle.sa_model.specs.Services.{PortServices, Service}
+use Rattle.sa_model.specs.ServiceSight.{is_shown, ports_share_base, services_seen, shares_base_with}
+use Rattle.sa_model.proofs.SourceLemmas.{all_filtered}
+use Rattle.sa_model.proofs.ShareLemmas.{of_one_port}
+use Rattle.sa_model.specs.Gid.{gid_of}
+use Rattle.sa_model.specs.Selected.{asks, services_selected}
+use Rattle.sa_model.specs.Shown.{service_entry}
+use Rattle.sa_model.specs.Visible.{ServiceOfPort, visible_services}
 use Rattle.sa_store.specs.Registry.{IsListed, of_guid, of_port}
 use Rattle.sa_store.proofs.PortServiceLemmas.{place_of}
 use Rattle.sa_answer.specs.Taken.{bytes_of}
@@ -28,7 +28,7 @@ use Rattle.sa_answer.specs.Asked.{guid_in}
 use Rattle.sa_answer.specs.Offers.{is_offered, offer, offers_of, offers_shown, service_bytes, services_offered, services_reported}
 use Rattle.sa_answer.proofs.FoundLemmas.{agrees}
 use Rattle.sa_answer.proofs.OutLemmas.{gids_differ}
-use Rattle.sa_queries.specs.Visible as visible
+use Rattle.sa_model.specs.Visible as visible
 
 -- ---- what of a port is shown to another
 shown_alike : (ports : List SubnetPort) (own other : SubnetPort) (place : PortServices) → IsDistinct same_guid ports → IsListed ports own → IsListed ports other

@@ -7,10 +7,10 @@ use Rattle.sa_records.specs.declared.path_record.PathRecord.{PathRecord}
 use Rattle.sa_records.specs.NodeRecord.{node_record_selected}
 use Rattle.sa_records.specs.PathRecord.{path_record_selected}
 use Rattle.subnet_model.specs.declared.subnet_port.SubnetPort.{SubnetPort}
-use Rattle.sa_queries.specs.Gid.{gid_of, gid_prefix}
-use Rattle.sa_queries.specs.Selected.{asks, at_most, few_paths, paths_selected}
-use Rattle.sa_queries.specs.Shown.{path_record_of}
-use Rattle.sa_queries.specs.Visible.{Path, keys_to, paths_under}
+use Rattle.sa_model.specs.Gid.{gid_of, gid_prefix}
+use Rattle.sa_model.specs.Selected.{asks, at_most, few_paths, paths_selected}
+use Rattle.sa_model.specs.Shown.{path_record_of}
+use Rattle.sa_model.specs.Visible.{Path, keys_to, paths_under}
 use Rattle.sa_answer.specs.Asked.{guid_in, is_reported}
 use Rattle.sa_answer.proofs.PathLemmas.{under}
 

@@ -6,9 +6,9 @@ use Rattle.sa_records.specs.declared.path_record.PathRecord.{PathRecord}
 use Rattle.sa_records.specs.PathRecord.{path_record_selected}
 use Rattle.subnet_model.specs.declared.subnet_port.SubnetPort.{SubnetPort}
 use Rattle.sa_replies.proofs.OpenTableLemmas.{filter_few}
-use Rattle.sa_queries.specs.Selected.{paths_selected}
-use Rattle.sa_queries.specs.Shown.{path_record_of}
-use Rattle.sa_queries.specs.Visible.{Path, paths_under}
+use Rattle.sa_model.specs.Selected.{paths_selected}
+use Rattle.sa_model.specs.Shown.{path_record_of}
+use Rattle.sa_model.specs.Visible.{Path, paths_under}
 use Rattle.sa_answer.specs.Replying.{path_bytes}
 
 -- those under some keys that the other port accepts, and that agree with a request

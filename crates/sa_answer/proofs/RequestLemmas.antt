@@ -9,12 +9,12 @@ use Rattle.mad_layout.specs.declared.status.MadStatus.TheVariants.{InsufficientC
 use Rattle.pkey_rules.specs.PKey.{base_of}
 use Rattle.sa_records.specs.declared.service_record.ServiceRecord.{ServiceRecord}
 use Rattle.subnet_model.specs.declared.subnet_port.SubnetPort.{SubnetPort}
-use Rattle.sa_groups.specs.Members.{is_in}
-use Rattle.sa_queries.specs.Gid.{gid_of}
-use Rattle.sa_queries.specs.Selected.{asks}
-use Rattle.sa_queries.specs.Refusals.{first_refusal, refused_if}
-use Rattle.sa_queries.specs.Visible.{SaState}
-use Rattle.sa_services.specs.ServiceChange.{Deed, has_id, has_room}
+use Rattle.sa_model.specs.Members.{is_in}
+use Rattle.sa_model.specs.Gid.{gid_of}
+use Rattle.sa_model.specs.Selected.{asks}
+use Rattle.sa_model.specs.Refusals.{first_refusal, refused_if}
+use Rattle.sa_model.specs.Visible.{SaState}
+use Rattle.sa_model.specs.ServiceChange.{Deed, has_id, has_room}
 use Rattle.sa_replies.specs.ServiceRequests.{after_change, change_asked, owner_questions, service_asked, service_deleted, service_set, services_at, shown_bytes}
 use Rattle.sa_replies.specs.Success.{Success}
 use Rattle.sa_records.specs.ServiceMask as service_mask

@@ -4,7 +4,7 @@ use Rattle.std.specs.List.{flat_map}
 use Rattle.std.proofs.lemmas.List.{drop_all, drop_more, length-append, length-map, map-append}
 use Rattle.std.proofs.lemmas.List.Concat.{flat_map-append}
 use Rattle.sa_records.specs.SaRecord.{record_bytes}
-use Rattle.sa_queries.specs.Shown.{Entry}
+use Rattle.sa_model.specs.Shown.{Entry}
 use Rattle.sa_answer.specs.Replying.{padded}
 use Rattle.sa_answer.specs.Taken.{HasTaken, IsTable, Stops, Walks, bytes_of}
 use Rattle.sa_answer.specs.declared.taken.Stopped.{Stopped}

@@ -2,7 +2,7 @@
 use Rattle.std.proofs.Common.{◌≡◌, ℕ, ◌==◌, ◌∙◌, ap, false, List, inl, inr, refl, sym}
 use Rattle.std.proofs.lemmas.Bool.{cases_Bool, eqb-true}
 use Rattle.subnet_model.specs.declared.subnet_port.SubnetPort.{SubnetPort}
-use Rattle.sa_queries.specs.Visible.{SaState}
+use Rattle.sa_model.specs.Visible.{SaState}
 use Rattle.sa_records.specs.McMemberRecord.{group_in}
 use Rattle.sa_records.specs.ServiceRecord.{service_in}
 use Rattle.sa_records.specs.declared.mc_member_record.McMemberRecord.{McMemberRecord}

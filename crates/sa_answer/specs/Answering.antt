@@ -4,7 +4,7 @@ use Rattle.mad_layout.specs.declared.status.MadStatus.{MadStatus}
 use Rattle.rmpp_core.specs.Segments.{payload_size}
 use Rattle.subnet_model.specs.Delivery.{port_with_guid}
 use Rattle.subnet_model.specs.declared.subnet_port.SubnetPort.{SubnetPort}
-use Rattle.sa_queries.specs.Visible.{SaState}
+use Rattle.sa_model.specs.Visible.{SaState}
 use Rattle.sa_replies.specs.Answer.{Administration, Answered, answer}
 use Rattle.sa_replies.specs.Success.{Success as Brought}
 use Rattle.sa_answer.specs.declared.outcome.Success.{Success}

@@ -6,10 +6,10 @@ use Rattle.sa_records.specs.declared.node_record.NodeRecord.{NodeRecord}
 use Rattle.sa_records.specs.declared.path_record.PathRecord.{PathRecord}
 use Rattle.sa_records.specs.NodeRecord.{node_record_selected}
 use Rattle.subnet_model.specs.declared.subnet_port.SubnetPort.{SubnetPort}
-use Rattle.sa_queries.specs.Gid.{gid_prefix}
-use Rattle.sa_queries.specs.Selected.{few_paths}
-use Rattle.sa_queries.specs.Shown.{node_record_of}
-use Rattle.sa_queries.specs.Visible.{may_know}
+use Rattle.sa_model.specs.Gid.{gid_prefix}
+use Rattle.sa_model.specs.Selected.{few_paths}
+use Rattle.sa_model.specs.Shown.{node_record_of}
+use Rattle.sa_model.specs.Visible.{may_know}
 
 -- the GUID of the port that may have this GID
 abbrev pub guid_in : ℕ → Option ℕ

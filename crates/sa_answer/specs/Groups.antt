@@ -6,12 +6,12 @@ use Rattle.sa_records.specs.declared.mc_member_record.McMemberRecord.{McMemberRe
 use Rattle.sa_records.specs.Component.{on, passes}
 use Rattle.sa_records.specs.McMemberRecord.{mc_member_record_bytes}
 use Rattle.subnet_model.specs.declared.subnet_port.SubnetPort.{SubnetPort}
-use Rattle.sa_groups.specs.Groups.{MulticastGroup, PartitionGroups}
-use Rattle.sa_groups.specs.Members.{is_in}
-use Rattle.sa_groups.specs.Sound.{is_in_range}
-use Rattle.sa_queries.specs.Selected.{groups_selected}
-use Rattle.sa_queries.specs.Shown.{group_record_of}
-use Rattle.sa_queries.specs.Visible.{GroupOfBase, groups_of}
+use Rattle.sa_model.specs.Groups.{MulticastGroup, PartitionGroups}
+use Rattle.sa_model.specs.Members.{is_in}
+use Rattle.sa_model.specs.Sound.{is_in_range}
+use Rattle.sa_model.specs.Selected.{groups_selected}
+use Rattle.sa_model.specs.Shown.{group_record_of}
+use Rattle.sa_model.specs.Visible.{GroupOfBase, groups_of}
 use Rattle.sa_store.specs.MlidRange.{SlotGroup, groups_in}
 use Rattle.sa_records.specs.McMemberMask as member_mask
 

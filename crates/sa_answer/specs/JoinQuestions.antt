@@ -4,10 +4,10 @@ use Rattle.mad_layout.specs.declared.status.MadStatus.TheVariants.{RequestInvali
 use Rattle.pkey_rules.specs.PKey.{base_of}
 use Rattle.sa_records.specs.declared.mc_member_record.McMemberRecord.{McMemberRecord}
 use Rattle.subnet_model.specs.declared.subnet_port.SubnetPort.{SubnetPort}
-use Rattle.sa_groups.specs.Anchor.{free_mlid}
-use Rattle.sa_groups.specs.Groups.{MulticastGroup, PartitionGroups}
-use Rattle.sa_groups.specs.Joining.{has_mgid}
-use Rattle.sa_queries.specs.Refusals.{Question, refused_if}
+use Rattle.sa_model.specs.Anchor.{free_mlid}
+use Rattle.sa_model.specs.Groups.{MulticastGroup, PartitionGroups}
+use Rattle.sa_model.specs.Joining.{has_mgid}
+use Rattle.sa_model.specs.Refusals.{Question, refused_if}
 use Rattle.sa_replies.specs.Joins.{agrees_with, founding_by}
 
 -- ---- what is asked of a join once its group is looked for: whether it agrees with the one that is there, or whether one may be

@@ -5,10 +5,10 @@ use Rattle.pkey_rules.specs.KeyTable.{shares_base}
 use Rattle.sa_records.specs.declared.service_record.ServiceRecord.{ServiceRecord}
 use Rattle.sa_records.specs.ServiceRecord.{service_record_bytes}
 use Rattle.subnet_model.specs.declared.subnet_port.SubnetPort.{SubnetPort}
-use Rattle.sa_services.specs.Services.{Service}
-use Rattle.sa_queries.specs.Selected.{services_selected}
-use Rattle.sa_queries.specs.Shown.{service_record_of}
-use Rattle.sa_queries.specs.Visible.{ServiceOfPort}
+use Rattle.sa_model.specs.Services.{Service}
+use Rattle.sa_model.specs.Selected.{services_selected}
+use Rattle.sa_model.specs.Shown.{service_record_of}
+use Rattle.sa_model.specs.Visible.{ServiceOfPort}
 use Rattle.sa_store.specs.Kept.{KeptPort, ServicesOfBase}
 
 -- ---- a service as it is shown

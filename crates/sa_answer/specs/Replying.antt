@@ -3,8 +3,8 @@ use Rattle.std.specs.Prelude.{ℕ, ◌-◌, List, ◌++◌, length, replicate}
 use Rattle.mad_layout.specs.declared.sa_mad.SaMad.{SaMad}
 use Rattle.rmpp_core.specs.Reply.{reply_bytes}
 use Rattle.sa_records.specs.PathRecord.{path_record_bytes}
-use Rattle.sa_queries.specs.Shown.{path_record_of}
-use Rattle.sa_queries.specs.Visible.{Path}
+use Rattle.sa_model.specs.Shown.{path_record_of}
+use Rattle.sa_model.specs.Visible.{Path}
 use Rattle.sa_replies.specs.Request.{Request}
 use Rattle.sa_replies.specs.Reply.{no_rmpp, reply_header}
 

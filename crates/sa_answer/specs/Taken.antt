@@ -1,7 +1,7 @@
 -- What a walk over records takes: the only one of them, or all.
 use Rattle.std.specs.Prelude.{ℕ, ◌≡◌, ◌+◌, ◌≤◌, List, ◌++◌, length, map, option_to_list, Result, Ok, Err}
 use Rattle.sa_records.specs.SaRecord.{record_bytes}
-use Rattle.sa_queries.specs.Shown.{Entry}
+use Rattle.sa_model.specs.Shown.{Entry}
 use Rattle.std.specs.List.{flat_map}
 use Rattle.sa_answer.specs.Replying.{padded}
 use Rattle.sa_answer.specs.declared.taken.Stopped.{Stopped}

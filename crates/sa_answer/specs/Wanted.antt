@@ -12,8 +12,8 @@ use Rattle.sa_records.specs.ServiceRecord.{service_in}
 use Rattle.sa_records.specs.declared.sa_attribute.SaAttribute.{SaAttribute}
 use Rattle.sa_records.specs.declared.sa_attribute.SaAttribute.TheVariants.{NodeRecord, PathRecord, McMemberRecord, ServiceRecord}
 use Rattle.subnet_model.specs.declared.subnet_port.SubnetPort.{SubnetPort}
-use Rattle.sa_queries.specs.Selected.{Query}
-use Rattle.sa_queries.specs.Visible.{SaState}
+use Rattle.sa_model.specs.Selected.{Query}
+use Rattle.sa_model.specs.Visible.{SaState}
 use Rattle.sa_replies.specs.Answer.{get_outcome, table_outcome}
 use Rattle.sa_replies.specs.Joins.{join_outcome, leave_outcome}
 use Rattle.sa_replies.specs.Request.{Request}

@@ -1,7 +1,7 @@
 //! The GIDs of ports.
 
 ghost use Rattle.std.specs.Prelude.{◌≡◌, ◌/◌, ◌%◌, ◌==◌};
-ghost use Rattle.sa_queries.specs.Gid.{gid_of};
+ghost use Rattle.sa_model.specs.Gid.{gid_of};
 ghost use Rattle.sa_answer.specs.Asked.{guid_in};
 
 use fabric_parts::GID_PREFIX;

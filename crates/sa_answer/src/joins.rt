@@ -2,8 +2,8 @@
 
 ghost use Rattle.std.specs.Prelude.{◌≡◌, ◌<◌, ◌/◌, true, not, Some, None, List};
 ghost use Rattle.subnet_model.specs.declared.subnet_port.SubnetPort.{SubnetPort};
-ghost use Rattle.sa_groups.specs.Joining.{may_create};
-ghost use Rattle.sa_queries.specs.Refusals.{first_refusal};
+ghost use Rattle.sa_model.specs.Joining.{may_create};
+ghost use Rattle.sa_model.specs.Refusals.{first_refusal};
 ghost use Rattle.pkey_rules.specs.PKey.{base_of};
 ghost use Rattle.sa_replies.specs.Joins.{agrees_with, founding_by, is_join_state, is_multicast, join_asked, join_questions};
 ghost use Rattle.sa_replies.specs.Joins.{leave_asked, leaving_by};

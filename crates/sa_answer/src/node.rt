@@ -2,9 +2,9 @@
 
 ghost use Rattle.std.specs.Prelude.{◌≡◌, ◌<◌, filter, IfOk, Some};
 ghost use Rattle.std.specs.List.{flat_map};
-ghost use Rattle.sa_queries.specs.Visible.{may_know};
+ghost use Rattle.sa_model.specs.Visible.{may_know};
 ghost use Rattle.subnet_model.specs.declared.subnet_port.SubnetPort.{SubnetPort as Port};
-ghost use Rattle.sa_queries.specs.Selected.{Query};
+ghost use Rattle.sa_model.specs.Selected.{Query};
 ghost use Rattle.sa_replies.specs.Answer.{get_outcome, table_outcome};
 ghost use Rattle.sa_answer.specs.Answering.{Brings};
 ghost use Rattle.sa_answer.specs.Asked.{is_reported, node_reported};

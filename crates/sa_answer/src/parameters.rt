@@ -4,7 +4,7 @@ ghost use Rattle.std.specs.Prelude.{◌≡◌, ◌/◌, ◌%◌, ◌^◌, not, �
 ghost use Rattle.sa_records.specs.Component.{satisfies};
 ghost use Rattle.sa_records.specs.McMemberMask as member_mask;
 ghost use Rattle.sa_records.specs.Speed.{rate_satisfies};
-ghost use Rattle.sa_queries.specs.Selected.{asks};
+ghost use Rattle.sa_model.specs.Selected.{asks};
 ghost use Rattle.sa_replies.specs.Joins.{life_taken, mtu_taken, parameters_asked, rate_taken};
 ghost use Rattle.sa_store.specs.MlidRange.{parameters_of};
 

@@ -1,8 +1,8 @@
 //! Why a request is refused: questions that are asked of it in turn.
 
 ghost use Rattle.std.specs.Prelude.{◌≡◌, ◌==◌};
-ghost use Rattle.sa_queries.specs.Refusals.{asks_unknown_mtu, asks_unknown_rate, first_refusal, is_mtu_code, is_rate_code, refused_if};
-ghost use Rattle.sa_queries.specs.Selected.{asks};
+ghost use Rattle.sa_model.specs.Refusals.{asks_unknown_mtu, asks_unknown_rate, first_refusal, is_mtu_code, is_rate_code, refused_if};
+ghost use Rattle.sa_model.specs.Selected.{asks};
 
 use attr_tables::{Mtu, Rate};
 use mad_layout::MadStatus;
@@ -16,7 +16,7 @@ pub(crate) struct Question {
 }
 
 impl Model for Question {
-    ghost use Rattle.sa_queries.specs.Refusals.{Question};
+    ghost use Rattle.sa_model.specs.Refusals.{Question};
 
     ghost Value = { Question };
 

@@ -2,7 +2,7 @@
 
 ghost use Rattle.std.specs.Prelude.{◌≡◌, true, false, length, IfOk, IsErr};
 ghost use Rattle.subnet_model.specs.Configured.{IsConfigured};
-ghost use Rattle.sa_groups.specs.Receivers.{receivers_of};
+ghost use Rattle.sa_model.specs.Receivers.{receivers_of};
 ghost use Rattle.sa_replies.specs.State.{IsRememberedOf, at_start};
 ghost use Rattle.sa_store.specs.NodePorts.{configured};
 

@@ -1,9 +1,9 @@
 //! What a walk over records takes: the only one of them, or all.
 
 ghost use Rattle.std.specs.Prelude.{◌≡◌, ◌≤◌, [], ◌∷◌, length, List, None, IfOk};
-ghost use Rattle.sa_queries.specs.Outcome.{the_only_one};
-ghost use Rattle.sa_queries.specs.Shown.{Entry};
-ghost use Rattle.sa_queries.specs.Visible.{SaState};
+ghost use Rattle.sa_model.specs.Outcome.{the_only_one};
+ghost use Rattle.sa_model.specs.Shown.{Entry};
+ghost use Rattle.sa_model.specs.Visible.{SaState};
 ghost use Rattle.sa_replies.specs.Answer.{one_record};
 ghost use Rattle.sa_replies.specs.Success.{Success as Brought};
 ghost use Rattle.std.specs.Prelude.{Ok};

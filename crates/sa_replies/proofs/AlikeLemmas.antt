@@ -18,37 +18,37 @@ use Rattle.sa_records.specs.declared.sa_attribute.SaAttribute.TheVariants as sa_
 use Rattle.subnet_model.specs.declared.subnet_port.SubnetPort.{SubnetPort}
 use Rattle.subnet_model.specs.Delivery.{port_with_guid}
 use Rattle.subnet_model.specs.Near.{is_near, ports_share}
-use Rattle.sa_groups.specs.JoinState.{is_joined}
-use Rattle.sa_groups.specs.Members.{is_in, is_member}
-use Rattle.sa_groups.specs.Groups.{Membership, MulticastGroup, PartitionGroups}
-use Rattle.sa_groups.specs.Anchor.{free_mlid}
-use Rattle.sa_groups.specs.Joining.{has_mgid, is_of, joined}
-use Rattle.sa_groups.specs.Leaving.{Leave, is_left}
-use Rattle.sa_groups.specs.Sound.{is_sound_membership, is_sound_group, is_sound_partition, is_sound}
-use Rattle.sa_groups.specs.Sight.{group_seen, partition_seen, seen, Alike}
-use Rattle.sa_groups.proofs.SoundLemmas.{sound_parts, partition_parts}
+use Rattle.sa_model.specs.JoinState.{is_joined}
+use Rattle.sa_model.specs.Members.{is_in, is_member}
+use Rattle.sa_model.specs.Groups.{Membership, MulticastGroup, PartitionGroups}
+use Rattle.sa_model.specs.Anchor.{free_mlid}
+use Rattle.sa_model.specs.Joining.{has_mgid, is_of, joined}
+use Rattle.sa_model.specs.Leaving.{Leave, is_left}
+use Rattle.sa_model.specs.Sound.{is_sound_membership, is_sound_group, is_sound_partition, is_sound}
+use Rattle.sa_model.specs.Sight.{group_seen, partition_seen, seen, Alike}
+use Rattle.sa_model.proofs.SoundLemmas.{sound_parts, partition_parts}
 use Rattle.step_results.proofs.FilterLemmas.{any_within, any_map_same}
-use Rattle.sa_groups.proofs.SightLemmas.{near_leave}
-use Rattle.sa_groups.proofs.JoinSightLemmas.{free_seen, near_join}
-use Rattle.sa_services.specs.Services.{PortServices}
-use Rattle.sa_services.specs.ServiceChange.{Deed, ServiceChange, is_place}
-use Rattle.sa_services.specs.ServiceLaws.{ServiceSight}
-use Rattle.sa_services.specs.ServiceSight.{services_seen}
-use Rattle.sa_services.proofs.ServiceLemmas.{KeepsShown, PlaceRule, kept_by, near_keeps_shown, near_place, of_place, shown_keeps_shown, shown_place, stays_alike}
-use Rattle.sa_services.proofs.DeedLemmas.{filter_within}
-use Rattle.sa_queries.specs.Visible.{SaState}
-use Rattle.sa_queries.specs.Shown.{Entry, group_record_of}
-use Rattle.sa_queries.specs.Selected.{Query}
-use Rattle.sa_queries.specs.Refusals.{Question, first_refusal}
-use Rattle.sa_queries.specs.Outcome.{unless_status, got, table}
-use Rattle.sa_queries.specs.Laws.{SeesSame}
-use Rattle.sa_queries.proofs.NearLemmas.{member_if_in}
-use Rattle.sa_queries.proofs.QueryLemmas.{queries_end_alike}
+use Rattle.sa_model.proofs.SightLemmas.{near_leave}
+use Rattle.sa_model.proofs.JoinSightLemmas.{free_seen, near_join}
+use Rattle.sa_model.specs.Services.{PortServices}
+use Rattle.sa_model.specs.ServiceChange.{Deed, ServiceChange, is_place}
+use Rattle.sa_model.specs.ServiceLaws.{ServiceSight}
+use Rattle.sa_model.specs.ServiceSight.{services_seen}
+use Rattle.sa_model.proofs.ServiceLemmas.{KeepsShown, PlaceRule, kept_by, near_keeps_shown, near_place, of_place, shown_keeps_shown, shown_place, stays_alike}
+use Rattle.sa_model.proofs.DeedLemmas.{filter_within}
+use Rattle.sa_model.specs.Visible.{SaState}
+use Rattle.sa_model.specs.Shown.{Entry, group_record_of}
+use Rattle.sa_model.specs.Selected.{Query}
+use Rattle.sa_model.specs.Refusals.{Question, first_refusal}
+use Rattle.sa_model.specs.Outcome.{unless_status, got, table}
+use Rattle.sa_model.specs.QueryLaws.{SeesSame}
+use Rattle.sa_model.proofs.NearLemmas.{member_if_in}
+use Rattle.sa_model.proofs.QueryLemmas.{queries_end_alike}
 use Rattle.mad_layout.specs.declared.status.MadStatus.TheVariants.{NoRecords, NoResources}
 use Rattle.rmpp_core.specs.Segments.{opened, segment_mad}
-use Rattle.sa_services.specs.ServiceChange.{has_id, has_room}
-use Rattle.sa_queries.specs.Gid.{gid_of}
-use Rattle.sa_queries.specs.Refusals.{refused_if}
+use Rattle.sa_model.specs.ServiceChange.{has_id, has_room}
+use Rattle.sa_model.specs.Gid.{gid_of}
+use Rattle.sa_model.specs.Refusals.{refused_if}
 use Rattle.sa_replies.specs.Request.{Request, request_in, is_response, has_versions, is_about}
 use Rattle.sa_records.specs.ServiceRecord.{service_in}
 use Rattle.sa_replies.specs.Reply.{reply, refusal_reply, table_header}

@@ -13,15 +13,15 @@ use Rattle.sa_records.specs.declared.mc_member_record.McMemberRecord.{McMemberRe
 use Rattle.sa_records.specs.declared.service_record.ServiceRecord.{ServiceRecord}
 use Rattle.sa_records.specs.declared.sa_attribute.SaAttribute.TheVariants as sa_attribute
 use Rattle.subnet_model.specs.declared.subnet_port.SubnetPort.{SubnetPort}
-use Rattle.sa_groups.specs.Joining.{Join, joined}
-use Rattle.sa_groups.specs.Leaving.{Leave, left}
-use Rattle.sa_services.specs.Services.{Service}
-use Rattle.sa_services.specs.ServiceChange.{Deed, ServiceChange, has_id, has_room, services_changed}
-use Rattle.sa_queries.specs.Visible.{SaState}
-use Rattle.sa_queries.specs.Shown.{Entry}
-use Rattle.sa_queries.specs.Selected.{Query}
-use Rattle.sa_queries.specs.Refusals.{refused_if, first_refusal}
-use Rattle.sa_queries.specs.Outcome.{unless_status, got, table}
+use Rattle.sa_model.specs.Joining.{Join, joined}
+use Rattle.sa_model.specs.Leaving.{Leave, left}
+use Rattle.sa_model.specs.Services.{Service}
+use Rattle.sa_model.specs.ServiceChange.{Deed, ServiceChange, has_id, has_room, services_changed}
+use Rattle.sa_model.specs.Visible.{SaState}
+use Rattle.sa_model.specs.Shown.{Entry}
+use Rattle.sa_model.specs.Selected.{Query}
+use Rattle.sa_model.specs.Refusals.{refused_if, first_refusal}
+use Rattle.sa_model.specs.Outcome.{unless_status, got, table}
 use Rattle.sa_replies.specs.Request.{Request, request_in, is_response, has_versions, is_about}
 use Rattle.sa_records.specs.McMemberRecord.{group_in}
 use Rattle.sa_records.specs.ServiceRecord.{service_in}

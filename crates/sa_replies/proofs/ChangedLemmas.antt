@@ -8,14 +8,14 @@ use Rattle.mad_layout.specs.declared.status.MadStatus.{MadStatus}
 use Rattle.mad_layout.specs.declared.status.MadStatus.TheVariants.{AttributeNotSupported, MethodNotSupported, NoRecords, NoResources}
 use Rattle.sa_records.specs.declared.sa_attribute.SaAttribute.TheVariants as sa_attribute
 use Rattle.subnet_model.specs.declared.subnet_port.SubnetPort.{SubnetPort}
-use Rattle.sa_groups.specs.Groups.{PartitionGroups}
-use Rattle.sa_groups.specs.Receivers.{changed_numbers}
-use Rattle.sa_groups.proofs.ReceiverLemmas.{nothing_changes_alone}
+use Rattle.sa_model.specs.Groups.{PartitionGroups}
+use Rattle.sa_model.specs.Receivers.{changed_numbers}
+use Rattle.sa_model.proofs.ReceiverLemmas.{nothing_changes_alone}
 use Rattle.sa_records.specs.declared.service_record.ServiceRecord.{ServiceRecord}
 use Rattle.sa_records.specs.ServiceRecord.{service_in}
-use Rattle.sa_services.specs.ServiceChange.{Deed, has_id, has_room}
-use Rattle.sa_queries.specs.Refusals.{first_refusal, refused_if}
-use Rattle.sa_queries.specs.Visible.{SaState}
+use Rattle.sa_model.specs.ServiceChange.{Deed, has_id, has_room}
+use Rattle.sa_model.specs.Refusals.{first_refusal, refused_if}
+use Rattle.sa_model.specs.Visible.{SaState}
 use Rattle.sa_replies.specs.Answer.{Administration, answer, delete_or_refused, get_outcome, outcome, query_of, set_or_refused, table_outcome, answered_with}
 use Rattle.sa_replies.specs.Changed.{OthersChangeNoReceivers, RefusedChangeNoReceivers, joins_or_leaves}
 use Rattle.sa_replies.specs.Laws.{is_of_transfer}

@@ -7,10 +7,10 @@ use Rattle.sa_records.specs.NodeRecord.{node_record_selected}
 use Rattle.sa_records.specs.PathRecord.{path_record_selected}
 use Rattle.sa_records.specs.ServiceRecord.{service_record_selected}
 use Rattle.subnet_model.specs.declared.subnet_port.SubnetPort.{SubnetPort}
-use Rattle.sa_queries.proofs.SourceLemmas.{all_filtered, all_mapped}
-use Rattle.sa_queries.specs.Selected.{Query, at_most, few_paths, paths_selected, selected}
-use Rattle.sa_queries.specs.Shown.{Entry, group_entry, group_record_of, node_entry, node_record_of, path_entry, path_record_of, service_entry, service_record_of}
-use Rattle.sa_queries.specs.Visible.{SaState, paths_to, visible_groups, visible_nodes, visible_services}
+use Rattle.sa_model.proofs.SourceLemmas.{all_filtered, all_mapped}
+use Rattle.sa_model.specs.Selected.{Query, at_most, few_paths, paths_selected, selected}
+use Rattle.sa_model.specs.Shown.{Entry, group_entry, group_record_of, node_entry, node_record_of, path_entry, path_record_of, service_entry, service_record_of}
+use Rattle.sa_model.specs.Visible.{SaState, paths_to, visible_groups, visible_nodes, visible_services}
 use Rattle.sa_replies.specs.NamedNotes.{AreFit, IsFit, VisibleFits}
 
 -- ---- of each element of a part

@@ -6,16 +6,16 @@ use Rattle.std.proofs.lemmas.Bool.Decides.{nat_tests}
 use Rattle.std.proofs.lemmas.List.Folds.{list_all-append, list_any-append}
 use Rattle.step_results.proofs.ListLemmas.{found_passes}
 use Rattle.pkey_rules.specs.PKey.{base_of}
-use Rattle.sa_groups.proofs.JoinSoundLemmas.{all_with_group, joined_mgid}
-use Rattle.sa_groups.proofs.InPlaceLemmas.{higher_ones, lower_ones, none_lower}
-use Rattle.sa_groups.proofs.ListLemmas.{any_map}
-use Rattle.sa_groups.specs.Anchor.{free_mlid}
-use Rattle.sa_groups.specs.Groups.{Membership, MulticastGroup, PartitionGroups}
-use Rattle.sa_groups.specs.Joining.{Join, has_mgid, in_place, is_of, joined, joined_group, joined_groups, may_create, may_join, more_joined, new_group, new_membership, with_created, with_group, with_member}
-use Rattle.sa_groups.specs.JoinState.{JoinState, is_joined, with_bits}
-use Rattle.sa_groups.specs.Members.{is_member}
-use Rattle.sa_queries.proofs.NearLemmas.{member_if_in}
-use Rattle.sa_queries.specs.Refusals.{first_refusal}
+use Rattle.sa_model.proofs.JoinSoundLemmas.{all_with_group, joined_mgid}
+use Rattle.sa_model.proofs.InPlaceLemmas.{higher_ones, lower_ones, none_lower}
+use Rattle.sa_model.proofs.ListLemmas.{any_map}
+use Rattle.sa_model.specs.Anchor.{free_mlid}
+use Rattle.sa_model.specs.Groups.{Membership, MulticastGroup, PartitionGroups}
+use Rattle.sa_model.specs.Joining.{Join, has_mgid, in_place, is_of, joined, joined_group, joined_groups, may_create, may_join, more_joined, new_group, new_membership, with_created, with_group, with_member}
+use Rattle.sa_model.specs.JoinState.{JoinState, is_joined, with_bits}
+use Rattle.sa_model.specs.Members.{is_member}
+use Rattle.sa_model.proofs.NearLemmas.{member_if_in}
+use Rattle.sa_model.specs.Refusals.{first_refusal}
 use Rattle.sa_records.specs.declared.mc_member_record.McMemberRecord.{McMemberRecord}
 use Rattle.subnet_model.proofs.IsolationLemmas.{found_in}
 use Rattle.subnet_model.specs.declared.subnet_port.SubnetPort.{SubnetPort}

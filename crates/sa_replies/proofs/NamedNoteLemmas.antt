@@ -11,14 +11,14 @@ use Rattle.pkey_rules.specs.PKey.{base_of}
 use Rattle.sa_records.specs.McMemberRecord.{group_in}
 use Rattle.sa_records.specs.SaAttribute.{sa_attribute_code}
 use Rattle.sa_records.specs.declared.sa_attribute.SaAttribute.TheVariants as sa_attribute
-use Rattle.sa_groups.specs.Groups.{Creator, MulticastGroup}
+use Rattle.sa_model.specs.Groups.{Creator, MulticastGroup}
 use Rattle.subnet_model.specs.declared.subnet_port.SubnetPort.{SubnetPort}
-use Rattle.sa_queries.proofs.SourceLemmas.{all_mapped, selected_say_their_source}
-use Rattle.sa_queries.specs.Outcome.{the_only_one, unless_status}
-use Rattle.sa_queries.specs.Refusals.{refusal}
-use Rattle.sa_queries.specs.Selected.{Query, paths_wanted, selected}
-use Rattle.sa_queries.specs.Shown.{Entry}
-use Rattle.sa_queries.specs.Visible.{SaState}
+use Rattle.sa_model.proofs.SourceLemmas.{all_mapped, selected_say_their_source}
+use Rattle.sa_model.specs.Outcome.{the_only_one, unless_status}
+use Rattle.sa_model.specs.Refusals.{refusal}
+use Rattle.sa_model.specs.Selected.{Query, paths_wanted, selected}
+use Rattle.sa_model.specs.Shown.{Entry}
+use Rattle.sa_model.specs.Visible.{SaState}
 use Rattle.sa_replies.specs.Answer.{Administration, Answered, after_rmpp, answer, answered_with, outcome, query_of, version_refused}
 use Rattle.sa_replies.specs.Changed.{asks_for_group}
 use Rattle.sa_replies.specs.Joins.{group_named}

@@ -23,14 +23,14 @@ use Rattle.rmpp_core.specs.Segments.{Transfer, opened, segment_count}
 use Rattle.subnet_model.specs.Delivery.{port_with_guid}
 use Rattle.subnet_model.specs.Near.{is_near, ports_share}
 use Rattle.subnet_model.specs.declared.subnet_port.SubnetPort.{SubnetPort}
-use Rattle.sa_groups.specs.Groups.{Creator}
-use Rattle.sa_groups.specs.Sound.{is_sound}
-use Rattle.sa_queries.proofs.QueryLemmas.{answers_from_near}
-use Rattle.sa_queries.specs.Laws.{come_from_near, is_source_near}
-use Rattle.sa_queries.specs.Outcome.{got, table}
-use Rattle.sa_queries.specs.Selected.{Query}
-use Rattle.sa_queries.specs.Shown.{Entry}
-use Rattle.sa_queries.specs.Visible.{SaState}
+use Rattle.sa_model.specs.Groups.{Creator}
+use Rattle.sa_model.specs.Sound.{is_sound}
+use Rattle.sa_model.proofs.QueryLemmas.{answers_from_near}
+use Rattle.sa_model.specs.QueryLaws.{come_from_near, is_source_near}
+use Rattle.sa_model.specs.Outcome.{got, table}
+use Rattle.sa_model.specs.Selected.{Query}
+use Rattle.sa_model.specs.Shown.{Entry}
+use Rattle.sa_model.specs.Visible.{SaState}
 use Rattle.sa_replies.specs.Request.{Request, request_in, is_response, has_versions}
 use Rattle.sa_records.specs.McMemberRecord.{group_in}
 use Rattle.sa_replies.specs.Reply.{table_header}

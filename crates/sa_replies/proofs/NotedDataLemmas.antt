@@ -35,17 +35,17 @@ use Rattle.rmpp_core.specs.Segments.{Transfer, opened, payload_size, segment_cou
 use Rattle.rmpp_core.specs.declared.abort.AbortCause.{AbortCause}
 use Rattle.rmpp_core.specs.declared.abort.AbortCause.TheVariants.{WindowTooSmall, SegmentTooBig}
 use Rattle.rmpp_core.specs.declared.sender.Acknowledged.{Acknowledged}
-use Rattle.sa_queries.proofs.SourceLemmas.{all_mapped}
+use Rattle.sa_model.proofs.SourceLemmas.{all_mapped}
 use Rattle.sa_records.specs.declared.mc_member_record.McMemberRecord.{McMemberRecord}
 use Rattle.sa_records.specs.declared.service_record.ServiceRecord.{ServiceRecord}
 use Rattle.subnet_model.specs.declared.subnet_port.SubnetPort.{SubnetPort}
-use Rattle.sa_groups.specs.Groups.{Creator, MulticastGroup}
-use Rattle.sa_queries.specs.Outcome.{got, table}
-use Rattle.sa_queries.specs.Refusals.{first_refusal, refused_if}
-use Rattle.sa_queries.specs.Selected.{Query}
-use Rattle.sa_queries.specs.Shown.{Entry}
-use Rattle.sa_queries.specs.Visible.{SaState}
-use Rattle.sa_services.specs.ServiceChange.{Deed, has_id, has_room}
+use Rattle.sa_model.specs.Groups.{Creator, MulticastGroup}
+use Rattle.sa_model.specs.Outcome.{got, table}
+use Rattle.sa_model.specs.Refusals.{first_refusal, refused_if}
+use Rattle.sa_model.specs.Selected.{Query}
+use Rattle.sa_model.specs.Shown.{Entry}
+use Rattle.sa_model.specs.Visible.{SaState}
+use Rattle.sa_model.specs.ServiceChange.{Deed, has_id, has_room}
 use Rattle.sa_replies.specs.Answer.{Administration, Answered, after_rmpp, all_records, answer, delete_or_refused, get_outcome, one_record, outcome, query_of, set_or_refused, table_outcome, answered_with, version_refused}
 use Rattle.sa_records.specs.SaRecord.{record_bytes}
 use Rattle.sa_replies.specs.Joins.{after_join, group_named, join_asked, join_outcome, join_questions, join_refusal, leave_outcome, leave_questions, member_bytes}

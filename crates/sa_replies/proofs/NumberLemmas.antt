@@ -8,7 +8,7 @@ use Rattle.mad_layout.specs.Layout.{Field, Fits, at, is_apart, is_free, is_layou
 use Rattle.mad_layout.proofs.LayoutLemmas.{apart_parts, field-put_apart, field-put_same, field_narrow, field_zeros, first_of_layout, length-put_field, stays}
 use Rattle.sa_records.specs.Asked.{Asked}
 use Rattle.sa_records.specs.ServiceRecord.{service_data_asked}
-use Rattle.sa_queries.specs.Selected.{asks}
+use Rattle.sa_model.specs.Selected.{asks}
 use Rattle.sa_replies.specs.Numbers.{IsAsAsked, NumbersAreAsAsked}
 use Rattle.sa_records.specs.ServiceRecord.{numbers_asked}
 use Rattle.sa_replies.proofs.StateLemmas.{numbers_long}

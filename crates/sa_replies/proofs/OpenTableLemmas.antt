@@ -7,8 +7,8 @@ use Rattle.std.proofs.lemmas.Bool.{and_from, and_parts, cases_Bool, eqb-true, le
 use Rattle.step_results.proofs.ListLemmas.{list_all_weaker}
 use Rattle.pkey_rules.specs.KeyTable.{accepts}
 use Rattle.pkey_rules.specs.PKey.{base_of}
-use Rattle.sa_queries.proofs.SourceLemmas.{all_filtered}
-use Rattle.sa_groups.specs.Members.{is_in}
+use Rattle.sa_model.proofs.SourceLemmas.{all_filtered}
+use Rattle.sa_model.specs.Members.{is_in}
 use Rattle.sa_records.specs.declared.node_record.NodeRecord.{NodeRecord}
 use Rattle.sa_records.specs.declared.path_record.PathRecord.{PathRecord}
 use Rattle.sa_records.specs.declared.mc_member_record.McMemberRecord.{McMemberRecord}
@@ -39,20 +39,20 @@ use Rattle.subnet_model.specs.Configuration.{ConfigurationState}
 use Rattle.subnet_model.specs.Configured.{HoldsKnownKeys, IsConfigured}
 use Rattle.subnet_model.specs.Delivery.{port_with_guid}
 use Rattle.subnet_model.specs.declared.subnet_port.SubnetPort.{SubnetPort}
-use Rattle.sa_groups.specs.Changes.{partition_of}
-use Rattle.sa_groups.specs.Groups.{MulticastGroup, PartitionGroups, first_mlid, start_from, start_of}
-use Rattle.sa_groups.specs.Sound.{is_sound, is_sound_group, is_sound_partition, lower_mlid, pairwise}
-use Rattle.sa_groups.proofs.SoundLemmas.{partition_parts, sound_parts}
-use Rattle.sa_services.specs.KeyOrder.{by_base, with_key}
-use Rattle.sa_services.specs.ServiceChange.{lower_id, most_services, port_and_base}
-use Rattle.sa_services.specs.Services.{PortServices, Service, no_services, none_of_port}
-use Rattle.sa_services.specs.ServiceSight.{is_shown, services_seen}
-use Rattle.sa_services.specs.ServiceSound.{are_sound_services, holds_base, is_sound_place}
-use Rattle.sa_queries.specs.Outcome.{unless_status}
-use Rattle.sa_queries.specs.Refusals.{refusal}
-use Rattle.sa_queries.specs.Selected.{Query, at_most, few_paths, groups_selected, nodes_selected, paths_selected, paths_wanted, selected, services_selected}
-use Rattle.sa_queries.specs.Shown.{Entry, node_entry, path_entry, group_entry, group_record_of, node_record_of, path_record_of, service_entry, service_record_of}
-use Rattle.sa_queries.specs.Visible.{GroupOfBase, Path, SaState, ServiceOfPort, groups_of, keys_to, may_know, paths_to, paths_under, services_of, visible_groups, visible_nodes, visible_services}
+use Rattle.sa_model.specs.Changes.{partition_of}
+use Rattle.sa_model.specs.Groups.{MulticastGroup, PartitionGroups, first_mlid, start_from, start_of}
+use Rattle.sa_model.specs.Sound.{is_sound, is_sound_group, is_sound_partition, lower_mlid, pairwise}
+use Rattle.sa_model.proofs.SoundLemmas.{partition_parts, sound_parts}
+use Rattle.sa_model.specs.KeyOrder.{by_base, with_key}
+use Rattle.sa_model.specs.ServiceChange.{lower_id, most_services, port_and_base}
+use Rattle.sa_model.specs.Services.{PortServices, Service, no_services, none_of_port}
+use Rattle.sa_model.specs.ServiceSight.{is_shown, services_seen}
+use Rattle.sa_model.specs.ServiceSound.{are_sound_services, holds_base, is_sound_place}
+use Rattle.sa_model.specs.Outcome.{unless_status}
+use Rattle.sa_model.specs.Refusals.{refusal}
+use Rattle.sa_model.specs.Selected.{Query, at_most, few_paths, groups_selected, nodes_selected, paths_selected, paths_wanted, selected, services_selected}
+use Rattle.sa_model.specs.Shown.{Entry, node_entry, path_entry, group_entry, group_record_of, node_record_of, path_record_of, service_entry, service_record_of}
+use Rattle.sa_model.specs.Visible.{GroupOfBase, Path, SaState, ServiceOfPort, groups_of, keys_to, may_know, paths_to, paths_under, services_of, visible_groups, visible_nodes, visible_services}
 use Rattle.sa_replies.specs.Answer.{Administration, after_rmpp, all_records, answer, answer_to, get_outcome, offset_of, outcome, query_of, set_or_refused, delete_or_refused, table_outcome, answered_with, version_refused}
 use Rattle.sa_records.specs.SaRecord.{record_bytes}
 use Rattle.sa_replies.specs.Reply.{table_header}

@@ -15,28 +15,28 @@ use Rattle.sa_records.specs.declared.sa_attribute.SaAttribute.TheVariants as sa_
 use Rattle.subnet_model.specs.declared.subnet_port.SubnetPort.{SubnetPort}
 use Rattle.subnet_model.specs.Delivery.{port_with_guid}
 use Rattle.subnet_model.specs.Near.{is_near}
-use Rattle.sa_groups.specs.JoinState.{JoinState, is_joined, without_bits}
-use Rattle.sa_groups.specs.Members.{is_member}
-use Rattle.sa_groups.specs.Groups.{Membership, MulticastGroup, PartitionGroups}
-use Rattle.sa_groups.specs.Anchor.{is_kept}
-use Rattle.sa_groups.specs.Joining.{Join, joined, joined_in, may_join}
-use Rattle.sa_groups.specs.Leaving.{Leave, is_left, less_joined, without_member, left_group, left}
-use Rattle.sa_groups.specs.Sound.{is_sound_membership, is_sound_group, is_sound_partition, is_sound}
-use Rattle.sa_groups.specs.Sight.{partition_seen, seen, Alike}
-use Rattle.sa_groups.proofs.SoundLemmas.{sound_parts, partition_parts}
+use Rattle.sa_model.specs.JoinState.{JoinState, is_joined, without_bits}
+use Rattle.sa_model.specs.Members.{is_member}
+use Rattle.sa_model.specs.Groups.{Membership, MulticastGroup, PartitionGroups}
+use Rattle.sa_model.specs.Anchor.{is_kept}
+use Rattle.sa_model.specs.Joining.{Join, joined, joined_in, may_join}
+use Rattle.sa_model.specs.Leaving.{Leave, is_left, less_joined, without_member, left_group, left}
+use Rattle.sa_model.specs.Sound.{is_sound_membership, is_sound_group, is_sound_partition, is_sound}
+use Rattle.sa_model.specs.Sight.{partition_seen, seen, Alike}
+use Rattle.sa_model.proofs.SoundLemmas.{sound_parts, partition_parts}
 use Rattle.step_results.proofs.FilterLemmas.{filter_map_idle}
-use Rattle.sa_groups.proofs.SightLemmas.{seen_absorbs, near_leave}
-use Rattle.sa_groups.proofs.JoinSightLemmas.{near_join, far_join}
-use Rattle.sa_services.specs.Services.{Service}
-use Rattle.sa_services.specs.ServiceChange.{Deed, ServiceChange, has_id, has_room}
-use Rattle.sa_services.specs.ServiceLaws.{ServiceSight}
-use Rattle.sa_services.proofs.ServiceLemmas.{KeepsShown, PlaceRule, kept_by, near_keeps_shown, near_place, shown_keeps_shown, shown_place, stays_alike, unkept_change}
-use Rattle.sa_queries.specs.Visible.{SaState}
-use Rattle.sa_queries.specs.Shown.{Entry}
-use Rattle.sa_queries.specs.Selected.{Query}
-use Rattle.sa_queries.specs.Refusals.{refused_if, first_refusal}
-use Rattle.sa_queries.specs.Outcome.{unless_status, got, table}
-use Rattle.sa_queries.specs.Laws.{SeesSame}
+use Rattle.sa_model.proofs.SightLemmas.{seen_absorbs, near_leave}
+use Rattle.sa_model.proofs.JoinSightLemmas.{near_join, far_join}
+use Rattle.sa_model.specs.Services.{Service}
+use Rattle.sa_model.specs.ServiceChange.{Deed, ServiceChange, has_id, has_room}
+use Rattle.sa_model.specs.ServiceLaws.{ServiceSight}
+use Rattle.sa_model.proofs.ServiceLemmas.{KeepsShown, PlaceRule, kept_by, near_keeps_shown, near_place, shown_keeps_shown, shown_place, stays_alike, unkept_change}
+use Rattle.sa_model.specs.Visible.{SaState}
+use Rattle.sa_model.specs.Shown.{Entry}
+use Rattle.sa_model.specs.Selected.{Query}
+use Rattle.sa_model.specs.Refusals.{refused_if, first_refusal}
+use Rattle.sa_model.specs.Outcome.{unless_status, got, table}
+use Rattle.sa_model.specs.QueryLaws.{SeesSame}
 use Rattle.sa_replies.specs.Request.{Request, request_in, is_response, has_versions, is_about}
 use Rattle.sa_records.specs.McMemberRecord.{group_in}
 use Rattle.sa_records.specs.ServiceRecord.{service_in}

@@ -8,17 +8,17 @@ use Rattle.std.proofs.lemmas.Option.{same_Some}
 use Rattle.mad_layout.specs.declared.status.MadStatus.{MadStatus}
 use Rattle.mad_layout.specs.declared.status.MadStatus.TheVariants.{NoResources}
 use Rattle.pkey_rules.specs.PKey.{base_of}
-use Rattle.sa_groups.proofs.JoinSoundLemmas.{joined_sound}
-use Rattle.sa_groups.specs.Groups.{MulticastGroup, PartitionGroups}
-use Rattle.sa_groups.specs.Joining.{has_mgid}
-use Rattle.sa_queries.proofs.NearLemmas.{visible_from_near}
-use Rattle.sa_queries.specs.Laws.{is_source_near}
-use Rattle.sa_queries.specs.Outcome.{unless_status}
-use Rattle.sa_queries.specs.Refusals.{first_refusal, refused_if}
-use Rattle.sa_queries.specs.Shown.{Entry, group_entry}
-use Rattle.sa_queries.specs.Visible.{GroupOfBase, SaState, groups_of, visible_groups}
-use Rattle.sa_services.specs.ServiceChange.{Deed, has_room}
-use Rattle.sa_groups.specs.Members.{is_in}
+use Rattle.sa_model.proofs.JoinSoundLemmas.{joined_sound}
+use Rattle.sa_model.specs.Groups.{MulticastGroup, PartitionGroups}
+use Rattle.sa_model.specs.Joining.{has_mgid}
+use Rattle.sa_model.proofs.NearLemmas.{visible_from_near}
+use Rattle.sa_model.specs.QueryLaws.{is_source_near}
+use Rattle.sa_model.specs.Outcome.{unless_status}
+use Rattle.sa_model.specs.Refusals.{first_refusal, refused_if}
+use Rattle.sa_model.specs.Shown.{Entry, group_entry}
+use Rattle.sa_model.specs.Visible.{GroupOfBase, SaState, groups_of, visible_groups}
+use Rattle.sa_model.specs.ServiceChange.{Deed, has_room}
+use Rattle.sa_model.specs.Members.{is_in}
 use Rattle.subnet_model.specs.Near.{ports_share}
 use Rattle.subnet_model.specs.declared.subnet_port.SubnetPort.{SubnetPort}
 use Rattle.sa_replies.proofs.AlikeLemmas.{groups_in, join_is_in}

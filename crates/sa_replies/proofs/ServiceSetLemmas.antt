@@ -11,13 +11,13 @@ use Rattle.mad_layout.specs.declared.status.MadStatus.{MadStatus}
 use Rattle.mad_layout.specs.declared.status.MadStatus.TheVariants.{AttributeNotSupported, NoResources, NoRecords}
 use Rattle.sa_records.specs.declared.sa_attribute.SaAttribute.TheVariants as sa_attribute
 use Rattle.subnet_model.specs.declared.subnet_port.SubnetPort.{SubnetPort}
-use Rattle.sa_services.specs.Services.{PortServices}
-use Rattle.sa_services.specs.ServiceChange.{Deed, has_id, has_room}
-use Rattle.sa_services.specs.ServiceLaws.{is_of}
-use Rattle.sa_services.proofs.DeedLemmas.{set_services_are_there, deleted_services_are_gone}
-use Rattle.sa_queries.specs.Outcome.{unless_status}
-use Rattle.sa_queries.specs.Refusals.{refused_if, first_refusal}
-use Rattle.sa_queries.specs.Visible.{SaState}
+use Rattle.sa_model.specs.Services.{PortServices}
+use Rattle.sa_model.specs.ServiceChange.{Deed, has_id, has_room}
+use Rattle.sa_model.specs.ServiceLaws.{is_of}
+use Rattle.sa_model.proofs.DeedLemmas.{set_services_are_there, deleted_services_are_gone}
+use Rattle.sa_model.specs.Outcome.{unless_status}
+use Rattle.sa_model.specs.Refusals.{refused_if, first_refusal}
+use Rattle.sa_model.specs.Visible.{SaState}
 use Rattle.sa_replies.specs.Answer.{Administration, outcome, answered_with}
 use Rattle.sa_replies.specs.Joins.{join_outcome, leave_outcome}
 use Rattle.sa_replies.specs.Laws.{asks_by, are_refusals, base_wanted, IsServiceSet, IsServiceDeleted, ServicesSetAreThere, ServicesDeletedAreGone}

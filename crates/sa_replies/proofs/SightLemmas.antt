@@ -6,13 +6,13 @@ use Rattle.mad_layout.specs.Bits.{field}
 use Rattle.rmpp_core.specs.Segments.{Transfer}
 use Rattle.subnet_model.specs.declared.subnet_port.SubnetPort.{SubnetPort}
 use Rattle.subnet_model.specs.Near.{is_near, ports_share}
-use Rattle.sa_groups.proofs.JoinSoundLemmas.{joined_sound}
-use Rattle.sa_groups.proofs.LeaveSoundLemmas.{left_sound}
-use Rattle.sa_groups.proofs.JoinSightLemmas.{far_join}
-use Rattle.sa_groups.proofs.SightLemmas.{far_leave}
-use Rattle.sa_services.specs.ServiceSight.{services_near}
-use Rattle.sa_services.proofs.ServiceLemmas.{far_not_near}
-use Rattle.sa_services.proofs.ServiceSoundLemmas.{services_stay_sound}
+use Rattle.sa_model.proofs.JoinSoundLemmas.{joined_sound}
+use Rattle.sa_model.proofs.LeaveSoundLemmas.{left_sound}
+use Rattle.sa_model.proofs.JoinSightLemmas.{far_join}
+use Rattle.sa_model.proofs.SightLemmas.{far_leave}
+use Rattle.sa_model.specs.ServiceSight.{services_near}
+use Rattle.sa_model.proofs.ServiceLemmas.{far_not_near}
+use Rattle.sa_model.proofs.ServiceSoundLemmas.{services_stay_sound}
 use Rattle.sa_replies.specs.Request.{Request, request_in, has_versions}
 use Rattle.sa_replies.specs.Transfers.{PortTransfer, with_table, table_place, table_of, on_rmpp}
 use Rattle.sa_replies.specs.Answer.{Administration, version_refused, answer_to, answer}

@@ -21,23 +21,23 @@ use Rattle.sa_records.specs.ServiceRecord.{service_data_asked, service_in}
 use Rattle.subnet_model.specs.Configuration.{ConfigurationState}
 use Rattle.subnet_model.specs.Configured.{IsConfigured}
 use Rattle.subnet_model.specs.declared.subnet_port.SubnetPort.{SubnetPort}
-use Rattle.sa_groups.specs.Anchor.{free_mlid, is_kept}
-use Rattle.sa_groups.specs.Changes.{Change}
-use Rattle.sa_groups.specs.Groups.{MulticastGroup, PartitionGroups, file_groups, start_from, start_of}
-use Rattle.sa_groups.specs.Joining.{Join, has_mgid, joined, joined_group, joined_groups, joined_in, may_create, may_join, new_group, with_created}
-use Rattle.sa_groups.specs.Leaving.{Leave, left, left_group, left_in}
-use Rattle.sa_groups.proofs.ChangeLemmas.{partitions_stay}
-use Rattle.sa_groups.proofs.JoinSoundLemmas.{all_with_group, joined_sound}
-use Rattle.sa_groups.proofs.LeaveSoundLemmas.{left_sound}
-use Rattle.sa_groups.proofs.ListLemmas.{all_filter, all_map}
-use Rattle.sa_groups.proofs.SoundLemmas as groups
-use Rattle.sa_services.specs.ServiceChange.{Deed, ServiceChange, after_deed, changed_in, has_id, has_room, is_place, lower_id, services_changed}
-use Rattle.sa_services.specs.Services.{PortServices, Service, no_services, none_of_port}
-use Rattle.sa_services.specs.KeyOrder.{by_base}
-use Rattle.sa_services.proofs.ServiceLemmas.{places_stay}
-use Rattle.sa_services.proofs.ServiceSoundLemmas as services
-use Rattle.sa_queries.specs.Selected.{asks}
-use Rattle.sa_queries.specs.Visible.{SaState}
+use Rattle.sa_model.specs.Anchor.{free_mlid, is_kept}
+use Rattle.sa_model.specs.Changes.{Change}
+use Rattle.sa_model.specs.Groups.{MulticastGroup, PartitionGroups, file_groups, start_from, start_of}
+use Rattle.sa_model.specs.Joining.{Join, has_mgid, joined, joined_group, joined_groups, joined_in, may_create, may_join, new_group, with_created}
+use Rattle.sa_model.specs.Leaving.{Leave, left, left_group, left_in}
+use Rattle.sa_model.proofs.ChangeLemmas.{partitions_stay}
+use Rattle.sa_model.proofs.JoinSoundLemmas.{all_with_group, joined_sound}
+use Rattle.sa_model.proofs.LeaveSoundLemmas.{left_sound}
+use Rattle.sa_model.proofs.ListLemmas.{all_filter, all_map}
+use Rattle.sa_model.proofs.SoundLemmas as groups
+use Rattle.sa_model.specs.ServiceChange.{Deed, ServiceChange, after_deed, changed_in, has_id, has_room, is_place, lower_id, services_changed}
+use Rattle.sa_model.specs.Services.{PortServices, Service, no_services, none_of_port}
+use Rattle.sa_model.specs.KeyOrder.{by_base}
+use Rattle.sa_model.proofs.ServiceLemmas.{places_stay}
+use Rattle.sa_model.proofs.ServiceSoundLemmas as services
+use Rattle.sa_model.specs.Selected.{asks}
+use Rattle.sa_model.specs.Visible.{SaState}
 use Rattle.sa_replies.specs.Request.{request_in}
 use Rattle.sa_replies.specs.Joins.{life_taken, mtu_taken, or_zero, parameters_asked, rate_taken}
 use Rattle.sa_replies.specs.ServiceRequests.{service_asked}

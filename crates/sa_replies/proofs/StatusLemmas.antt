@@ -27,7 +27,7 @@ use Rattle.sa_records.specs.NodeRecord.{node_record, node_record_bytes}
 use Rattle.sa_records.specs.PathRecord.{path_record, path_record_bytes}
 use Rattle.sa_records.specs.McMemberRecord.{mc_member_record, mc_member_record_bytes}
 use Rattle.sa_records.specs.ServiceRecord.{service_record, service_record_bytes}
-use Rattle.sa_queries.specs.Shown.{Entry}
+use Rattle.sa_model.specs.Shown.{Entry}
 use Rattle.sa_replies.specs.Request.{Request, request_in, is_response}
 use Rattle.sa_replies.specs.Reply.{reply_header, reply_method, no_rmpp, with_content, reply, refusal_reply, table_header}
 use Rattle.sa_records.specs.SaRecord.{record_bytes}

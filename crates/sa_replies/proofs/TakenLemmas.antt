@@ -3,7 +3,7 @@ use Rattle.std.proofs.Common.{◌≡◌, ℕ, Bool, true, false, ◌==◌, ◌||
 use Rattle.std.specs.List.{list_all}
 use Rattle.std.proofs.lemmas.Bool.{and_parts, both_ways, cases_Bool, eq-eqb, eqb-true, or_right}
 use Rattle.sa_records.specs.Speed.{speed_of}
-use Rattle.sa_groups.specs.Sound.{pairwise}
+use Rattle.sa_model.specs.Sound.{pairwise}
 use Rattle.sa_replies.specs.Joins.{mtu_taken, rate_taken}
 use Rattle.sa_replies.specs.Taken.{IsGreatest, IsGreatestOf, TheGreatestIsTaken, is_no_faster, is_one_of, life_fits, mtu_fits, our_mtus, our_rates, rate_fits}
 

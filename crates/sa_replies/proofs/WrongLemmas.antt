@@ -4,16 +4,16 @@ use Rattle.std.specs.Int.Digits.{AllBelowBase}
 use Rattle.mad_layout.specs.Bits.{field, number, put_field}
 use Rattle.rmpp_core.specs.Reply.{reply_bytes}
 use Rattle.rmpp_core.specs.Segments.{Transfer}
-use Rattle.sa_groups.specs.Anchor.{is_by_file}
-use Rattle.sa_groups.specs.Examples.{ports}
+use Rattle.sa_model.specs.Anchor.{is_by_file}
+use Rattle.sa_model.specs.GroupExamples.{ports}
 use Rattle.sa_records.specs.PathRecord.{path_record_bytes, path_record_selected, path_in}
 use Rattle.sa_records.specs.Speed.{speed_of}
 use Rattle.sa_records.specs.NodeRecord.{node_record_bytes, node_record_selected, node_in}
 use Rattle.sa_records.specs.McMemberRecord.{mc_member_record_bytes, mc_member_record_selected, group_in}
 use Rattle.sa_records.specs.ServiceRecord.{service_in, service_record_bytes}
-use Rattle.sa_groups.specs.Groups.{Creator}
-use Rattle.sa_queries.specs.Examples.{full, limited}
-use Rattle.sa_queries.specs.Shown.{Entry}
+use Rattle.sa_model.specs.Groups.{Creator}
+use Rattle.sa_model.specs.QueryExamples.{full, limited}
+use Rattle.sa_model.specs.Shown.{Entry}
 use Rattle.sa_replies.specs.Request.{request_in}
 use Rattle.sa_replies.specs.Transfers.{table_at}
 use Rattle.sa_replies.specs.Examples.{after, at_first, by, joining, making, nodes_wanted, path_wanted, service_asked_by, with_services}

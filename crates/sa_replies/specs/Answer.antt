@@ -18,10 +18,10 @@ use Rattle.sa_records.specs.declared.mc_member_record.TheConstants.{MC_MEMBER_RE
 use Rattle.sa_records.specs.declared.service_record.TheConstants.{SERVICE_RECORD_OFFSET}
 use Rattle.sa_records.specs.declared.sa_attribute.SaAttribute.TheVariants as sa_attribute
 use Rattle.subnet_model.specs.declared.subnet_port.SubnetPort.{SubnetPort}
-use Rattle.sa_queries.specs.Visible.{SaState}
-use Rattle.sa_queries.specs.Shown.{Entry}
-use Rattle.sa_queries.specs.Selected.{Query}
-use Rattle.sa_queries.specs.Outcome.{got, table}
+use Rattle.sa_model.specs.Visible.{SaState}
+use Rattle.sa_model.specs.Shown.{Entry}
+use Rattle.sa_model.specs.Selected.{Query}
+use Rattle.sa_model.specs.Outcome.{got, table}
 use Rattle.sa_replies.specs.Request.{Request, request_in, is_response, has_versions, is_about}
 use Rattle.sa_replies.specs.Reply.{reply, refusal_reply, table_header}
 use Rattle.sa_replies.specs.Transfers.{PortTransfer, with_table, table_of, on_rmpp}

@@ -5,7 +5,7 @@ use Rattle.mad_layout.specs.declared.method.Method.{Method}
 use Rattle.mad_layout.specs.declared.method.Method.TheVariants.{Set, Delete}
 use Rattle.sa_records.specs.declared.sa_attribute.SaAttribute.TheVariants as sa_attribute
 use Rattle.subnet_model.specs.declared.subnet_port.SubnetPort.{SubnetPort}
-use Rattle.sa_groups.specs.Receivers.{changed_numbers}
+use Rattle.sa_model.specs.Receivers.{changed_numbers}
 use Rattle.sa_replies.specs.Answer.{Administration, answer}
 use Rattle.sa_replies.specs.Laws.{CanBeReported, are_refusals, asks_by, is_of_transfer}
 use Rattle.sa_replies.specs.Request.{request_in, is_about}

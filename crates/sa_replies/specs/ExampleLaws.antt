@@ -1,8 +1,8 @@
 -- What subnet administration answers to the MADs of our examples, each MAD as one number.
 use Rattle.std.specs.Prelude.{◌≡◌, ◌+◌, ◌*◌, ◌^◌, true, [], ◌∷◌, map, take}
 use Rattle.mad_layout.specs.Bits.{number}
-use Rattle.sa_groups.specs.Examples.{ports}
-use Rattle.sa_queries.specs.Examples.{full, limited}
+use Rattle.sa_model.specs.GroupExamples.{ports}
+use Rattle.sa_model.specs.QueryExamples.{full, limited}
 use Rattle.sa_replies.specs.Answer.{answer}
 use Rattle.sa_replies.specs.Examples.{making, making_another, with_all_mlids, joining, leaving, path_wanted, nodes_wanted, ack}
 use Rattle.sa_replies.specs.Examples.{old_version, new_base_version, of_method, of_class, of_attribute, node_set, by, answered, fronts}

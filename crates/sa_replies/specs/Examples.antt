@@ -16,12 +16,12 @@ use Rattle.sa_records.specs.ServiceMask as service_mask
 use Rattle.sa_records.specs.ServiceRecord.{service_record_bytes}
 use Rattle.subnet_model.specs.Configuration.{ConfigurationState}
 use Rattle.subnet_model.specs.declared.subnet_port.SubnetPort.{SubnetPort}
-use Rattle.sa_groups.specs.Delivery.{is_receiver_of}
-use Rattle.sa_groups.specs.Examples.{many, mlids, nobody, ports}
-use Rattle.sa_groups.specs.Groups.{MulticastGroup, start_of}
-use Rattle.sa_services.specs.Examples.{ids}
-use Rattle.sa_queries.specs.Gid.{gid_of}
-use Rattle.sa_queries.specs.Examples.{full, limited, nothing, path_asked, service, twice_full, two_ports}
+use Rattle.sa_model.specs.Delivery.{is_receiver_of}
+use Rattle.sa_model.specs.GroupExamples.{many, mlids, nobody, ports}
+use Rattle.sa_model.specs.Groups.{MulticastGroup, start_of}
+use Rattle.sa_model.specs.ServiceExamples.{ids}
+use Rattle.sa_model.specs.Gid.{gid_of}
+use Rattle.sa_model.specs.QueryExamples.{full, limited, nothing, path_asked, service, twice_full, two_ports}
 use Rattle.sa_replies.specs.Reply.{no_rmpp}
 use Rattle.sa_replies.specs.Transfers.{no_transfers, table_of}
 use Rattle.sa_replies.specs.Answer.{Administration, answer}

@@ -11,19 +11,19 @@ use Rattle.sa_records.specs.Component.{satisfies}
 use Rattle.sa_records.specs.Speed.{rate_satisfies}
 use Rattle.sa_records.specs.McMemberRecord.{mc_member_record_bytes, mc_member_record_selected}
 use Rattle.sa_records.specs.McMemberMask as member_mask
-use Rattle.sa_groups.specs.Members.{is_in}
+use Rattle.sa_model.specs.Members.{is_in}
 use Rattle.subnet_model.specs.declared.subnet_port.SubnetPort.{SubnetPort}
-use Rattle.sa_groups.specs.JoinState.{JoinState}
-use Rattle.sa_groups.specs.Groups.{GroupParameters, Membership, MulticastGroup, PartitionGroups}
-use Rattle.sa_groups.specs.Anchor.{free_mlid}
-use Rattle.sa_groups.specs.Joining.{Join, may_create, has_mgid, is_of, joined}
-use Rattle.sa_groups.specs.Leaving.{Leave, is_left, left}
-use Rattle.sa_queries.specs.Gid.{gid_of}
-use Rattle.sa_queries.specs.Visible.{SaState}
-use Rattle.sa_queries.specs.Shown.{group_record_of}
-use Rattle.sa_queries.specs.Selected.{asks}
-use Rattle.sa_queries.specs.Refusals.{Question, refused_if, first_refusal, asks_unknown_mtu, asks_unknown_rate}
-use Rattle.sa_queries.specs.Outcome.{unless_status}
+use Rattle.sa_model.specs.JoinState.{JoinState}
+use Rattle.sa_model.specs.Groups.{GroupParameters, Membership, MulticastGroup, PartitionGroups}
+use Rattle.sa_model.specs.Anchor.{free_mlid}
+use Rattle.sa_model.specs.Joining.{Join, may_create, has_mgid, is_of, joined}
+use Rattle.sa_model.specs.Leaving.{Leave, is_left, left}
+use Rattle.sa_model.specs.Gid.{gid_of}
+use Rattle.sa_model.specs.Visible.{SaState}
+use Rattle.sa_model.specs.Shown.{group_record_of}
+use Rattle.sa_model.specs.Selected.{asks}
+use Rattle.sa_model.specs.Refusals.{Question, refused_if, first_refusal, asks_unknown_mtu, asks_unknown_rate}
+use Rattle.sa_model.specs.Outcome.{unless_status}
 use Rattle.sa_replies.specs.Success.{Success}
 
 -- ---- JoinState as bits

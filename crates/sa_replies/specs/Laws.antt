@@ -12,13 +12,13 @@ use Rattle.sa_records.specs.declared.sa_attribute.SaAttribute.TheVariants as sa_
 use Rattle.subnet_model.specs.declared.subnet_port.SubnetPort.{SubnetPort}
 use Rattle.subnet_model.specs.Delivery.{port_with_guid}
 use Rattle.subnet_model.specs.Near.{is_near}
-use Rattle.sa_groups.specs.Sound.{is_sound}
-use Rattle.sa_services.specs.Services.{PortServices}
-use Rattle.sa_services.specs.ServiceLaws.{ServiceSight, is_of, IsSet, IsDeleted}
-use Rattle.sa_services.specs.ServiceSight.{services_near, services_seen}
-use Rattle.sa_services.specs.ServiceSound.{are_sound_services}
-use Rattle.sa_queries.specs.Laws.{SeesSame}
-use Rattle.sa_queries.specs.Visible.{SaState}
+use Rattle.sa_model.specs.Sound.{is_sound}
+use Rattle.sa_model.specs.Services.{PortServices}
+use Rattle.sa_model.specs.ServiceLaws.{ServiceSight, is_of, IsSet, IsDeleted}
+use Rattle.sa_model.specs.ServiceSight.{services_near, services_seen}
+use Rattle.sa_model.specs.ServiceSound.{are_sound_services}
+use Rattle.sa_model.specs.QueryLaws.{SeesSame}
+use Rattle.sa_model.specs.Visible.{SaState}
 use Rattle.sa_replies.specs.Request.{Request, request_in, has_versions, is_about}
 use Rattle.sa_records.specs.ServiceRecord.{service_in}
 use Rattle.sa_replies.specs.Transfers.{table_place, table_of}

@@ -7,11 +7,11 @@ use Rattle.mad_layout.specs.RmppHeader.{rmpp_in}
 use Rattle.mad_layout.specs.declared.method.Method.TheVariants.{Get, Set, Delete}
 use Rattle.pkey_rules.specs.PKey.{base_of}
 use Rattle.rmpp_core.specs.Receiving.{is_data}
-use Rattle.sa_groups.specs.Groups.{Creator, MulticastGroup, PartitionGroups}
+use Rattle.sa_model.specs.Groups.{Creator, MulticastGroup, PartitionGroups}
 use Rattle.subnet_model.specs.declared.subnet_port.SubnetPort.{SubnetPort}
-use Rattle.sa_queries.specs.NamedSources.{ComesFrom}
-use Rattle.sa_queries.specs.Shown.{Entry, group_entry, node_entry, path_entry, service_entry}
-use Rattle.sa_queries.specs.Visible.{SaState, visible_groups, visible_nodes, visible_paths, visible_services}
+use Rattle.sa_model.specs.NamedSources.{ComesFrom}
+use Rattle.sa_model.specs.Shown.{Entry, group_entry, node_entry, path_entry, service_entry}
+use Rattle.sa_model.specs.Visible.{SaState, visible_groups, visible_nodes, visible_paths, visible_services}
 use Rattle.sa_records.specs.McMemberRecord.{group_in, mc_member_record}
 use Rattle.sa_records.specs.NodeRecord.{node_record}
 use Rattle.sa_records.specs.PathRecord.{path_record}

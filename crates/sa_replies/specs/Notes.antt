@@ -14,11 +14,11 @@ use Rattle.sa_records.specs.declared.mc_member_record.McMemberRecord.{McMemberRe
 use Rattle.sa_records.specs.declared.service_record.ServiceRecord.{ServiceRecord}
 use Rattle.sa_records.specs.declared.sa_attribute.SaAttribute.TheVariants as sa_attribute
 use Rattle.subnet_model.specs.declared.subnet_port.SubnetPort.{SubnetPort}
-use Rattle.sa_groups.specs.Groups.{Creator, MulticastGroup}
-use Rattle.sa_queries.specs.Visible.{SaState}
-use Rattle.sa_queries.specs.Shown.{Entry, service_entry}
-use Rattle.sa_queries.specs.Selected.{Query}
-use Rattle.sa_queries.specs.Outcome.{got, table}
+use Rattle.sa_model.specs.Groups.{Creator, MulticastGroup}
+use Rattle.sa_model.specs.Visible.{SaState}
+use Rattle.sa_model.specs.Shown.{Entry, service_entry}
+use Rattle.sa_model.specs.Selected.{Query}
+use Rattle.sa_model.specs.Outcome.{got, table}
 use Rattle.sa_replies.specs.Request.{Request, request_in, is_response, has_versions, is_about}
 use Rattle.sa_records.specs.McMemberRecord.{group_in}
 use Rattle.sa_records.specs.ServiceRecord.{service_in}

@@ -4,7 +4,7 @@ use Rattle.std.specs.List.{AllByRecursion}
 use Rattle.mad_layout.specs.Bits.{field}
 use Rattle.sa_records.specs.Asked.{Asked}
 use Rattle.sa_records.specs.ServiceRecord.{service_data_asked}
-use Rattle.sa_queries.specs.Selected.{asks}
+use Rattle.sa_model.specs.Selected.{asks}
 use Rattle.sa_records.specs.ServiceRecord.{numbers_asked}
 
 -- each number is as it is asked, and 0 if the mask does not ask it

@@ -7,16 +7,16 @@ use Rattle.pkey_rules.specs.PKey.{base_of}
 use Rattle.sa_records.specs.declared.service_record.ServiceRecord.{ServiceRecord}
 use Rattle.sa_records.specs.ServiceRecord.{numbers_asked, service_record_bytes}
 use Rattle.sa_records.specs.ServiceMask as service_mask
-use Rattle.sa_groups.specs.Members.{is_in}
+use Rattle.sa_model.specs.Members.{is_in}
 use Rattle.subnet_model.specs.declared.subnet_port.SubnetPort.{SubnetPort}
-use Rattle.sa_services.specs.Services.{Service, PortServices}
-use Rattle.sa_services.specs.ServiceChange.{Deed, ServiceChange, is_place, has_id, has_room, services_changed}
-use Rattle.sa_queries.specs.Gid.{gid_of}
-use Rattle.sa_queries.specs.Visible.{SaState}
-use Rattle.sa_queries.specs.Shown.{service_record_of}
-use Rattle.sa_queries.specs.Selected.{asks}
-use Rattle.sa_queries.specs.Refusals.{Question, refused_if, first_refusal}
-use Rattle.sa_queries.specs.Outcome.{unless_status}
+use Rattle.sa_model.specs.Services.{Service, PortServices}
+use Rattle.sa_model.specs.ServiceChange.{Deed, ServiceChange, is_place, has_id, has_room, services_changed}
+use Rattle.sa_model.specs.Gid.{gid_of}
+use Rattle.sa_model.specs.Visible.{SaState}
+use Rattle.sa_model.specs.Shown.{service_record_of}
+use Rattle.sa_model.specs.Selected.{asks}
+use Rattle.sa_model.specs.Refusals.{Question, refused_if, first_refusal}
+use Rattle.sa_model.specs.Outcome.{unless_status}
 use Rattle.sa_replies.specs.Success.{Success}
 
 -- ---- the service that is set: what the mask does not ask is 0

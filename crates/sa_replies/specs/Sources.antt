@@ -6,10 +6,10 @@ use Rattle.std.specs.List.{AllByRecursion, flat_map, list_all}
 use Rattle.pkey_rules.specs.PKey.{base_of}
 use Rattle.mad_layout.specs.SaMad.{data_in}
 use Rattle.rmpp_core.specs.Segments.{Transfer, payload_size}
-use Rattle.sa_groups.specs.Groups.{Membership, MulticastGroup}
-use Rattle.sa_groups.specs.Joining.{is_of}
-use Rattle.sa_groups.specs.JoinState.{JoinState}
-use Rattle.sa_groups.specs.Sound.{is_sound}
+use Rattle.sa_model.specs.Groups.{Membership, MulticastGroup}
+use Rattle.sa_model.specs.Joining.{is_of}
+use Rattle.sa_model.specs.JoinState.{JoinState}
+use Rattle.sa_model.specs.Sound.{is_sound}
 use Rattle.sa_records.specs.McMemberRecord.{mc_member_record_bytes}
 use Rattle.sa_records.specs.declared.mc_member_record.McMemberRecord.{McMemberRecord}
 use Rattle.sa_records.specs.ServiceRecord.{service_record_bytes}
@@ -17,9 +17,9 @@ use Rattle.sa_records.specs.declared.service_record.ServiceRecord.{ServiceRecord
 use Rattle.subnet_model.specs.Delivery.{port_with_guid}
 use Rattle.subnet_model.specs.declared.subnet_port.SubnetPort.{SubnetPort}
 use Rattle.subnet_model.specs.Near.{is_near}
-use Rattle.sa_queries.specs.Shown.{Entry, service_record_of}
-use Rattle.sa_queries.specs.Laws.{come_from_near, is_source_near}
-use Rattle.sa_queries.specs.Visible.{SaState, ServiceOfPort}
+use Rattle.sa_model.specs.Shown.{Entry, service_record_of}
+use Rattle.sa_model.specs.QueryLaws.{come_from_near, is_source_near}
+use Rattle.sa_model.specs.Visible.{SaState, ServiceOfPort}
 use Rattle.sa_replies.specs.Joins.{group_named, join_outcome, join_state_of, member_record}
 use Rattle.sa_replies.specs.ServiceRequests.{service_set}
 use Rattle.sa_replies.specs.Success.{Success}

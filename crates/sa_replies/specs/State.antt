@@ -5,13 +5,13 @@ use Rattle.subnet_model.specs.Configuration.{ConfigurationState}
 use Rattle.subnet_model.specs.Configured.{IsConfigured}
 use Rattle.subnet_model.specs.Delivery.{port_with_guid}
 use Rattle.subnet_model.specs.declared.subnet_port.SubnetPort.{SubnetPort}
-use Rattle.sa_groups.specs.Changes.{partition_of}
-use Rattle.sa_groups.specs.Groups.{GroupParameters, PartitionGroups, start_of}
-use Rattle.sa_groups.specs.Sound.{is_sound}
-use Rattle.sa_services.specs.ServiceChange.{port_and_base}
-use Rattle.sa_services.specs.ServiceSound.{are_sound_services}
-use Rattle.sa_services.specs.Services.{PortServices, Service, no_services}
-use Rattle.sa_queries.specs.Visible.{SaState}
+use Rattle.sa_model.specs.Changes.{partition_of}
+use Rattle.sa_model.specs.Groups.{GroupParameters, PartitionGroups, start_of}
+use Rattle.sa_model.specs.Sound.{is_sound}
+use Rattle.sa_model.specs.ServiceChange.{port_and_base}
+use Rattle.sa_model.specs.ServiceSound.{are_sound_services}
+use Rattle.sa_model.specs.Services.{PortServices, Service, no_services}
+use Rattle.sa_model.specs.Visible.{SaState}
 use Rattle.sa_replies.specs.Answer.{Administration, answer}
 use Rattle.sa_replies.specs.Laws.{AnswerRule}
 use Rattle.sa_replies.specs.Transfers.{CanBeSent, no_transfers}

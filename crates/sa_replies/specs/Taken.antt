@@ -5,7 +5,7 @@ use Rattle.sa_records.specs.Component.{satisfies}
 use Rattle.sa_records.specs.McMemberMask as member_mask
 use Rattle.sa_records.specs.Speed.{rate_satisfies, speed_of}
 use Rattle.sa_records.specs.declared.mc_member_record.McMemberRecord.{McMemberRecord}
-use Rattle.sa_queries.specs.Selected.{asks}
+use Rattle.sa_model.specs.Selected.{asks}
 use Rattle.sa_replies.specs.Joins.{life_taken, mtu_taken, rate_taken}
 
 -- ---- the greatest of some codes that passes a test, by an order of them; none if none passes

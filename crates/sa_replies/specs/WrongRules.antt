@@ -8,7 +8,7 @@ use Rattle.mad_layout.specs.declared.status.MadStatus.TheVariants.{BadVersion}
 use Rattle.sa_records.specs.declared.node_record.TheConstants.{NODE_RECORD_OFFSET}
 use Rattle.sa_records.specs.declared.sa_attribute.SaAttribute.TheVariants as sa_attribute
 use Rattle.subnet_model.specs.declared.subnet_port.SubnetPort.{SubnetPort}
-use Rattle.sa_queries.specs.Shown.{Entry, node_entry}
+use Rattle.sa_model.specs.Shown.{Entry, node_entry}
 use Rattle.sa_replies.specs.Request.{Request, request_in, is_about}
 use Rattle.sa_replies.specs.Reply.{refusal_reply}
 use Rattle.sa_replies.specs.Success.{Success}
@@ -17,7 +17,7 @@ use Rattle.sa_replies.specs.Answer.{Administration, Answered, answer, answered_w
 use Rattle.sa_records.specs.SaRecord.{record_bytes}
 use Rattle.sa_replies.specs.Laws.{AnswerRule, HidesFarRequests, are_refusals, asks_by}
 use Rattle.sa_replies.specs.Notes.{NotedByte, NotedMad, Notes, NotedAnswer, answer_noted, in_segment, is_request, noted_records, with_notes}
-use Rattle.sa_groups.specs.Groups.{Creator}
+use Rattle.sa_model.specs.Groups.{Creator}
 use Rattle.sa_replies.specs.NamedNotes.{NamesSources}
 use Rattle.sa_replies.specs.State.{KeepsStates}
 use Rattle.sa_replies.specs.OneReply.{AnswersOnce, IgnoresOthers, asks_something}

@@ -11,11 +11,11 @@ use Rattle.std.proofs.lemmas.Map.Keys.{IsDistinct-cons, IsDistinct-head, IsDisti
 use Rattle.pkey_rules.specs.KeyTable.{has_base, same_base}
 use Rattle.pkey_rules.specs.PKey.{base_of}
 use Rattle.step_results.proofs.ListLemmas.{IsDistinct-nil}
-use Rattle.sa_groups.specs.Sound.{pairwise}
-use Rattle.sa_services.specs.KeyOrder.{by_base, with_key}
-use Rattle.sa_services.proofs.KeyOrderLemmas.{stand_by_base}
-use Rattle.sa_services.specs.ServiceChange.{Deed, after_deed, lower_id}
-use Rattle.sa_services.specs.Services.{Service}
+use Rattle.sa_model.specs.Sound.{pairwise}
+use Rattle.sa_model.specs.KeyOrder.{by_base, with_key}
+use Rattle.sa_model.proofs.KeyOrderLemmas.{stand_by_base}
+use Rattle.sa_model.specs.ServiceChange.{Deed, after_deed, lower_id}
+use Rattle.sa_model.specs.Services.{Service}
 use Rattle.sa_store.specs.Deeds.{CanChange, after_in, is_of_base, services_in}
 use Rattle.sa_store.specs.Kept.{KeptPort, ServicesOfBase}
 

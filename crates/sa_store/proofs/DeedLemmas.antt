@@ -5,9 +5,9 @@ use Rattle.std.specs.List.{AllByRecursion, list_all, list_any, prefix_len}
 use Rattle.std.proofs.Common.{length}
 use Rattle.std.specs.Option.{option_map_or}
 use Rattle.std.proofs.lemmas.Bool.{and_parts, cases_Bool, eqb-true, false≢true, ltb-true, ne_eqb, or_right}
-use Rattle.sa_groups.specs.Sound.{pairwise}
-use Rattle.sa_services.specs.Services.{Service}
-use Rattle.sa_services.specs.ServiceChange.{has_id, has_room, lower_id, most_services, with_service, without_service}
+use Rattle.sa_model.specs.Sound.{pairwise}
+use Rattle.sa_model.specs.Services.{Service}
+use Rattle.sa_model.specs.ServiceChange.{has_id, has_room, lower_id, most_services, with_service, without_service}
 
 -- ---- tests of numbers
 not_less : (a b : ℕ) → b ≤ a → nat_lt a b ≡ false

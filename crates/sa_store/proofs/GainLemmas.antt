@@ -10,15 +10,15 @@ use Rattle.step_results.proofs.ListLemmas.{found_passes, list_all_weaker, none_p
 use Rattle.fabric_parts.specs.NodeType.{is_switch_type}
 use Rattle.subnet_model.specs.Configured.{HaveLidsInOrder, same_guid}
 use Rattle.subnet_model.specs.declared.subnet_port.SubnetPort.{SubnetPort}
-use Rattle.sa_groups.specs.Anchor.{free_mlid, mlid_range}
-use Rattle.sa_groups.specs.Delivery.{receives, receives_in}
-use Rattle.sa_groups.specs.Groups.{Membership, MulticastGroup, PartitionGroups, lower_port}
-use Rattle.sa_groups.specs.JoinState.{is_receiver}
-use Rattle.sa_groups.specs.Joining.{Join, has_mgid, in_place, is_of, joined_group, more_joined, new_group, new_membership, with_created, with_group, with_member}
-use Rattle.sa_groups.specs.Sound.{is_sound_group, is_sound_partition, lower_mlid, other_mgid, pairwise}
-use Rattle.sa_groups.proofs.InPlaceLemmas.{higher_ones, lower_ones, nothing_lost}
-use Rattle.sa_groups.proofs.ReceiverLemmas.{turned}
-use Rattle.sa_groups.proofs.SoundLemmas.{partition_parts, sound_parts}
+use Rattle.sa_model.specs.Anchor.{free_mlid, mlid_range}
+use Rattle.sa_model.specs.Delivery.{receives, receives_in}
+use Rattle.sa_model.specs.Groups.{Membership, MulticastGroup, PartitionGroups, lower_port}
+use Rattle.sa_model.specs.JoinState.{is_receiver}
+use Rattle.sa_model.specs.Joining.{Join, has_mgid, in_place, is_of, joined_group, more_joined, new_group, new_membership, with_created, with_group, with_member}
+use Rattle.sa_model.specs.Sound.{is_sound_group, is_sound_partition, lower_mlid, other_mgid, pairwise}
+use Rattle.sa_model.proofs.InPlaceLemmas.{higher_ones, lower_ones, nothing_lost}
+use Rattle.sa_model.proofs.ReceiverLemmas.{turned}
+use Rattle.sa_model.proofs.SoundLemmas.{partition_parts, sound_parts}
 use Rattle.sa_store.specs.Joined.{entered}
 use Rattle.sa_store.specs.Members.{receives_by}
 use Rattle.sa_store.specs.Receiving.{has_changed, is_adapter}

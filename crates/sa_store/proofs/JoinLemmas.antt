@@ -8,10 +8,10 @@ use Rattle.std.specs.Option.{option_map_or}
 use Rattle.std.proofs.lemmas.Bool.{and_parts, cases_Bool, eqb-true, eq-eqb, false≢true, ltb-true, lt-ltb, ne_eqb}
 use Rattle.std.proofs.lemmas.Nat.{pow_pos}
 use Rattle.std.proofs.lemmas.Nat.Bits.{and_pow, bit_at-lt, bit_at_or}
-use Rattle.sa_groups.specs.Groups.{Membership, lower_port}
-use Rattle.sa_groups.specs.JoinState.{with_bits}
-use Rattle.sa_groups.specs.Joining.{Join, in_place, is_of, more_joined, new_membership, with_member}
-use Rattle.sa_groups.specs.Sound.{pairwise}
+use Rattle.sa_model.specs.Groups.{Membership, lower_port}
+use Rattle.sa_model.specs.JoinState.{with_bits}
+use Rattle.sa_model.specs.Joining.{Join, in_place, is_of, more_joined, new_membership, with_member}
+use Rattle.sa_model.specs.Sound.{pairwise}
 use Rattle.sa_replies.specs.Joins.{join_state_of}
 
 -- ---- the bits of a JoinState

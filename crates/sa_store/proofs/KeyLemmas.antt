@@ -3,10 +3,10 @@ use Rattle.std.proofs.Common.{◌≡◌, ℕ, suc, ◌+◌, List, [], ◌∷◌,
 use Rattle.std.specs.List.{insert, prefix_len}
 use Rattle.std.proofs.lemmas.Bool.{cases_Bool, and_parts, eqb-true, le-leb}
 use Rattle.pkey_rules.specs.PKey.{base_of, is_full, key_of, matches}
-use Rattle.sa_services.specs.KeyOrder.{with_key}
+use Rattle.sa_model.specs.KeyOrder.{with_key}
 use Rattle.pkey_rules.specs.KeyTable.{accepts, has_base}
 use Rattle.subnet_model.specs.declared.subnet_port.SubnetPort.{SubnetPort}
-use Rattle.sa_groups.specs.Members.{is_in}
+use Rattle.sa_model.specs.Members.{is_in}
 
 pub inserted_by_base : (keys : List ℕ) (key : ℕ)
     → insert keys (prefix_len (λ held. not (nat_le (base_of key) (base_of held))) keys) key ≡ with_key key keys

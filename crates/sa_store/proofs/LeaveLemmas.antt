@@ -10,15 +10,15 @@ use Rattle.std.proofs.lemmas.Iterator.Adapters.{position_from-zero}
 use Rattle.std.proofs.lemmas.Simd.{bit_mask_l}
 use Rattle.std.proofs.Math.Nat.{pow-succ'}
 use Rattle.subnet_model.specs.declared.subnet_port.SubnetPort.{SubnetPort}
-use Rattle.sa_groups.specs.Anchor.{is_kept as keeps}
+use Rattle.sa_model.specs.Anchor.{is_kept as keeps}
 use Rattle.std.proofs.lemmas.Nat.Bits.{and_pow, bit_at-lt, bit_at_and, bit_at_not}
 use Rattle.step_results.proofs.BoolLemmas.{bit_turned}
-use Rattle.sa_groups.specs.Groups.{Membership, MulticastGroup, PartitionGroups, first_mlid, lower_port}
-use Rattle.sa_groups.specs.JoinState.{JoinState, is_joined, without_bits}
-use Rattle.sa_groups.specs.Joining.{has_mgid, is_of}
-use Rattle.sa_groups.specs.Leaving.{Leave, is_left, left_group, left_in, less_joined, names_base}
-use Rattle.sa_groups.specs.Sound.{is_in_range, is_sound_group, is_sound_membership, is_sound_partition, lower_mlid, may_have_made, other_mgid, pairwise}
-use Rattle.sa_groups.specs.Members.{is_member}
+use Rattle.sa_model.specs.Groups.{Membership, MulticastGroup, PartitionGroups, first_mlid, lower_port}
+use Rattle.sa_model.specs.JoinState.{JoinState, is_joined, without_bits}
+use Rattle.sa_model.specs.Joining.{has_mgid, is_of}
+use Rattle.sa_model.specs.Leaving.{Leave, is_left, left_group, left_in, less_joined, names_base}
+use Rattle.sa_model.specs.Sound.{is_in_range, is_sound_group, is_sound_membership, is_sound_partition, lower_mlid, may_have_made, other_mgid, pairwise}
+use Rattle.sa_model.specs.Members.{is_member}
 use Rattle.sa_replies.specs.Joins.{has_bit_of, is_taken_from, join_state_of}
 use Rattle.sa_store.specs.Joined.{holds_mgid}
 use Rattle.sa_store.specs.Left.{are_settled, is_kept, is_settled, left_by, left_slot, less_by, loses_some, takes_from, takes_part}

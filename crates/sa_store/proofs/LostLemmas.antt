@@ -10,17 +10,17 @@ use Rattle.std.proofs.lemmas.List.Quantifiers.{position-Some}
 use Rattle.std.proofs.lemmas.Nat.{and_mask}
 use Rattle.std.proofs.lemmas.Nat.Bits.{bit_at-lt}
 use Rattle.std.proofs.lemmas.Bool.{and_parts, cases_Bool, eq-eqb, eqb-true, false≢true, ne_eqb, or_left}
-use Rattle.step_results.proofs.ListLemmas.{any_none}
+use Rattle.step_results.proofs.ListLemmas.{any_and, any_none}
 use Rattle.fabric_parts.specs.NodeType.{is_switch_type}
 use Rattle.subnet_model.specs.Configured.{HaveLidsInOrder, same_guid}
 use Rattle.subnet_model.specs.declared.subnet_port.SubnetPort.{SubnetPort}
-use Rattle.sa_groups.specs.Delivery.{receives, receives_in}
-use Rattle.sa_groups.specs.Groups.{Membership, MulticastGroup, PartitionGroups, first_mlid, lower_port}
-use Rattle.sa_groups.specs.JoinState.{is_receiver, without_bits}
-use Rattle.sa_groups.specs.Joining.{is_of}
-use Rattle.sa_groups.specs.Leaving.{Leave}
-use Rattle.sa_groups.specs.Sound.{pairwise}
-use Rattle.sa_groups.proofs.ReceiverLemmas.{any_alike, turned}
+use Rattle.sa_model.specs.Delivery.{receives, receives_in}
+use Rattle.sa_model.specs.Groups.{Membership, MulticastGroup, PartitionGroups, first_mlid, lower_port}
+use Rattle.sa_model.specs.JoinState.{is_receiver, without_bits}
+use Rattle.sa_model.specs.Joining.{is_of}
+use Rattle.sa_model.specs.Leaving.{Leave}
+use Rattle.sa_model.specs.Sound.{pairwise}
+use Rattle.sa_model.proofs.ReceiverLemmas.{any_alike, turned}
 use Rattle.sa_replies.specs.Joins.{join_state_of}
 use Rattle.sa_store.specs.Joined.{holds_mgid}
 use Rattle.sa_store.specs.Left.{are_settled, is_kept, is_settled, left_by, left_slot, less_by, takes_part}
@@ -40,10 +40,6 @@ any_either p q (x ∷ xs) = rw (any_either p q xs) (mixed (p x) (q x) (list_any 
     mixed false true true d = refl
     mixed false true false d = refl
     mixed false false c d = refl
-
-any_under : {X : Type 0} (b : Bool) (p : X → Bool) (xs : List X) → list_any (λ x. b && p x) xs ≡ (b && list_any p xs)
-any_under true p xs = refl
-any_under false p xs = any_none xs
 
 any_turned : {X Y : Type 0} (r : X → Y → Bool) (xs : List X) (ys : List Y)
     → list_any (λ x. list_any (r x) ys) xs ≡ list_any (λ y. list_any (λ x. r x y) xs) ys
@@ -289,14 +285,14 @@ received_by_ends : (ports : List SubnetPort) (memberships : List Membership)
     → list_any (λ port. is_end port && list_any (receives port.guid) memberships) ports ≡ list_any (is_receiving ports) memberships
 received_by_ends ports memberships =
     any_alike (λ port. is_end port && list_any (receives port.guid) memberships) (λ port. list_any (λ one. is_end port && receives port.guid one) memberships)
-    (λ port. sym (any_under (is_end port) (receives port.guid) memberships)) ports
+    (λ port. sym (any_and (is_end port) (receives port.guid) memberships)) ports
     ∙ any_turned (λ port one. is_end port && receives port.guid one) ports memberships
     ∙ any_alike (λ one. list_any (λ port. is_end port && receives port.guid one) ports) (is_receiving ports)
     (λ one.
     any_alike (λ port. is_end port && receives port.guid one) (λ port. is_receiver one.join_state && ((port.guid == one.port) && is_end port))
     (λ port. ap (λ (b : Bool). is_end port && (b && is_receiver one.join_state)) (turned one.port port.guid)
     ∙ shuffled (is_end port) (port.guid == one.port) (is_receiver one.join_state)) ports
-    ∙ any_under (is_receiver one.join_state) (λ port. (port.guid == one.port) && is_end port) ports) memberships
+    ∙ any_and (is_receiver one.join_state) (λ port. (port.guid == one.port) && is_end port) ports) memberships
   where
     shuffled : (a b c : Bool) → (a && (b && c)) ≡ (c && (b && a))
     shuffled true true true = refl
@@ -318,7 +314,7 @@ stays_reported : (ports : List SubnetPort) (leave : Leave) (group : SlotGroup) �
 stays_reported ports leave group order =
     any_alike (λ port. is_end port && (list_any (receives port.guid) group.memberships && not (list_any (receives port.guid) (rest_of leave group.memberships))))
     (own_lost leave group) each ports
-    ∙ any_under (loses leave group) (λ port. (port.guid == leave.port) && is_end port) ports
+    ∙ any_and (loses leave group) (λ port. (port.guid == leave.port) && is_end port) ports
   where
     alone : (h e l a : Bool) → ((e && l) ≡ true → h ≡ false) → (a && ((h || (e && l)) && not h)) ≡ (l && (e && a))
     alone true true true a gone = absurd (false≢true (sym (gone refl)))
@@ -359,7 +355,7 @@ drop_reported ports leave group =
     (λ port. own_lost leave group port || (is_end port && list_any (receives port.guid) (rest_of leave group.memberships))) each ports
     ∙ any_either (own_lost leave group) (λ port. is_end port && list_any (receives port.guid) (rest_of leave group.memberships)) ports
     ∙ ap (λ (b : Bool). b || list_any (λ port. is_end port && list_any (receives port.guid) (rest_of leave group.memberships)) ports)
-    (any_under (loses leave group) (λ port. (port.guid == leave.port) && is_end port) ports)
+    (any_and (loses leave group) (λ port. (port.guid == leave.port) && is_end port) ports)
     ∙ ap (λ (b : Bool). (loses leave group && is_adapter ports leave.port) || b) (received_by_ends ports (rest_of leave group.memberships))
   where
     both : (h e l a : Bool) → (a && ((h || (e && l)) && true)) ≡ ((l && (e && a)) || (a && h))

@@ -21,15 +21,15 @@ use Rattle.subnet_model.specs.Configuration.{ConfigurationState}
 use Rattle.subnet_model.specs.Configured.{HoldsKnownKeys, IsConfigured, is_known_key}
 use Rattle.subnet_model.specs.Delivery.{port_with_guid}
 use Rattle.subnet_model.specs.declared.subnet_port.SubnetPort.{SubnetPort}
-use Rattle.sa_groups.specs.Anchor.{free_mlid}
-use Rattle.sa_groups.specs.Changes.{partition_of}
-use Rattle.sa_groups.specs.Groups.{MulticastGroup, PartitionGroups, start_from}
-use Rattle.sa_groups.specs.Joining.{Join, has_mgid, joined, joined_group, joined_groups, joined_in, may_create, may_join, with_created}
-use Rattle.sa_groups.specs.Leaving.{Leave, left}
-use Rattle.sa_groups.specs.Members.{is_in}
-use Rattle.sa_groups.specs.Receivers.{changed_numbers}
-use Rattle.sa_groups.specs.Sound.{is_sound_partition}
-use Rattle.sa_queries.specs.Visible.{SaState}
+use Rattle.sa_model.specs.Anchor.{free_mlid}
+use Rattle.sa_model.specs.Changes.{partition_of}
+use Rattle.sa_model.specs.Groups.{MulticastGroup, PartitionGroups, start_from}
+use Rattle.sa_model.specs.Joining.{Join, has_mgid, joined, joined_group, joined_groups, joined_in, may_create, may_join, with_created}
+use Rattle.sa_model.specs.Leaving.{Leave, left}
+use Rattle.sa_model.specs.Members.{is_in}
+use Rattle.sa_model.specs.Receivers.{changed_numbers}
+use Rattle.sa_model.specs.Sound.{is_sound_partition}
+use Rattle.sa_model.specs.Visible.{SaState}
 use Rattle.sa_replies.specs.Joins.{bits_of_join_state, group_named, has_free_mlid, join_state_of}
 use Rattle.sa_replies.specs.State.{IsRememberedOf}
 use Rattle.sa_replies.proofs.StateLemmas.{join_remembered, leave_remembered}

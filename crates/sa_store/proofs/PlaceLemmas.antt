@@ -15,8 +15,8 @@ use Rattle.subnet_model.specs.declared.subnet_port.SubnetPort.{SubnetPort}
 use Rattle.sa_replies.specs.Transfers.{table_of, with_table}
 use Rattle.sa_store.specs.Registry.{of_guid, of_lid}
 use Rattle.partition_file.specs.declared.heading.Heading.{Heading}
-use Rattle.sa_groups.specs.Groups.{PartitionGroups}
-use Rattle.sa_services.specs.Services.{PortServices}
+use Rattle.sa_model.specs.Groups.{PartitionGroups}
+use Rattle.sa_model.specs.Services.{PortServices}
 use Rattle.sa_store.specs.Kept.{KeptPort, ports_of, services_of, services_of_port, transfers_of}
 use Rattle.sa_store.specs.Registry.{IsRegistry, RegistryState, place_with_guid, registry_in}
 

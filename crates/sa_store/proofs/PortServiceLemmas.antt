@@ -5,7 +5,7 @@ use Rattle.std.proofs.lemmas.Bool.{cases_Bool}
 use Rattle.std.proofs.lemmas.List.Elements.{filter-append}
 use Rattle.subnet_model.specs.Configured.{same_guid}
 use Rattle.subnet_model.specs.declared.subnet_port.SubnetPort.{SubnetPort}
-use Rattle.sa_services.specs.Services.{PortServices}
+use Rattle.sa_model.specs.Services.{PortServices}
 use Rattle.sa_store.specs.Kept.{KeptPort, ServicesOfBase, ports_of, services_of, services_of_port}
 use Rattle.sa_store.specs.Registry.{of_port, place_with_guid}
 use Rattle.sa_store.proofs.PlaceLemmas.{AreOthers, IsAt, further, is_at, one_of, place_is, rest_others}

@@ -12,7 +12,7 @@ use Rattle.pkey_rules.specs.KeyTable.{same_base}
 use Rattle.pkey_rules.specs.PKey.{base_of}
 use Rattle.pkey_rules.specs.declared.key_table.TheConstants.{PARTITIONS}
 use Rattle.subnet_model.specs.Configured.{HoldsKnownKeys, IsConfigured, is_known_key, same_guid}
-use Rattle.sa_groups.specs.Sound.{pairwise}
+use Rattle.sa_model.specs.Sound.{pairwise}
 use Rattle.sa_store.specs.declared.node_port.NodePort.{NodePort}
 use Rattle.sa_store.specs.NodePorts.{all_with_keys, configured, with_keys}
 use Rattle.sa_store.specs.Premises.{are_known_keys, are_sound, have_lids_from, other_base, other_guid}

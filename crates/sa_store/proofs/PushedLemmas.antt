@@ -13,10 +13,10 @@ use Rattle.std.proofs.lemmas.List.Sums.{prefix_len_is}
 use Rattle.step_results.proofs.ListLemmas.{all_at}
 use Rattle.subnet_model.specs.declared.group_receiver.GroupReceiver.{GroupReceiver}
 use Rattle.subnet_model.specs.declared.subnet_port.SubnetPort.{SubnetPort}
-use Rattle.sa_groups.specs.Delivery.{receives}
-use Rattle.sa_groups.specs.Groups.{Membership, MulticastGroup, PartitionGroups, lower_port}
-use Rattle.sa_groups.specs.Receivers.{group_receivers, receivers_in, receivers_of, receives_group}
-use Rattle.sa_groups.specs.Sound.{pairwise}
+use Rattle.sa_model.specs.Delivery.{receives}
+use Rattle.sa_model.specs.Groups.{Membership, MulticastGroup, PartitionGroups, lower_port}
+use Rattle.sa_model.specs.Receivers.{group_receivers, receivers_in, receivers_of, receives_group}
+use Rattle.sa_model.specs.Sound.{pairwise}
 use Rattle.sa_store.specs.Kept.{KeptPort, ports_of}
 use Rattle.sa_store.specs.MlidRange.{SlotGroup, groups_in, with_mlid}
 use Rattle.sa_store.proofs.SlotLemmas.{groups_joined}

@@ -12,11 +12,11 @@ use Rattle.subnet_model.specs.Configured.{HaveLidsInOrder, same_guid}
 use Rattle.subnet_model.specs.Delivery.{port_with_guid}
 use Rattle.subnet_model.specs.declared.group_receiver.GroupReceiver.{GroupReceiver}
 use Rattle.subnet_model.specs.declared.subnet_port.SubnetPort.{SubnetPort}
-use Rattle.sa_groups.specs.Delivery.{receives_in}
-use Rattle.sa_groups.specs.Groups.{MulticastGroup, PartitionGroups}
-use Rattle.sa_groups.specs.ReceiverLaws.{is_of_adapter}
-use Rattle.sa_groups.specs.Receivers.{are_same_receivers, changed_numbers, group_receivers, is_among, is_same_receiver, receives_group, receivers_in, receivers_of}
-use Rattle.sa_groups.proofs.ReceiverLemmas.{among_too, receivers_are_reached}
+use Rattle.sa_model.specs.Delivery.{receives_in}
+use Rattle.sa_model.specs.Groups.{MulticastGroup, PartitionGroups}
+use Rattle.sa_model.specs.ReceiverLaws.{is_of_adapter}
+use Rattle.sa_model.specs.Receivers.{are_same_receivers, changed_numbers, group_receivers, is_among, is_same_receiver, receives_group, receivers_in, receivers_of}
+use Rattle.sa_model.proofs.ReceiverLemmas.{among_too, receivers_are_reached}
 use Rattle.sa_store.specs.Receiving.{has_changed, numbers_changed}
 
 -- ---- a port that passes a test is the one of its GUID

@@ -10,11 +10,11 @@ use Rattle.pkey_rules.specs.KeyTable.{has_base, same_base}
 use Rattle.subnet_model.specs.Configured.{HoldsKnownKeys}
 use Rattle.std.proofs.lemmas.List.Elements.{filter-append, recursion_from_All}
 use Rattle.subnet_model.specs.declared.subnet_port.SubnetPort.{SubnetPort}
-use Rattle.sa_groups.specs.Groups.{PartitionGroups}
-use Rattle.sa_groups.specs.Sound.{pairwise}
-use Rattle.sa_services.specs.ServiceChange.{Deed, ServiceChange, after_deed, changed_in, is_place, lower_id, services_changed}
-use Rattle.sa_services.specs.ServiceSound.{are_sound_services, is_sound_place}
-use Rattle.sa_services.specs.Services.{PortServices, Service}
+use Rattle.sa_model.specs.Groups.{PartitionGroups}
+use Rattle.sa_model.specs.Sound.{pairwise}
+use Rattle.sa_model.specs.ServiceChange.{Deed, ServiceChange, after_deed, changed_in, is_place, lower_id, services_changed}
+use Rattle.sa_model.specs.ServiceSound.{are_sound_services, is_sound_place}
+use Rattle.sa_model.specs.Services.{PortServices, Service}
 use Rattle.sa_replies.specs.ServiceRequests.{services_at}
 use Rattle.sa_replies.specs.Transfers.{PortTransfer}
 use Rattle.sa_replies.proofs.StateLemmas.{FitDeed, change_remembered}

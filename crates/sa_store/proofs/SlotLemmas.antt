@@ -11,10 +11,10 @@ use Rattle.std.proofs.lemmas.Nat.Bits.{and_pow, bit_at-trailing_zeros}
 use Rattle.std.proofs.lemmas.Simd.{trailing_mask_l}
 use Rattle.std.proofs.Math.Nat.{pow-succ'}
 use Rattle.std.specs.Simd.Lanes.{mask_l}
-use Rattle.sa_groups.specs.Anchor.{free_mlid}
-use Rattle.sa_groups.specs.Groups.{MulticastGroup, PartitionGroups, first_mlid, lower_port}
-use Rattle.sa_groups.specs.Joining.{Join, joined_group, new_group, with_created, with_group}
-use Rattle.sa_groups.specs.Sound.{other_mgid, pairwise}
+use Rattle.sa_model.specs.Anchor.{free_mlid}
+use Rattle.sa_model.specs.Groups.{MulticastGroup, PartitionGroups, first_mlid, lower_port}
+use Rattle.sa_model.specs.Joining.{Join, joined_group, new_group, with_created, with_group}
+use Rattle.sa_model.specs.Sound.{other_mgid, pairwise}
 use Rattle.sa_store.specs.Joined.{founded, holds_mgid, is_in_order, joined_slot}
 use Rattle.sa_store.specs.MlidRange.{SlotGroup, free_slots, groups_in, partition_in, with_mlid}
 

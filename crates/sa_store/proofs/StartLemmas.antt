@@ -3,8 +3,8 @@ use Rattle.std.proofs.Common.{◌≡◌, ℕ, ◌++◌, List, [], ◌∷◌, map
 use Rattle.partition_file.specs.declared.heading.Heading.{Heading}
 use Rattle.pkey_rules.specs.PKey.{base_of, is_base}
 use Rattle.subnet_model.specs.declared.subnet_port.SubnetPort.{SubnetPort}
-use Rattle.sa_services.specs.KeyOrder.{by_base}
-use Rattle.sa_services.specs.Services.{PortServices, no_services, none_of_port}
+use Rattle.sa_model.specs.KeyOrder.{by_base}
+use Rattle.sa_model.specs.Services.{PortServices, no_services, none_of_port}
 use Rattle.sa_replies.specs.Transfers.{PortTransfer, no_transfers}
 use Rattle.sa_store.specs.Kept.{KeptPort, at_the_start, no_place, ports_of, services_of, transfers_of}
 use Rattle.sa_store.specs.Registry.{configuration_in}

@@ -2,9 +2,9 @@
 use Rattle.std.specs.Prelude.{ℕ, ◌≡◌, ◌==◌, Bool, true, if◌then◌else◌, List, filter, map}
 use Rattle.std.specs.List.{IsDistinct, flat_map, list_all}
 use Rattle.pkey_rules.specs.KeyTable.{has_base, same_base}
-use Rattle.sa_groups.specs.Sound.{pairwise}
-use Rattle.sa_services.specs.ServiceChange.{Deed, after_deed, lower_id}
-use Rattle.sa_services.specs.Services.{Service}
+use Rattle.sa_model.specs.Sound.{pairwise}
+use Rattle.sa_model.specs.ServiceChange.{Deed, after_deed, lower_id}
+use Rattle.sa_model.specs.Services.{Service}
 use Rattle.sa_store.specs.Kept.{KeptPort, ServicesOfBase}
 
 abbrev pub is_of_base : ℕ → ServicesOfBase → Bool

@@ -2,10 +2,10 @@
 use Rattle.std.specs.Prelude.{ℕ, ◌==◌, Bool, true, false, if◌then◌else◌, [], map, Option, None, Some}
 use Rattle.std.specs.List.{list_any}
 use Rattle.std.specs.Option.{option_map_or}
-use Rattle.sa_groups.specs.Anchor.{free_mlid}
-use Rattle.sa_groups.specs.Groups.{Creator, PartitionGroups, lower_port}
-use Rattle.sa_groups.specs.Joining.{Join, has_mgid, joined_group, with_created, with_member}
-use Rattle.sa_groups.specs.Sound.{pairwise}
+use Rattle.sa_model.specs.Anchor.{free_mlid}
+use Rattle.sa_model.specs.Groups.{Creator, PartitionGroups, lower_port}
+use Rattle.sa_model.specs.Joining.{Join, has_mgid, joined_group, with_created, with_member}
+use Rattle.sa_model.specs.Sound.{pairwise}
 use Rattle.sa_store.specs.MlidRange.{SlotGroup}
 
 -- the group in a slot has this MGID

@@ -6,9 +6,9 @@ use Rattle.rmpp_core.specs.Segments.{Transfer}
 use Rattle.sa_records.specs.declared.node_record.NodeRecord.{NodeRecord}
 use Rattle.sa_records.specs.NodeRecord.{node_record_bytes}
 use Rattle.subnet_model.specs.declared.subnet_port.SubnetPort.{SubnetPort}
-use Rattle.sa_services.specs.KeyOrder.{by_base}
-use Rattle.sa_services.specs.Services.{PortServices, Service}
-use Rattle.sa_queries.specs.Shown.{node_record_of}
+use Rattle.sa_model.specs.KeyOrder.{by_base}
+use Rattle.sa_model.specs.Services.{PortServices, Service}
+use Rattle.sa_model.specs.Shown.{node_record_of}
 use Rattle.sa_replies.specs.Transfers.{PortTransfer}
 
 -- the services of one port in the partition of a base

@@ -4,13 +4,13 @@ use Rattle.std.specs.Prelude.{Option, None, Some}
 use Rattle.std.specs.List.{list_all, list_any}
 use Rattle.std.specs.Option.{option_map_or}
 use Rattle.subnet_model.specs.declared.subnet_port.SubnetPort.{SubnetPort}
-use Rattle.sa_groups.specs.Anchor.{anchors, is_by_file}
-use Rattle.sa_groups.specs.Groups.{Membership, lower_port}
-use Rattle.sa_groups.specs.JoinState.{is_joined, without_bits}
-use Rattle.sa_groups.specs.Joining.{is_of}
-use Rattle.sa_groups.specs.Leaving.{Leave}
-use Rattle.sa_groups.specs.Members.{is_full_member}
-use Rattle.sa_groups.specs.Sound.{pairwise}
+use Rattle.sa_model.specs.Anchor.{anchors, is_by_file}
+use Rattle.sa_model.specs.Groups.{Membership, lower_port}
+use Rattle.sa_model.specs.JoinState.{is_joined, without_bits}
+use Rattle.sa_model.specs.Joining.{is_of}
+use Rattle.sa_model.specs.Leaving.{Leave}
+use Rattle.sa_model.specs.Members.{is_full_member}
+use Rattle.sa_model.specs.Sound.{pairwise}
 use Rattle.sa_replies.specs.Joins.{has_bit_of}
 use Rattle.sa_store.specs.MlidRange.{SlotGroup}
 

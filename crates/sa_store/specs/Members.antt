@@ -2,10 +2,10 @@
 use Rattle.std.specs.Prelude.{ℕ, ◌≡◌, ◌==◌, Bool, true, false, not, ◌&&◌, List, Option, None, Some, find, position}
 use Rattle.std.specs.List.{list_any}
 use Rattle.subnet_model.specs.declared.subnet_port.SubnetPort.{SubnetPort}
-use Rattle.sa_groups.specs.Delivery.{receives}
-use Rattle.sa_groups.specs.Groups.{MulticastGroup, PartitionGroups}
-use Rattle.sa_groups.specs.JoinState.{is_receiver}
-use Rattle.sa_groups.specs.Joining.{Join, has_mgid, may_create, may_join}
+use Rattle.sa_model.specs.Delivery.{receives}
+use Rattle.sa_model.specs.Groups.{MulticastGroup, PartitionGroups}
+use Rattle.sa_model.specs.JoinState.{is_receiver}
+use Rattle.sa_model.specs.Joining.{Join, has_mgid, may_create, may_join}
 use Rattle.sa_replies.specs.Joins.{group_named, has_free_mlid}
 use Rattle.sa_replies.specs.State.{is_fit_group}
 

@@ -5,9 +5,9 @@ use Rattle.partition_file.specs.declared.broadcast_group.BroadcastGroup.{Broadca
 use Rattle.partition_file.specs.Partitions.{mgid_of}
 use Rattle.pkey_rules.specs.PKey.{is_base}
 use Rattle.pkey_rules.specs.declared.key_table.TheConstants.{PARTITIONS}
-use Rattle.sa_groups.specs.Groups.{Creator as MadeBy, GroupParameters as Parameters, Membership as MemberOf}
-use Rattle.sa_groups.specs.Groups.{MulticastGroup, PartitionGroups}
-use Rattle.sa_groups.specs.Groups.{file_parameters, first_mlid}
+use Rattle.sa_model.specs.Groups.{Creator as MadeBy, GroupParameters as Parameters, Membership as MemberOf}
+use Rattle.sa_model.specs.Groups.{MulticastGroup, PartitionGroups}
+use Rattle.sa_model.specs.Groups.{file_parameters, first_mlid}
 use Rattle.sa_store.specs.declared.group.Creator.{Creator}
 use Rattle.sa_store.specs.declared.group.Creator.TheVariants.{Port, PartitionFile}
 use Rattle.sa_store.specs.declared.group.GroupParameters.{GroupParameters as Kept}

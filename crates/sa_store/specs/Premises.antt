@@ -6,7 +6,7 @@ use Rattle.partition_file.specs.declared.heading.Heading.{Heading}
 use Rattle.pkey_rules.specs.declared.key_table.TheConstants.{PARTITIONS}
 use Rattle.pkey_rules.specs.KeyTable.{same_base}
 use Rattle.subnet_model.specs.Configured.{is_known_key}
-use Rattle.sa_groups.specs.Sound.{pairwise}
+use Rattle.sa_model.specs.Sound.{pairwise}
 use Rattle.sa_store.specs.declared.node_port.NodePort.{NodePort}
 
 abbrev pub other_guid : NodePort → NodePort → Bool

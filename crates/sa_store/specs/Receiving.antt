@@ -3,11 +3,11 @@ use Rattle.std.specs.Prelude.{ℕ, ◌≡◌, ◌<◌, ◌^◌, ◌==◌, Bool, 
 use Rattle.std.specs.List.{list_any}
 use Rattle.fabric_parts.specs.NodeType.{is_switch_type}
 use Rattle.subnet_model.specs.declared.subnet_port.SubnetPort.{SubnetPort}
-use Rattle.sa_groups.specs.Groups.{Membership, PartitionGroups}
-use Rattle.sa_groups.specs.JoinState.{is_receiver, without_bits}
-use Rattle.sa_groups.specs.Joining.{is_of}
-use Rattle.sa_groups.specs.Leaving.{Leave}
-use Rattle.sa_groups.specs.Receivers.{are_same_receivers, receivers_in}
+use Rattle.sa_model.specs.Groups.{Membership, PartitionGroups}
+use Rattle.sa_model.specs.JoinState.{is_receiver, without_bits}
+use Rattle.sa_model.specs.Joining.{is_of}
+use Rattle.sa_model.specs.Leaving.{Leave}
+use Rattle.sa_model.specs.Receivers.{are_same_receivers, receivers_in}
 use Rattle.sa_store.specs.Left.{is_kept, left_by}
 use Rattle.sa_store.specs.MlidRange.{SlotGroup}
 

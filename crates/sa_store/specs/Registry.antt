@@ -5,11 +5,11 @@ use Rattle.subnet_model.specs.Configuration.{ConfigurationState}
 use Rattle.subnet_model.specs.Configured.{IsConfigured}
 use Rattle.subnet_model.specs.Delivery.{port_with_guid}
 use Rattle.subnet_model.specs.declared.subnet_port.SubnetPort.{SubnetPort}
-use Rattle.sa_groups.specs.Groups.{PartitionGroups}
-use Rattle.sa_groups.specs.Receivers.{changed_numbers}
-use Rattle.sa_services.specs.ServiceChange.{Deed, ServiceChange}
-use Rattle.sa_services.specs.Services.{PortServices, Service}
-use Rattle.sa_queries.specs.Visible.{SaState}
+use Rattle.sa_model.specs.Groups.{PartitionGroups}
+use Rattle.sa_model.specs.Receivers.{changed_numbers}
+use Rattle.sa_model.specs.ServiceChange.{Deed, ServiceChange}
+use Rattle.sa_model.specs.Services.{PortServices, Service}
+use Rattle.sa_model.specs.Visible.{SaState}
 use Rattle.sa_replies.specs.Answer.{Administration}
 use Rattle.sa_replies.specs.ServiceRequests.{after_change}
 use Rattle.sa_replies.specs.State.{IsRememberedOf}

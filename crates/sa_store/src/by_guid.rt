@@ -6,7 +6,7 @@ ghost use Rattle.indexmap.specs.IndexMap.{get};
 ghost use Rattle.pkey_rules.specs.KeyTable.{holds};
 ghost use Rattle.pkey_rules.specs.PKey.{key_of};
 ghost use Rattle.subnet_model.specs.Configured.{same_guid};
-ghost use Rattle.sa_groups.specs.Members.{is_full_member};
+ghost use Rattle.sa_model.specs.Members.{is_full_member};
 ghost use Rattle.sa_store.specs.Kept.{ports_of};
 ghost use Rattle.sa_store.specs.Receiving.{is_adapter};
 ghost use Rattle.sa_store.specs.Registry.{Finds};

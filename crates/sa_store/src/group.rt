@@ -2,7 +2,7 @@
 
 ghost use Rattle.std.specs.Prelude.{◌≡◌, true, []};
 ghost use Rattle.partition_file.specs.Sound.{fits};
-ghost use Rattle.sa_groups.specs.Groups.{Creator as MadeBy, file_parameters};
+ghost use Rattle.sa_model.specs.Groups.{Creator as MadeBy, file_parameters};
 ghost use Rattle.sa_replies.specs.State.{is_fit_group};
 ghost use Rattle.sa_store.specs.MlidRange.{parameters_of};
 
@@ -53,7 +53,7 @@ pub(crate) struct Membership {
 }
 
 impl Model for Membership {
-    ghost use Rattle.sa_groups.specs.Groups.{Membership};
+    ghost use Rattle.sa_model.specs.Groups.{Membership};
     ghost use Rattle.sa_replies.specs.Joins.{join_state_of};
 
     ghost Value = { Membership };

@@ -4,11 +4,11 @@ ghost use Rattle.std.specs.Prelude.{◌≡◌, ◌<◌, ◌≤◌, true, false, 
 ghost use Rattle.std.specs.Prelude.{nat_lt, position, slice_get, IfOk, OnOk, OnErr};
 ghost use Rattle.std.specs.List.{list_all, prefix_len};
 ghost use Rattle.std.specs.Option.{option_map_or};
-ghost use Rattle.sa_groups.specs.Anchor.{free_mlid};
-ghost use Rattle.sa_groups.specs.Groups.{lower_port};
-ghost use Rattle.sa_groups.specs.JoinState.{with_bits};
-ghost use Rattle.sa_groups.specs.Joining.{is_of, joined_group, with_created, with_member};
-ghost use Rattle.sa_groups.specs.Sound.{other_mgid, pairwise};
+ghost use Rattle.sa_model.specs.Anchor.{free_mlid};
+ghost use Rattle.sa_model.specs.Groups.{lower_port};
+ghost use Rattle.sa_model.specs.JoinState.{with_bits};
+ghost use Rattle.sa_model.specs.Joining.{is_of, joined_group, with_created, with_member};
+ghost use Rattle.sa_model.specs.Sound.{other_mgid, pairwise};
 ghost use Rattle.sa_replies.specs.Joins.{join_state_of};
 ghost use Rattle.sa_replies.specs.State.{is_fit_group};
 ghost use Rattle.sa_store.specs.MlidRange.{parameters_of};
@@ -33,7 +33,7 @@ pub struct Join {
 
 impl Model for Join {
     ghost use Rattle.std.specs.Prelude.{◌≡◌, ◌<◌, true};
-    ghost use Rattle.sa_groups.specs.Joining.{Join};
+    ghost use Rattle.sa_model.specs.Joining.{Join};
     ghost use Rattle.sa_replies.specs.Joins.{join_state_of};
     ghost use Rattle.sa_replies.specs.State.{is_fit_group};
     ghost use Rattle.sa_store.specs.MlidRange.{parameters_of};

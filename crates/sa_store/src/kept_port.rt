@@ -7,9 +7,9 @@ ghost use Rattle.sa_records.specs.NodeRecord.{node_record, node_record_bytes};
 ghost use Rattle.fabric_parts.specs.NodeType.{node_type_code};
 ghost use Rattle.pkey_rules.specs.PKey.{base_of};
 ghost use Rattle.subnet_model.specs.declared.subnet_port.SubnetPort.{SubnetPort};
-ghost use Rattle.sa_services.specs.KeyOrder.{by_base};
-ghost use Rattle.sa_queries.specs.Shown.{node_record_of};
-ghost use Rattle.sa_services.specs.ServiceChange.{Deed, has_id, has_room};
+ghost use Rattle.sa_model.specs.KeyOrder.{by_base};
+ghost use Rattle.sa_model.specs.Shown.{node_record_of};
+ghost use Rattle.sa_model.specs.ServiceChange.{Deed, has_id, has_room};
 ghost use Rattle.sa_store.specs.Deeds.{CanChange, is_of_base, services_in, with_deed};
 ghost use Rattle.sa_store.specs.Kept.{at_the_start, node_bytes};
 

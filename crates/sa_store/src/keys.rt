@@ -3,7 +3,7 @@
 ghost use Rattle.std.specs.Prelude.{◌≡◌, ◌≤◌, length, nat_le, not, IfOk, OnOk};
 ghost use Rattle.std.specs.List.{prefix_len};
 ghost use Rattle.pkey_rules.specs.PKey.{base_of};
-ghost use Rattle.sa_services.specs.KeyOrder.{by_base, with_key};
+ghost use Rattle.sa_model.specs.KeyOrder.{by_base, with_key};
 
 use pkey_rules::{KeyTable, PARTITIONS, PKey};
 use std::alloc::{AllocError, Global};

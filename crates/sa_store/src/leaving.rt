@@ -5,10 +5,10 @@ ghost use Rattle.std.specs.List.{IsDistinct, list_all, list_any};
 ghost use Rattle.indexmap.specs.IndexMap.{get};
 ghost use Rattle.subnet_model.specs.Configured.{HaveLidsInOrder, same_guid};
 ghost use Rattle.subnet_model.specs.declared.subnet_port.SubnetPort.{SubnetPort};
-ghost use Rattle.sa_groups.specs.Anchor.{anchors, is_kept as keeps};
-ghost use Rattle.sa_groups.specs.JoinState.{is_joined, is_receiver, without_bits};
-ghost use Rattle.sa_groups.specs.Leaving.{left, left_in, names_base};
-ghost use Rattle.sa_groups.specs.Sound.{is_sound, is_sound_partition, other_mgid, pairwise};
+ghost use Rattle.sa_model.specs.Anchor.{anchors, is_kept as keeps};
+ghost use Rattle.sa_model.specs.JoinState.{is_joined, is_receiver, without_bits};
+ghost use Rattle.sa_model.specs.Leaving.{left, left_in, names_base};
+ghost use Rattle.sa_model.specs.Sound.{is_sound, is_sound_partition, other_mgid, pairwise};
 ghost use Rattle.sa_replies.specs.Joins.{join_state_of};
 ghost use Rattle.sa_store.specs.Kept.{ports_of};
 ghost use Rattle.sa_store.specs.Registry.{Finds};
@@ -43,7 +43,7 @@ pub struct Leave {
 }
 
 impl Model for Leave {
-    ghost use Rattle.sa_groups.specs.Leaving.{Leave};
+    ghost use Rattle.sa_model.specs.Leaving.{Leave};
     ghost use Rattle.sa_replies.specs.Joins.{join_state_of};
 
     ghost Value = { Leave };

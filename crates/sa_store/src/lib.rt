@@ -4,7 +4,7 @@
 //! multicast groups and their memberships. For each port it has the services that the port registered, and the RMPP transfer to it
 //! that is in progress ([`KeptPort`]). Its value is that of the definitions (`specs/Registry.antt`); how it is stored is in
 //! `specs/MlidRange.antt` and `specs/Kept.antt`. It decides no request: [`Store::join`], [`Store::leave`], [`Store::set_service`]
-//! and [`Store::delete_service`] make one change each, as `sa_groups` and `sa_services` define it, and [`Store::receivers`] lists
+//! and [`Store::delete_service`] make one change each, as `sa_model` and `sa_model` define it, and [`Store::receivers`] lists
 //! who receives what is sent to the groups of a partition (`specs/Receiving.antt`; IBA volume 1, 15.2.5).
 #![tactic(auto)]
 

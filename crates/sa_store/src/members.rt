@@ -1,7 +1,7 @@
 //! Who is in a partition.
 
 ghost use Rattle.std.specs.Prelude.{◌≡◌, ◌<◌};
-ghost use Rattle.sa_groups.specs.Members.{is_in};
+ghost use Rattle.sa_model.specs.Members.{is_in};
 
 use subnet_model::SubnetPort;
 

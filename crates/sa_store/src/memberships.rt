@@ -3,10 +3,10 @@
 ghost use Rattle.std.specs.Prelude.{◌≡◌, ◌<◌, ◌&&◌, true, if◌then◌else◌, [], ◌∷◌, get_or, length};
 ghost use Rattle.std.specs.Prelude.{IfOk, IsSome, OnOk, OnErr};
 ghost use Rattle.subnet_model.specs.declared.subnet_port.SubnetPort.{SubnetPort};
-ghost use Rattle.sa_groups.specs.Groups.{PartitionGroups};
-ghost use Rattle.sa_groups.specs.Joining.{joined, may_create};
-ghost use Rattle.sa_groups.specs.Leaving.{left};
-ghost use Rattle.sa_groups.specs.Members.{is_in};
+ghost use Rattle.sa_model.specs.Groups.{PartitionGroups};
+ghost use Rattle.sa_model.specs.Joining.{joined, may_create};
+ghost use Rattle.sa_model.specs.Leaving.{left};
+ghost use Rattle.sa_model.specs.Members.{is_in};
 ghost use Rattle.sa_replies.specs.Joins.{takes_some};
 ghost use Rattle.sa_store.specs.Members.{CanJoin, receives_anew, place_with_base};
 ghost use Rattle.sa_store.specs.Receiving.{is_adapter};

@@ -3,8 +3,8 @@
 ghost use Rattle.std.specs.Prelude.{◌≡◌, ◌<◌, ◌+◌, ◌∷◌, true, None, length, replicate, IfOk};
 ghost use Rattle.partition_file.specs.Sound.{has_fit_group};
 ghost use Rattle.pkey_rules.specs.PKey.{is_base};
-ghost use Rattle.sa_groups.specs.Groups.{file_groups, first_mlid};
-ghost use Rattle.sa_groups.specs.Sound.{is_in_range};
+ghost use Rattle.sa_model.specs.Groups.{file_groups, first_mlid};
+ghost use Rattle.sa_model.specs.Sound.{is_in_range};
 ghost use Rattle.sa_store.specs.MlidRange.{file_group, partition_in};
 
 use crate::group::Group;
@@ -28,7 +28,7 @@ pub struct MlidRange {
 }
 
 impl Model for MlidRange {
-    ghost use Rattle.sa_groups.specs.Groups.{PartitionGroups};
+    ghost use Rattle.sa_model.specs.Groups.{PartitionGroups};
     ghost use Rattle.sa_store.specs.MlidRange.{AreSlots, partition_in};
 
     ghost Value = { PartitionGroups };

@@ -2,8 +2,8 @@
 
 ghost use Rattle.std.specs.Prelude.{◌≡◌, find, option_map};
 ghost use Rattle.std.specs.List.{list_any};
-ghost use Rattle.sa_groups.specs.Delivery.{receives};
-ghost use Rattle.sa_groups.specs.Joining.{has_mgid, is_of};
+ghost use Rattle.sa_model.specs.Delivery.{receives};
+ghost use Rattle.sa_model.specs.Joining.{has_mgid, is_of};
 ghost use Rattle.sa_replies.specs.Joins.{bits_of_member};
 ghost use Rattle.sa_store.specs.Members.{receives_anew, receives_by};
 ghost use Rattle.sa_store.specs.MlidRange.{with_mlid};

@@ -3,7 +3,7 @@
 ghost use Rattle.std.specs.Prelude.{◌≡◌, true, ◌==◌, not, length};
 ghost use Rattle.std.specs.List.{list_all, list_any};
 ghost use Rattle.subnet_model.specs.Configured.{IsConfigured, is_known_key};
-ghost use Rattle.sa_groups.specs.Sound.{pairwise};
+ghost use Rattle.sa_model.specs.Sound.{pairwise};
 ghost use Rattle.sa_store.specs.NodePorts.{configured};
 ghost use Rattle.sa_store.specs.Premises.{are_known_keys, are_sound, have_lids_from, other_base, other_guid};
 

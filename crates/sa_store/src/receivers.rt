@@ -3,11 +3,11 @@
 ghost use Rattle.std.specs.Prelude.{ℕ, ◌≡◌, ◌++◌, true, List, IfOk, OnOk, IsErr};
 ghost use Rattle.std.specs.List.{list_all, list_any};
 ghost use Rattle.subnet_model.specs.declared.subnet_port.SubnetPort.{SubnetPort as Port};
-ghost use Rattle.sa_groups.specs.Delivery.{receives};
-ghost use Rattle.sa_groups.specs.Groups.{lower_port};
-ghost use Rattle.sa_groups.specs.JoinState.{is_receiver};
-ghost use Rattle.sa_groups.specs.Receivers.{group_receivers, receivers_in, receivers_of, receives_group};
-ghost use Rattle.sa_groups.specs.Sound.{pairwise};
+ghost use Rattle.sa_model.specs.Delivery.{receives};
+ghost use Rattle.sa_model.specs.Groups.{lower_port};
+ghost use Rattle.sa_model.specs.JoinState.{is_receiver};
+ghost use Rattle.sa_model.specs.Receivers.{group_receivers, receivers_in, receivers_of, receives_group};
+ghost use Rattle.sa_model.specs.Sound.{pairwise};
 ghost use Rattle.sa_replies.specs.Joins.{join_state_of};
 ghost use Rattle.sa_store.specs.Kept.{ports_of};
 ghost use Rattle.sa_store.specs.Receiving.{ReportsAdapters, is_receiving};

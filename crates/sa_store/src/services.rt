@@ -3,8 +3,8 @@
 ghost use Rattle.std.specs.Prelude.{◌≡◌, ◌≤◌, true, false, [], length, map, nat_lt, slice_get, IfOk, OnOk, OnErr};
 ghost use Rattle.std.specs.List.{list_any, prefix_len};
 ghost use Rattle.std.specs.Option.{option_map_or};
-ghost use Rattle.sa_groups.specs.Sound.{pairwise};
-ghost use Rattle.sa_services.specs.ServiceChange.{Deed, after_deed, has_id, has_room, lower_id, without_service};
+ghost use Rattle.sa_model.specs.Sound.{pairwise};
+ghost use Rattle.sa_model.specs.ServiceChange.{Deed, after_deed, has_id, has_room, lower_id, without_service};
 ghost use Rattle.sa_store.specs.Kept.{no_place};
 
 use pkey_rules::PKey;
@@ -26,7 +26,7 @@ pub struct Service {
 }
 
 impl Model for Service {
-    ghost use Rattle.sa_services.specs.Services.{Service};
+    ghost use Rattle.sa_model.specs.Services.{Service};
 
     ghost Value = { Service };
 

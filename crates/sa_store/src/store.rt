@@ -7,14 +7,14 @@ ghost use Rattle.indexmap.specs.IndexMap.{get};
 ghost use Rattle.partition_file.specs.Members.{AreSoundHeadings};
 ghost use Rattle.subnet_model.specs.Configured.{IsConfigured};
 ghost use Rattle.subnet_model.specs.declared.subnet_port.SubnetPort.{SubnetPort};
-ghost use Rattle.sa_groups.specs.Groups.{start_from};
+ghost use Rattle.sa_model.specs.Groups.{start_from};
 ghost use Rattle.sa_replies.specs.State.{IsRememberedOf, at_start, is_fit_service};
 ghost use Rattle.sa_replies.specs.Transfers.{table_of, with_table};
 ghost use Rattle.subnet_model.specs.Delivery.{port_with_guid};
 ghost use Rattle.sa_store.specs.NodePorts.{all_with_keys, configured};
 ghost use Rattle.sa_store.specs.Kept.{at_the_start, ports_of, services_of};
 ghost use Rattle.pkey_rules.specs.KeyTable.{has_base};
-ghost use Rattle.sa_services.specs.ServiceChange.{has_id, has_room};
+ghost use Rattle.sa_model.specs.ServiceChange.{has_id, has_room};
 ghost use Rattle.sa_replies.specs.ServiceRequests.{services_at};
 ghost use Rattle.sa_store.specs.Registry.{Finds, IsRequester, configuration_in, deleted_by, of_guid, of_lid, of_port, place_with_guid, set_by, with_change};
 

@@ -1,15 +1,16 @@
 -- A record that asks by one field more: its bytes are those before with the value at the field's place.
-use Rattle.std.proofs.Common.{◌≡◌, ℕ, ◌+◌, ◌*◌, ◌-◌, ◌^◌, ◌<◌, ◌≤◌, ◌==◌, Bool, true, false, not, ◌&&◌, nat_le, nat_lt, if◌then◌else◌, List, [], ◌∷◌, ◌++◌, length, map, replicate, take, drop}
+use Rattle.std.proofs.Common.{◌≡◌, ℕ, ◌+◌, ◌*◌, ◌-◌, ◌^◌, ◌<◌, ◌≤◌, ◌==◌, Bool, true, not, ◌&&◌, nat_le, nat_lt, if◌then◌else◌, List, [], ◌∷◌, ◌++◌, length, map, replicate, take, drop}
 use Rattle.std.proofs.Common.{Option, Some, None, Result, Ok, IfSome, option_map, refl, sym, ◌∙◌, ap, subst, arith, ◌⊎◌, inl, inr}
 use Rattle.std.specs.Int.Digits.{AllBelowBase}
 use Rattle.std.specs.List.{find, list_all}
 use Rattle.std.specs.Option.{option_or}
 use Rattle.std.specs.Str.{bytes_eq}
-use Rattle.std.proofs.lemmas.Bool.{and_parts, cases_Bool, false≢true, leb-true, ltb-true}
+use Rattle.std.proofs.lemmas.Bool.{and_parts, cases_Bool, leb-true, ltb-true}
 use Rattle.std.proofs.lemmas.List.{length-replicate, length-take-le}
 use Rattle.std.proofs.lemmas.List.Folds.{find-append}
 use Rattle.std.proofs.lemmas.Option.{none-some, same_Some}
 use Rattle.std.proofs.lemmas.Slice.Eq.{bytes_eq-Decides}
+use Rattle.step_results.proofs.BoolLemmas.{not_true}
 use Rattle.mad_layout.specs.Bits.{number, put_field}
 use Rattle.mad_layout.specs.Layout.{Field, Fits, at, is_layout, put_all}
 use Rattle.mad_layout.proofs.AlignedLemmas.{put_aligned}
@@ -76,10 +77,6 @@ encoded_long size layout = length-put_all (replicate size 0) layout ∙ length-r
 -- the field lies in the record, and is one of its layout's
 unfoldable is_in : ℕ → List Field → Asked → Bool
 is_in size layout one = nat_le (one.off + one.len) (8 * size) && stands one.off one.len layout
-
-not_true : (b : Bool) → not b ≡ true → b ≡ false
-not_true false is = refl
-not_true true is = absurd (false≢true is)
 
 -- ---- a field of the layout
 abbrev Puts : ℕ → List Field → List Field → Named → Type 0

@@ -6,7 +6,7 @@ use Rattle.step_results.specs.Steps.{◌>>=◌}
 use Rattle.text_words.specs.Failure.{is_failure}
 use Rattle.text_words.specs.Lines.{lines}
 use Rattle.dump_file.specs.Dump.{is_passed_over}
-use Rattle.dump_file.specs.Parts.{trimmed}
+use Rattle.text_words.specs.Cut.{trimmed}
 use Rattle.sl2vl_file.specs.declared.fault.LanesCause.{LanesCause}
 use Rattle.sl2vl_file.specs.declared.fault.LanesCause.TheVariants.{Malformed, DuplicateRow, DirectedRoute, MissingField, Empty}
 use Rattle.sl2vl_file.specs.declared.path.PathFields.{PathFields}

@@ -3,26 +3,10 @@
 ghost use Rattle.std.specs.Prelude.{◌≡◌, ◌≤◌, Ok, IfOk};
 ghost use Rattle.step_results.specs.Gives.{seen_by};
 ghost use Rattle.text_words.specs.Cut.{both};
-ghost use Rattle.dump_file.specs.Dump.{is_passed_over};
-ghost use Rattle.dump_file.specs.Parts.{trimmed};
 ghost use Rattle.sl2vl_file.specs.Parts.{behind, cut, lid_in, port_in, sl_in, unpadded};
 
 use crate::fault::LanesCause;
 use text_words::{cut_at, digits_in};
-
-/// A line without what ends it, and without the blanks before that.
-pub(crate) fn trimmed(line: &[u8]) -> &[u8]
-    ensures { result.now ≡ trimmed line.now }
-{
-    line.trim_ascii_end()
-}
-
-/// Whether nothing stands on a line, or a comment.
-pub(crate) fn is_passed_over(text: &[u8]) -> bool
-    ensures { result ≡ is_passed_over text.now }
-{
-    text.is_empty() || text.starts_with(b"#")
-}
 
 /// What stands behind this beginning of a text.
 pub(crate) fn behind<'a>(first: &[u8], text: &'a [u8]) -> Result<&'a [u8], LanesCause>

@@ -11,12 +11,13 @@ ghost use Rattle.sl2vl_file.specs.Sound.{IsSound, has_low_sl, is_low_stage};
 use crate::draft::Draft;
 use crate::fault::{LanesCause, LanesFault};
 use crate::lanes::Lanes;
-use crate::parts::{behind, is_passed_over, lid_in, trimmed};
+use crate::parts::{behind, lid_in};
 use crate::path::PathFields;
 use crate::stage::Stage;
+use dump_file::is_passed_over;
 use std::alloc::Global;
 use step_results::LineError;
-use text_words::{LineReader, is_failure, read_lines};
+use text_words::{LineReader, is_failure, read_lines, trimmed};
 
 fn is_table_heading(text: &[u8]) -> bool
     ensures { result ≡ is_table_heading text.now }

@@ -14,9 +14,8 @@ use mad_layout::Mad;
 use script_lines::mad_in;
 use smp_wire::SmpWire;
 use std::alloc::{AllocError, Global};
-use text_parts::digits_of;
 use text_streams::{Output, Reader, read_line, write_whole};
-use text_words::Words;
+use text_words::{Words, digits_of};
 
 /// Answers SMPs that are read as lines, each before the next line is read: what the fabric replies at the SM port is written
 /// and flushed as a line `256:HEX`, or `none`. Empty lines and comments are passed over.

@@ -6,7 +6,7 @@ ghost use Rattle.smp_lines.specs.Place.{attribute_text, hop_text, name_of, path_
 use attr_tables::SmpAttribute;
 use mad_layout::{DrSmp, Header, Mad};
 use std::alloc::{AllocError, Global};
-use text_parts::push_decimal;
+use text_words::push_decimal;
 
 /// Where a directed-route SMP goes, and what it asks for: `path 0,1,3 PortInfo 2`, with the path as `smpquery -D` takes it, the
 /// attribute, and its modifier.

@@ -24,10 +24,11 @@ use Rattle.smp_wire.specs.declared.node.Node.TheVariants.{Switch, Adapter}
 use Rattle.smp_wire.specs.Changes.{AdapterChangesAtMost, NodeChangesAtMost, NodesChangeAtMost}
 use Rattle.smp_wire.specs.FabricState.{FabricState, adapter_port, adapter_ports_after, after_at, node_after, node_reply, nodes_after, reply_at}
 use Rattle.smp_wire.specs.Good.{IsGood}
-use Rattle.smp_wire.specs.Walk.{arrived, exchange_after, exchange_reply, last_of, returned, walk_of}
+use Rattle.smp_wire.specs.Walk.{arrived, exchange_after, exchange_reply, returned, walk_of}
 use Rattle.smp_wire.proofs.ReplyLemmas.{replies, returned_field}
 use Rattle.smp_wire.proofs.WalkedLemmas.{carried, no_walk_after, walk_after, walk_reply}
 use Rattle.step_results.proofs.ElementLemmas.{get_other, get_written, set_back}
+use Rattle.fabric_parts.specs.Cable.{last_of}
 
 -- ---- what changes no agent changes no node
 pub record ChangesNothing (smp : List ℕ) : Type 0 where

@@ -15,3 +15,13 @@ pub mod PortLemmas
 pub mod ReportLemmas
 pub mod SetLemmas
 pub mod AskLemmas
+pub mod WayLemmas
+pub mod DeliveryLemmas
+pub mod KeyLemmas
+pub mod FreeLemmas
+pub mod ByLidLemmas
+pub mod ByMlidLemmas
+pub mod ExampleFreeLemmas
+pub mod DeliveryExampleLemmas
+pub mod ExampleMlidLemmas
+pub mod IdleLemmas

@@ -2,11 +2,13 @@
 use Rattle.std.proofs.Common.{ℕ, arith, ◌≡◌, ◌∙◌, ◌==◌, ◌&&◌, ap, refl, Bool, true, false, List, [], ◌∷◌, ◌++◌, length, Option, Some, None, option_map}
 use Rattle.std.specs.Option.{option_and_then}
 use Rattle.std.proofs.lemmas.Bool.Decides.{nat_tests}
+use Rattle.step_results.proofs.BoolLemmas.{and_true}
+use Rattle.fabric_parts.specs.Cable.{last_of}
 use Rattle.fabric_parts.specs.declared.cable.Cable.{Cable}
 use Rattle.fabric_parts.specs.declared.cable.PortRef.{PortRef}
 use Rattle.smp_wire.specs.declared.node.Node.{Node}
 use Rattle.smp_wire.specs.Laws.{PathsBegin, PathsGoOn, WalksGoOn}
-use Rattle.smp_wire.specs.Walk.{hop, last_of, walk}
+use Rattle.smp_wire.specs.Walk.{hop, walk}
 
 -- one hop more at the end of a walk
 abbrev more : List Node → List Cable → Bool → PortRef → ℕ → Option (List PortRef) → Option (List PortRef)
@@ -21,10 +23,6 @@ one_hop (Some there) = refl
 no_start : (starts : Bool) (first : ℕ) (numbers : List ℕ) → starts && (length (first ∷ numbers) == 0) ≡ false
 no_start true first numbers = grind (arith, nat_tests)
 no_start false first numbers = refl
-
-as_first : (starts : Bool) → starts && true ≡ starts
-as_first true = refl
-as_first false = refl
 
 joined : (there : PortRef) (ends : List PortRef) (next : Option PortRef)
     → option_map (λ later. there ∷ later) (option_map (λ last. ends ++ last ∷ []) next) ≡ option_map (λ last. (there ∷ ends) ++ last ∷ []) next
@@ -46,7 +44,7 @@ by_first nodes cables here numbers number (Some there) each =
     ap (option_map (λ later. there ∷ later)) (each there) ∙ after_first nodes cables here there number (walk nodes cables false there numbers)
 
 pub walks_go_on : WalksGoOn
-walks_go_on nodes cables starts here [] number = rw (as_first starts) (one_hop (hop nodes cables starts here number))
+walks_go_on nodes cables starts here [] number = rw (and_true starts) (one_hop (hop nodes cables starts here number))
 walks_go_on nodes cables starts here (first ∷ numbers) number =
     rw (no_start starts first numbers) (by_first nodes cables here numbers number (hop nodes cables starts here first) (λ there. walks_go_on nodes cables false there numbers number))
 

@@ -9,6 +9,7 @@ use Rattle.mad_layout.specs.Layout.{at, is_apart, is_free}
 use Rattle.mad_layout.proofs.AlignedLemmas.{byte_is_set}
 use Rattle.mad_layout.proofs.LayoutLemmas.{field-put_apart, field-put_same, length-put_field}
 use Rattle.std.proofs.lemmas.List.{length-set}
+use Rattle.fabric_parts.specs.Cable.{last_of}
 use Rattle.agent_rules.specs.Request.{reply_method}
 use Rattle.agent_rules.proofs.UnseenLemmas.{apart_parts}
 use Rattle.fabric_parts.specs.declared.cable.PortRef.{PortRef}
@@ -16,7 +17,7 @@ use Rattle.smp_wire.specs.FabricState.{FabricState, reply_at}
 use Rattle.smp_wire.specs.Good.{IsGood}
 use Rattle.smp_wire.specs.Laws.{RepliesAnswer}
 use Rattle.smp_wire.specs.Replies.{IsReplyTo, answers, is_same_field}
-use Rattle.smp_wire.specs.Walk.{arrived, exchange_reply, last_of, returned, walk_of}
+use Rattle.smp_wire.specs.Walk.{arrived, exchange_reply, returned, walk_of}
 use Rattle.smp_wire.proofs.ArrivalLemmas.{IsCarrier, put_below}
 use Rattle.smp_wire.proofs.ReplyLemmas.{IsReply, replies, returned_field}
 use Rattle.smp_wire.proofs.WalkedLemmas.{carried, no_walk_reply, walk_reply}

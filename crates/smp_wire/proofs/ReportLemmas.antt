@@ -3,6 +3,7 @@ use Rattle.std.proofs.Common.{ℕ, ◌≡◌, ◌==◌, ◌∙◌, ap, refl, sym
 use Rattle.std.specs.Int.Digits.{AllBelowBase}
 use Rattle.std.specs.Option.{option_and_then}
 use Rattle.std.proofs.lemmas.List.{length-set}
+use Rattle.fabric_parts.specs.Cable.{last_of}
 use Rattle.mad_layout.specs.Bits.{field, number, put_field}
 use Rattle.mad_layout.specs.MadStatus.{mad_status_code}
 use Rattle.mad_layout.specs.declared.method.Method.{Method}
@@ -30,7 +31,7 @@ use Rattle.smp_wire.specs.Get.{Reads, gives_at, node_gives}
 use Rattle.smp_wire.specs.Good.{IsGood}
 use Rattle.smp_wire.specs.Replies.{answers, reported_by, reported_for, reported_of}
 use Rattle.smp_wire.specs.Requests.{AsksFor, AsksToGet}
-use Rattle.smp_wire.specs.Walk.{arrived, exchange_reply, last_of, returned, walk, walk_of}
+use Rattle.smp_wire.specs.Walk.{arrived, exchange_reply, returned, walk, walk_of}
 use Rattle.smp_wire.proofs.ArrivalLemmas.{IsCarrier, put_below}
 use Rattle.smp_wire.proofs.ChangeLemmas.{nodes_stay, unset}
 use Rattle.smp_wire.proofs.GivenLemmas.{AreAttributes, attributes_given, nothing_given}

@@ -24,11 +24,12 @@ use Rattle.smp_wire.specs.Good.{IsGood}
 use Rattle.smp_wire.specs.Replies.{reported_for, reported_of}
 use Rattle.smp_wire.specs.Requests.{AsksToSet}
 use Rattle.smp_wire.specs.Set.{SetReports, node_takes, takes_along}
-use Rattle.smp_wire.specs.Walk.{arrived, exchange_after, last_of, returned, walk}
+use Rattle.smp_wire.specs.Walk.{arrived, exchange_after, returned, walk}
 use Rattle.smp_wire.proofs.ArrivalLemmas.{IsCarrier}
 use Rattle.smp_wire.proofs.GivenLemmas.{AreAttributes, attributes_given, nothing_given}
 use Rattle.smp_wire.proofs.KeptLemmas.{after_exchange, good, walk_same}
 use Rattle.step_results.proofs.ElementLemmas.{get_written, set_back}
+use Rattle.fabric_parts.specs.Cable.{last_of}
 use Rattle.smp_wire.proofs.ReportLemmas.{IsAsked, set_asked, reported_is, walk_is}
 use Rattle.smp_wire.proofs.WalkedLemmas.{carried, no_walk_after, no_walk_reply, walk_after, walk_reply}
 

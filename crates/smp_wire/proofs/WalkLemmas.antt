@@ -7,12 +7,13 @@ use Rattle.std.proofs.lemmas.Bool.{and_parts, eqb-true}
 use Rattle.std.proofs.lemmas.Bool.Decides.{nat_tests}
 use Rattle.std.proofs.lemmas.List.{get_or-drop, get_or-take, length-drop, length-take-le}
 use Rattle.std.specs.Option.{option_and_then}
+use Rattle.fabric_parts.specs.Cable.{last_of}
 use Rattle.smp_route.specs.HopFields.{count, initial_port, is_outgoing, pointer, with_pointer, with_return_port}
 use Rattle.fabric_parts.specs.declared.cable.Cable.{Cable}
 use Rattle.fabric_parts.specs.declared.cable.PortRef.{PortRef}
 use Rattle.smp_wire.specs.declared.node.Node.{Node}
 use Rattle.smp_wire.specs.declared.walking.Arrival.{Arrival}
-use Rattle.smp_wire.specs.Walk.{arrival_of, hop, is_sent, last_of, path_of, walk, with_return_ports}
+use Rattle.smp_wire.specs.Walk.{arrival_of, hop, is_sent, path_of, walk, with_return_ports}
 
 abbrev pub follow : List Node → List Cable → Bool → PortRef → ℕ → List ℕ → List ℕ → Option (PortRef × List ℕ)
 follow nodes cables starts here k [] smp = Some (here, smp)

@@ -1,10 +1,11 @@
 -- What an exchange gives and leaves, by its walk.
 use Rattle.std.proofs.Common.{ℕ, ◌≡◌, ◌∙◌, refl, Bool, true, false, if◌then◌else◌, List, length, Some, None, option_map}
 use Rattle.std.specs.Int.Digits.{AllBelowBase}
+use Rattle.fabric_parts.specs.Cable.{last_of}
 use Rattle.fabric_parts.specs.declared.cable.PortRef.{PortRef}
 use Rattle.smp_wire.specs.FabricState.{FabricState, after_at, reply_at}
 use Rattle.smp_wire.specs.Good.{IsGood}
-use Rattle.smp_wire.specs.Walk.{arrived, exchange_after, exchange_reply, is_sent, last_of, path_of, returned, walk, walk_of}
+use Rattle.smp_wire.specs.Walk.{arrived, exchange_after, exchange_reply, is_sent, path_of, returned, walk, walk_of}
 use Rattle.smp_wire.proofs.ArrivalLemmas.{IsCarrier, arrived_carries, walks_right}
 use Rattle.smp_wire.proofs.WalkLemmas.{path_length, sent_parts}
 

@@ -1,6 +1,7 @@
 -- What an exchange may change of a fabric: at most the node at the end of its walk, and of that at most what the
 -- SMP names.
 use Rattle.std.specs.Prelude.{ℕ, ◌≡◌, ◌≢◌, false, List, length, slice_get, Some, None}
+use Rattle.fabric_parts.specs.Cable.{last_of}
 use Rattle.mad_layout.specs.Bits.{field}
 use Rattle.agent_rules.specs.Request.{is_set}
 use Rattle.port_model.specs.AdapterState.{AdapterState}
@@ -10,7 +11,7 @@ use Rattle.fabric_parts.specs.declared.cable.PortRef.{PortRef}
 use Rattle.smp_wire.specs.declared.node.Node.{Node}
 use Rattle.smp_wire.specs.declared.node.Node.TheVariants.{Switch, Adapter}
 use Rattle.smp_wire.specs.FabricState.{FabricState, adapter_port}
-use Rattle.smp_wire.specs.Walk.{exchange_reply, last_of, walk_of}
+use Rattle.smp_wire.specs.Walk.{exchange_reply, walk_of}
 
 -- the ports of a channel adapter: the one that was asked changes at most in what the SMP names, the others stay
 pub record AdapterChangesAtMost (number : ℕ) (smp : List ℕ) (old new : List AdapterState) : Type 0 where

@@ -15,12 +15,12 @@ use Rattle.switch_model.specs.Good.{IsGoodSwitch}
 use Rattle.fabric_parts.specs.declared.cable.Cable.{Cable}
 use Rattle.fabric_parts.specs.declared.cable.PortRef.{PortRef}
 use Rattle.fabric_parts.specs.declared.node_type.NodeType.TheVariants as node_type
-use Rattle.fabric_parts.specs.Cable.{is_cabled, is_same_port}
+use Rattle.fabric_parts.specs.Cable.{is_cabled, is_same_port, last_of}
 use Rattle.fabric_parts.specs.NodeType.{most_ports}
 use Rattle.smp_wire.specs.declared.node.Node.{Node}
 use Rattle.smp_wire.specs.declared.node.Node.TheVariants.{Switch, Adapter}
 use Rattle.smp_wire.specs.FabricState.{FabricState, adapter_port, all_cables, is_port, is_switch_at, port_count}
-use Rattle.smp_wire.specs.Walk.{last_of, walk}
+use Rattle.smp_wire.specs.Walk.{walk}
 
 -- ---- GUIDs
 -- the GUID of a node; the ports of an adapter all hold it

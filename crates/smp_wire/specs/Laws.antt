@@ -12,11 +12,11 @@ use Rattle.smp_wire.specs.Replies.{IsReplyTo}
 use Rattle.smp_wire.specs.Requests.{AsksToGet, AsksToSet}
 use Rattle.smp_wire.specs.Set.{SetReports}
 use Rattle.smp_wire.specs.Shape.{IsSameShape}
-use Rattle.smp_wire.specs.Walk.{end_of, exchange_after, exchange_reply, hop, last_of, walk}
+use Rattle.smp_wire.specs.Walk.{end_of, exchange_after, exchange_reply, hop, walk}
 use Rattle.smp_wire.specs.declared.node.Node.{Node}
 use Rattle.fabric_parts.specs.declared.cable.Cable.{Cable}
 use Rattle.fabric_parts.specs.declared.cable.PortRef.{PortRef}
-use Rattle.fabric_parts.specs.Cable.{far_end, is_cabled}
+use Rattle.fabric_parts.specs.Cable.{far_end, is_cabled, last_of}
 use Rattle.std.specs.Option.{option_and_then}
 
 -- whatever SMP is sent, a good fabric stays good

@@ -9,3 +9,10 @@ pub mod Set
 pub mod Changes
 pub mod Laws
 pub use Rattle.smp_route.specs.HopFields
+pub mod Deliveries
+pub mod Unicast
+pub mod Forwards
+pub mod Groups
+pub mod DeliveryLaws
+pub mod DeliveryExamples
+pub mod DeliveryWrongRules

@@ -7,7 +7,7 @@ use Rattle.fabric_parts.specs.declared.cable.PortRef.{PortRef}
 use Rattle.fabric_parts.specs.declared.cable.Cable.{Cable}
 use Rattle.smp_wire.specs.declared.node.Node.{Node}
 use Rattle.smp_wire.specs.declared.walking.Arrival.{Arrival}
-use Rattle.fabric_parts.specs.Cable.{far_end}
+use Rattle.fabric_parts.specs.Cable.{far_end, last_of}
 use Rattle.smp_wire.specs.FabricState.{FabricState, after_at, is_port, is_switch_at, reply_at}
 
 -- an SMP leaves the node that it starts from; on its way only switches hand it on
@@ -28,11 +28,6 @@ walk nodes cables starts here [] = Some []
 walk nodes cables starts here (number ∷ numbers) =
     option_and_then (λ there. option_map (λ ends. there ∷ ends) (walk nodes cables false there numbers))
     (hop nodes cables starts here number)
-
--- where the walk ends; without a hop, at the port that it starts from
-abbrev pub last_of : PortRef → List PortRef → PortRef
-last_of here [] = here
-last_of here (there ∷ ends) = last_of there ends
 
 -- where a path from the SM port leads, by which the SMP comes in there
 abbrev pub end_of : FabricState → List ℕ → Option PortRef

@@ -3,11 +3,11 @@ use Rattle.std.proofs.Common.{ℕ, suc, ◌+◌, ◌<◌, ◌≡◌, ◌∙◌, 
 use Rattle.fabric_wire.specs.Cabling.{CablingState, uncut}
 use Rattle.fabric_wire.specs.Recabling.{cabling_of}
 use Rattle.step_results.specs.Gives.{Fails}
-use Rattle.sa_fabric.proofs.ServeLemmas.{one_fabric_is_served}
-use Rattle.sa_fabric.specs.Served.{IsServed}
+use Rattle.subnet_core.proofs.ServeLemmas.{one_fabric_is_served}
+use Rattle.subnet_core.specs.Served.{IsServed}
 use Rattle.sa_replies.specs.Answer.{Administration}
-use Rattle.sa_runs.specs.Administration.{subnet_administration}
-use Rattle.sa_runs.specs.Laws.{remembered_after}
+use Rattle.sa_replies.specs.Administration.{subnet_administration}
+use Rattle.sa_replies.specs.RunLaws.{remembered_after}
 use Rattle.script_lines.specs.Script.{commands_in}
 use Rattle.smp_wire.specs.FabricState.{FabricState}
 use Rattle.subnet_core.proofs.BringUpLemmas.{fails_mapped, mapped, same_inventory}

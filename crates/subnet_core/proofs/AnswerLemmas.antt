@@ -5,16 +5,16 @@ use Rattle.std.proofs.lemmas.Bool.Decides.{nat_tests}
 use Rattle.std.proofs.lemmas.Option.{none-some, same_Some}
 use Rattle.data_packet.specs.declared.packet.Packet.{Packet}
 use Rattle.fabric_parts.specs.Lid.{is_reserved}
-use Rattle.delivery_laws.specs.Deliveries.{DeliveryState}
+use Rattle.smp_wire.specs.Deliveries.{DeliveryState}
 use Rattle.partition_file.proofs.MemberLemmas.{sound_headings}
 use Rattle.pkey_rules.specs.KeyTable.{holds}
 use Rattle.sa_answer.specs.Answering.{Answers, answer_from, answer_to_port}
 use Rattle.sa_store.specs.Registry.{RegistryState}
-use Rattle.sa_fabric.proofs.ListedLemmas.{a_served_fabric_is_as_listed}
-use Rattle.sa_fabric.proofs.StartLemmas.{starts_are_served}
-use Rattle.sa_fabric.specs.Served.{IsServed, Serves}
-use Rattle.sa_groups.specs.Delivery.{is_receiver_of}
-use Rattle.sa_groups.specs.Groups.{start_of}
+use Rattle.subnet_core.proofs.ListedLemmas.{a_served_fabric_is_as_listed}
+use Rattle.subnet_core.proofs.StartLemmas.{starts_are_served}
+use Rattle.subnet_core.specs.Served.{IsServed, Serves}
+use Rattle.sa_model.specs.Delivery.{is_receiver_of}
+use Rattle.sa_model.specs.Groups.{start_of}
 use Rattle.sa_replies.proofs.OpenTableLemmas.{answers_keep_states, starts_are_states}
 use Rattle.sa_replies.specs.Answer.{Administration, Answered, answer}
 use Rattle.sa_replies.specs.State.{IsStateOf, at_start}
@@ -36,14 +36,14 @@ use Rattle.subnet_model.specs.declared.command.SendCommand.{SendCommand}
 use Rattle.subnet_model.specs.declared.event.Outcome.TheVariants.{Received}
 use Rattle.subnet_model.specs.declared.event.PortEvent.{PortEvent}
 use Rattle.subnet_model.specs.declared.subnet_port.SubnetPort.{SubnetPort}
-use Rattle.subnet_ports.proofs.ConfiguredLemmas.{is_configured}
-use Rattle.subnet_ports.specs.Ports.{configuration_of, ports_of}
-use Rattle.subnet_sends.proofs.ListLemmas.{found_among}
-use Rattle.subnet_sends.proofs.ReplyLemmas.{requests_come_to_the_manager}
-use Rattle.subnet_sends.specs.Laws.{IsSender, reported}
-use Rattle.subnet_sends.specs.OfFabric.{IsFabricOf}
-use Rattle.subnet_sends.specs.Replies.{IsRequestOf, RepliesAreAsListed, received_under}
-use Rattle.subnet_sends.specs.Sends.{event_of}
+use Rattle.subnet_fabric.proofs.ConfiguredLemmas.{is_configured}
+use Rattle.subnet_fabric.specs.Ports.{configuration_of, ports_of}
+use Rattle.subnet_fabric.proofs.ListLemmas.{found_among}
+use Rattle.subnet_fabric.proofs.ReplyLemmas.{requests_come_to_the_manager}
+use Rattle.subnet_fabric.specs.SendLaws.{IsSender, reported}
+use Rattle.subnet_fabric.specs.OfFabric.{IsFabricOf}
+use Rattle.subnet_fabric.specs.Replies.{IsRequestOf, RepliesAreAsListed, received_under}
+use Rattle.subnet_fabric.specs.Sends.{event_of}
 use Rattle.topo_file.specs.Topology.{TopologyState}
 use Rattle.updn_routes.specs.Subnet.{RoutesState}
 

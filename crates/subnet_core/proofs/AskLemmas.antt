@@ -5,12 +5,12 @@ use Rattle.std.proofs.lemmas.List.{append-nil, append_assoc, map-append}
 use Rattle.data_packet.specs.declared.refusal.Refusal.{Refusal}
 use Rattle.fabric_parts.specs.declared.cable.PortRef.{PortRef}
 use Rattle.fabric_wire.specs.Recabling.{cabling_of}
-use Rattle.delivery_laws.specs.Deliveries.{HasPort, adapter_at}
+use Rattle.smp_wire.specs.Deliveries.{HasPort, adapter_at}
 use Rattle.port_model.specs.AdapterState.{AdapterState}
 use Rattle.sa_store.specs.Registry.{RegistryState}
 use Rattle.sa_replies.specs.Answer.{Administration, Answered, answer}
-use Rattle.sa_runs.specs.Administration.{subnet_administration}
-use Rattle.sa_runs.specs.Asking.{acknowledgements}
+use Rattle.sa_replies.specs.Administration.{subnet_administration}
+use Rattle.sa_replies.specs.Asking.{acknowledgements}
 use Rattle.smp_wire.specs.FabricState.{FabricState}
 use Rattle.subnet_core.specs.Answering.{AnswersUnder, AsksOnce, AsksUnder, IsStep, StepsTo}
 use Rattle.subnet_core.specs.BringUp.{Stands}
@@ -23,10 +23,10 @@ use Rattle.subnet_model.specs.declared.command.AskCommand.{AskCommand}
 use Rattle.subnet_model.specs.declared.command.Command.TheVariants.{Ask}
 use Rattle.subnet_model.specs.declared.event.PortEvent.{PortEvent}
 use Rattle.subnet_model.specs.declared.subnet_port.SubnetPort.{SubnetPort}
-use Rattle.subnet_sends.specs.Laws.{IsSender}
-use Rattle.subnet_sends.specs.Sends.{asked_as, event_of, given_to_ask}
-use Rattle.subnet_sends.specs.declared.event.Event.{Event}
-use Rattle.subnet_sends.specs.declared.event.Event.TheVariants.{Refused}
+use Rattle.subnet_fabric.specs.SendLaws.{IsSender}
+use Rattle.subnet_fabric.specs.Sends.{asked_as, event_of, given_to_ask}
+use Rattle.subnet_fabric.specs.declared.event.Event.{Event}
+use Rattle.subnet_fabric.specs.declared.event.Event.TheVariants.{Refused}
 use Rattle.updn_routes.specs.Subnet.{RoutesState}
 
 -- the key under which what a port asks is answered, if it is

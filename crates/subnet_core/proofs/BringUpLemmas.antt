@@ -16,10 +16,10 @@ use Rattle.subnet_fabric.specs.BringUp.{HasNoPath, BroughtUpState}
 use Rattle.subnet_fabric.specs.SetUp.{AreAssigned, IsLaidOut}
 use Rattle.subnet_fabric.proofs.ListedLemmas.{numbers_of}
 use Rattle.subnet_model.specs.declared.subnet_port.SubnetPort.{SubnetPort}
-use Rattle.subnet_ports.proofs.EndPortLemmas.{end_ports_stand_in_order}
-use Rattle.subnet_ports.proofs.GraphPortLemmas.{sweeps_find_what_is_listed}
+use Rattle.subnet_fabric.proofs.EndPortLemmas.{end_ports_stand_in_order}
+use Rattle.subnet_fabric.proofs.GraphPortLemmas.{sweeps_find_what_is_listed}
 use Rattle.subnet_model.specs.Configured.{HaveLidsInOrder}
-use Rattle.subnet_ports.specs.Ports.{ports_of}
+use Rattle.subnet_fabric.specs.Ports.{ports_of}
 use Rattle.sweep.specs.Graph.{GraphState}
 use Rattle.updn_routes.specs.Routes.{home_of}
 use Rattle.updn_routes.specs.Subnet.{home_in, homes_of}

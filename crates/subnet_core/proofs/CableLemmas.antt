@@ -2,7 +2,7 @@
 use Rattle.std.proofs.Common.{◌≡◌, ap, refl, subst, sym, Bool, false, List, [], map}
 use Rattle.fabric_wire.specs.Recabling.{cabling_of}
 use Rattle.sa_store.specs.Registry.{RegistryState}
-use Rattle.sa_fabric.specs.Served.{IsServed, Serves}
+use Rattle.subnet_core.specs.Served.{IsServed, Serves}
 use Rattle.smp_wire.specs.FabricState.{FabricState}
 use Rattle.subnet_core.specs.Answering.{IsNext, StepsTo}
 use Rattle.subnet_core.specs.BringUp.{Stands, SubnetState}
@@ -14,8 +14,8 @@ use Rattle.subnet_model.specs.Configuration.{ConfigurationState}
 use Rattle.subnet_model.specs.declared.command.CableCommand.{CableCommand}
 use Rattle.subnet_model.specs.declared.command.Command.{Command}
 use Rattle.subnet_model.specs.declared.command.Command.TheVariants.{Ask, Cable, Send}
-use Rattle.subnet_sends.specs.Sends.{event_of}
-use Rattle.subnet_sends.specs.declared.event.Event.{Event}
+use Rattle.subnet_fabric.specs.Sends.{event_of}
+use Rattle.subnet_fabric.specs.declared.event.Event.{Event}
 use Rattle.updn_routes.specs.Subnet.{RoutesState}
 
 module _ (inventory : InventoryState) (routes : RoutesState) (registry : RegistryState) (was : FabricState) (stands : Stands inventory routes registry was)

@@ -14,7 +14,7 @@ use Rattle.step_results.specs.Steps.{◌>>=◌}
 use Rattle.rmpp_core.proofs.ReadBackLemmas.{reply_below}
 use Rattle.subnet_model.specs.declared.command.Command.{Command}
 use Rattle.subnet_model.specs.declared.command.Command.TheVariants.{Ask, Send}
-use Rattle.sa_runs.specs.RunData.{CarriesBytes}
+use Rattle.sa_replies.specs.RunData.{CarriesBytes}
 use Rattle.script_lines.proofs.CommandLemmas.{each_line, line_has}
 use Rattle.script_lines.specs.Ask.{ask_encoded, asking, asking_mad, attribute_in, fields_in, method_in, tid_in}
 use Rattle.script_lines.specs.Script.{command_of, commands_in}

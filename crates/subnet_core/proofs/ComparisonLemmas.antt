@@ -3,8 +3,8 @@ use Rattle.std.proofs.Common.{ℕ, ◌≡◌, ◌∙◌, ap, refl, sym, subst, t
 use Rattle.std.specs.List.{All}
 use Rattle.step_results.specs.AtLine.{AtLine}
 use Rattle.step_results.specs.Gives.{Fails}
-use Rattle.sa_runs.proofs.ApartLemmas.{runs_are_isolated}
-use Rattle.sa_runs.specs.Administration.{subnet_administration}
+use Rattle.sa_replies.proofs.ApartLemmas.{runs_are_isolated}
+use Rattle.sa_replies.specs.Administration.{subnet_administration}
 use Rattle.script_lines.specs.declared.script_cause.ScriptCause.{ScriptCause}
 use Rattle.subnet_core.proofs.BringUpLemmas.{fails_mapped, mapped, same_inventory}
 use Rattle.subnet_core.specs.BringUp.{Becomes}

@@ -20,7 +20,7 @@ use Rattle.topo_file.proofs.TopologyLemmas.{topology_is_sound}
 use Rattle.subnet_fabric.proofs.OneFateLemmas.{no_path_excludes_coming_up, one_pair_has_no_path, too_far_excludes_the_rest}
 use Rattle.subnet_fabric.specs.Laws.{all_keys}
 use Rattle.subnet_model.specs.declared.subnet_port.SubnetPort.{SubnetPort}
-use Rattle.subnet_ports.proofs.EndPortLemmas.{end_ports_stand_in_order}
+use Rattle.subnet_fabric.proofs.EndPortLemmas.{end_ports_stand_in_order}
 use Rattle.subnet_model.specs.Configured.{HaveLidsInOrder}
 use Rattle.sweep.specs.Hops.{IsTooFar}
 use Rattle.sweep.specs.declared.fault.SweepFault.TheVariants as sweep

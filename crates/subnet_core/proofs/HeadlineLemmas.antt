@@ -13,14 +13,14 @@ use Rattle.subnet_model.specs.Near.{is_near}
 use Rattle.subnet_model.specs.Report.{report_by}
 use Rattle.subnet_model.specs.Restriction.{events_at}
 use Rattle.subnet_model.specs.Source.{HaveSlidsNear}
-use Rattle.sa_runs.specs.Administration.{subnet_administration}
+use Rattle.sa_replies.specs.Administration.{subnet_administration}
 use Rattle.subnet_model.specs.declared.event.PortEvent.{PortEvent}
 use Rattle.subnet_model.specs.declared.subnet_port.SubnetPort.{SubnetPort}
 use Rattle.sa_replies.specs.Sources.{bytes_from_near}
-use Rattle.sa_runs.proofs.ApartLemmas.{runs_are_isolated}
-use Rattle.sa_runs.proofs.NamedRunLemmas.{runs_name_sources}
-use Rattle.sa_runs.proofs.SourceLemmas.{notes_stand_beside_runs, records_come_from_near}
-use Rattle.sa_runs.specs.Sources.{NotedEvent, noted_in, noted_report}
+use Rattle.sa_replies.proofs.ApartLemmas.{runs_are_isolated}
+use Rattle.sa_replies.proofs.NamedRunLemmas.{runs_name_sources}
+use Rattle.sa_replies.proofs.RunSourceLemmas.{notes_stand_beside_runs, records_come_from_near}
+use Rattle.sa_replies.specs.RunSources.{NotedEvent, noted_in, noted_report}
 use Rattle.subnet_model.specs.declared.command.Command.{Command}
 use Rattle.subnet_core.specs.BringUp.{Becomes}
 use Rattle.subnet_core.specs.Fate.{Answers, up_from}
@@ -31,14 +31,14 @@ use Rattle.subnet_core.specs.Stream.{commands_before_fault}
 use Rattle.subnet_core.specs.Inventory.{GiveInventories, InventoryState, partitions_for, inventory_of, inventoried}
 use Rattle.subnet_core.specs.Run.{ReportState, report_of, reported_of}
 use Rattle.script_lines.specs.Script.{commands_in}
-use Rattle.subnet_ports.specs.Ports.{configuration_of, ports_of}
+use Rattle.subnet_fabric.specs.Ports.{configuration_of, ports_of}
 use Rattle.subnet_model.specs.Configured.{IsConfigured}
 use Rattle.subnet_core.proofs.AnswerLemmas.{inventory_is_configured}
 use Rattle.subnet_core.proofs.BringUpLemmas.{lids_in_order}
 use Rattle.subnet_core.proofs.CarryLemmas.{commands_carry_bytes, lines_carry_bytes}
-use Rattle.sa_runs.proofs.RunDataLemmas.{data_of_runs_is_noted}
-use Rattle.sa_runs.specs.RunData.{CarriesBytes}
-use Rattle.subnet_ports.proofs.LidLemmas.{own_lids}
+use Rattle.sa_replies.proofs.RunDataLemmas.{data_of_runs_is_noted}
+use Rattle.sa_replies.specs.RunData.{CarriesBytes}
+use Rattle.subnet_fabric.proofs.LidLemmas.{own_lids}
 
 -- the inventory of texts that are accepted
 inventories : (topology : List ℕ) (partitions : Option (List ℕ)) (plan : TopologyState) (all : List Partition) → topology_of topology ≡ Ok plan

@@ -26,3 +26,13 @@ pub mod ReadLemmas
 pub mod ReportLemmas
 pub mod LineLemmas
 pub mod ReportedLemmas
+pub mod ReceiveLemmas
+pub mod MlidRangeLemmas
+pub mod NobodyLemmas
+pub mod OverLemmas
+pub mod AdministeredLemmas
+pub mod GroupLemmas
+pub mod ListedLemmas
+pub mod StartLemmas
+pub mod ServeLemmas
+pub mod RecableLemmas

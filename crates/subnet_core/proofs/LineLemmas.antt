@@ -3,7 +3,7 @@ use Rattle.std.proofs.Common.{ℕ, ◌+◌, ◌≡◌, ◌∙◌, ap, refl, subs
 use Rattle.step_results.specs.AtLine.{on_line}
 use Rattle.step_results.specs.Gives.{Fails}
 use Rattle.step_results.proofs.StepLemmas.{same_err}
-use Rattle.sa_runs.specs.Administration.{subnet_administration}
+use Rattle.sa_replies.specs.Administration.{subnet_administration}
 use Rattle.script_lines.specs.Script.{command_of}
 use Rattle.script_lines.specs.declared.script_cause.ScriptCause.{ScriptCause}
 use Rattle.subnet_core.proofs.PutLemmas.{loses_reported, puts_nothing}

@@ -7,15 +7,15 @@ use Rattle.data_packet.specs.declared.refusal.Refusal.{Refusal}
 use Rattle.data_packet.specs.declared.refusal.Refusal.TheVariants.{KeyNotHeld}
 use Rattle.fabric_parts.specs.declared.cable.PortRef.{PortRef}
 use Rattle.fabric_wire.specs.Recabling.{cabling_of}
-use Rattle.delivery_laws.specs.Deliveries.{DeliveryState, adapter_at}
+use Rattle.smp_wire.specs.Deliveries.{DeliveryState, adapter_at}
 use Rattle.pkey_rules.specs.KeyTable.{holds}
 use Rattle.pkey_rules.specs.PKey.{default_base, key_of}
 use Rattle.port_model.specs.AdapterState.{AdapterState}
 use Rattle.sa_store.specs.Registry.{RegistryState}
-use Rattle.sa_fabric.specs.declared.answering.AnswerFault.{AnswerFault}
-use Rattle.sa_groups.specs.Delivery.{is_receiver_of}
+use Rattle.subnet_core.specs.declared.administering.AnswerFault.{AnswerFault}
+use Rattle.sa_model.specs.Delivery.{is_receiver_of}
 use Rattle.sa_replies.specs.Answer.{Administration, Answered, answer}
-use Rattle.sa_runs.specs.Administration.{subnet_administration}
+use Rattle.sa_replies.specs.Administration.{subnet_administration}
 use Rattle.smp_wire.specs.FabricState.{FabricState}
 use Rattle.subnet_core.proofs.AnswerLemmas.{stands_as_listed}
 use Rattle.subnet_core.specs.Answering.{AnswersRequests, AnswersUnder, AsksOnce, AsksUnder, IsStep, StepsTo}
@@ -29,12 +29,12 @@ use Rattle.subnet_model.specs.declared.command.AskCommand.{AskCommand}
 use Rattle.subnet_model.specs.declared.command.Command.TheVariants.{Send}
 use Rattle.subnet_model.specs.declared.command.SendCommand.{SendCommand}
 use Rattle.subnet_model.specs.declared.subnet_port.SubnetPort.{SubnetPort}
-use Rattle.subnet_sends.proofs.SendLemmas.{reported_events}
-use Rattle.subnet_sends.specs.Laws.{IsSender}
-use Rattle.subnet_sends.specs.Sends.{AreEvents, AreReceived, AskIsAsListed, AsksAsListed, AsksBy, ComesOf, ComesOfAsk, IsAsListed, SendIsAsListed, asked_as, event_of, given_to_ask}
-use Rattle.subnet_sends.specs.declared.event.Event.{Event}
-use Rattle.subnet_sends.specs.declared.event.Event.TheVariants.{Received}
-use Rattle.subnet_sends.specs.declared.sent.Sent.TheVariants.{Events, Request}
+use Rattle.subnet_fabric.proofs.SendLemmas.{reported_events}
+use Rattle.subnet_fabric.specs.SendLaws.{IsSender}
+use Rattle.subnet_fabric.specs.Sends.{AreEvents, AreReceived, AskIsAsListed, AsksAsListed, AsksBy, ComesOf, ComesOfAsk, IsAsListed, SendIsAsListed, asked_as, event_of, given_to_ask}
+use Rattle.subnet_fabric.specs.declared.event.Event.{Event}
+use Rattle.subnet_fabric.specs.declared.event.Event.TheVariants.{Received}
+use Rattle.subnet_fabric.specs.declared.sent.Sent.TheVariants.{Events, Request}
 use Rattle.fabric_wire.specs.declared.delivery.Delivery.{Delivery}
 use Rattle.updn_routes.specs.Subnet.{RoutesState}
 

@@ -3,8 +3,8 @@ use Rattle.std.proofs.Common.{ℕ, ◌+◌, ◌<◌, ◌≡◌, ◌∙◌, ap, r
 use Rattle.std.specs.Prelude.{OnOk, is_err}
 use Rattle.std.proofs.lemmas.List.{drop_more}
 use Rattle.subnet_model.specs.declared.subnet_port.SubnetPort.{SubnetPort}
-use Rattle.subnet_sends.specs.Sends.{event_of}
-use Rattle.subnet_sends.specs.declared.event.Event.{Event}
+use Rattle.subnet_fabric.specs.Sends.{event_of}
+use Rattle.subnet_fabric.specs.declared.event.Event.{Event}
 use Rattle.subnet_core.specs.EventLines.{line_text, report_text}
 use Rattle.subnet_core.proofs.PutLemmas.{loses_all, puts_behind, puts_on, puts_some_of, puts_some_on}
 use Rattle.subnet_core.specs.StreamSteps.{Puts, PutsSome}

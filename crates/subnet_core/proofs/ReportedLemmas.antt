@@ -11,7 +11,7 @@ use Rattle.step_results.proofs.StepLemmas.{same_ok}
 use Rattle.script_lines.specs.Script.{command_of, with_line}
 use Rattle.script_lines.specs.declared.script_cause.ScriptCause.{ScriptCause}
 use Rattle.subnet_core.specs.Stream.{AreLinesOf, and_then_those, commands_before_fault, judged, reported_of_lines, whole_lines}
-use Rattle.sa_runs.specs.Administration.{subnet_administration}
+use Rattle.sa_replies.specs.Administration.{subnet_administration}
 use Rattle.subnet_core.specs.EventLines.{line_text, report_text}
 use Rattle.subnet_core.specs.Inventory.{InventoryState}
 use Rattle.subnet_core.specs.Run.{reported_of}

@@ -28,10 +28,10 @@ use Rattle.subnet_model.specs.declared.command.CableCommand.{CableCommand}
 use Rattle.subnet_model.specs.declared.command.Command.TheVariants as command
 use Rattle.subnet_model.specs.declared.command.Command.TheVariants.{Ask, Send}
 use Rattle.subnet_model.specs.declared.command.SendCommand.{SendCommand}
-use Rattle.subnet_sends.specs.Sends.{event_of}
-use Rattle.subnet_sends.specs.contracts.event.EventPartialEq.TheImpl as event_eq
-use Rattle.subnet_sends.specs.declared.event.Event.{Event}
-use Rattle.subnet_sends.specs.declared.event.Event.TheVariants.{Received, Refused}
+use Rattle.subnet_fabric.specs.Sends.{event_of}
+use Rattle.subnet_fabric.specs.contracts.event.EventPartialEq.TheImpl as event_eq
+use Rattle.subnet_fabric.specs.declared.event.Event.{Event}
+use Rattle.subnet_fabric.specs.declared.event.Event.TheVariants.{Received, Refused}
 
 both_decide : {A B : Type 0} (a b : Bool) → Decides a A → Decides b B → Decides (a && b) (A × B)
 both_decide a b one other = (

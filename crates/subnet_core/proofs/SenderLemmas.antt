@@ -15,11 +15,11 @@ use Rattle.subnet_model.specs.Delivery.{port_with_guid}
 use Rattle.subnet_model.specs.declared.command.Command.{Command}
 use Rattle.subnet_model.specs.declared.command.Command.TheVariants.{Ask, Cable, Send}
 use Rattle.subnet_model.specs.declared.subnet_port.SubnetPort.{SubnetPort}
-use Rattle.subnet_ports.proofs.EndPortLemmas.{end_ports_stand_in_order}
-use Rattle.subnet_ports.proofs.OwnEndLemmas.{one_end}
-use Rattle.subnet_ports.specs.EndPorts.{AreEndPorts, IsEndPort, is_end_port}
-use Rattle.subnet_ports.proofs.GraphPortLemmas.{type_kept}
-use Rattle.subnet_sends.proofs.ListLemmas.{found_among}
+use Rattle.subnet_fabric.proofs.EndPortLemmas.{end_ports_stand_in_order}
+use Rattle.subnet_fabric.proofs.OwnEndLemmas.{one_end}
+use Rattle.subnet_fabric.specs.EndPorts.{AreEndPorts, IsEndPort, is_end_port}
+use Rattle.subnet_fabric.proofs.GraphPortLemmas.{type_kept}
+use Rattle.subnet_fabric.proofs.ListLemmas.{found_among}
 use Rattle.topo_file.specs.Node.{is_switch_at, port_guid_at}
 use Rattle.topo_file.specs.Sound.{is_port}
 use Rattle.topo_file.specs.Topology.{TopologyState}

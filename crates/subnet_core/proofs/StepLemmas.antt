@@ -2,12 +2,12 @@
 use Rattle.std.proofs.Common.{◌≡◌, ◌∙◌, refl, List, [], ◌++◌, map}
 use Rattle.sa_replies.specs.Answer.{Administration}
 use Rattle.sa_replies.specs.State.{at_start}
-use Rattle.sa_runs.specs.Administration.{subnet_administration}
+use Rattle.sa_replies.specs.Administration.{subnet_administration}
 use Rattle.subnet_model.specs.Configuration.{ConfigurationState}
 use Rattle.subnet_model.specs.Report.{events_from, report_by, step_by}
 use Rattle.subnet_model.specs.declared.command.Command.{Command}
-use Rattle.subnet_sends.specs.Sends.{event_of}
-use Rattle.subnet_sends.specs.declared.event.Event.{Event}
+use Rattle.subnet_fabric.specs.Sends.{event_of}
+use Rattle.subnet_fabric.specs.declared.event.Event.{Event}
 
 -- what is reported from the start is the report
 pub reported_from_start : (configuration : ConfigurationState) (commands : List Command) (first events : List Event) (state : Administration) → first ≡ [] → state ≡ at_start configuration

@@ -4,9 +4,9 @@ use Rattle.fabric_wire.specs.Cabling.{uncut}
 use Rattle.fabric_wire.specs.Recabling.{cabling_of}
 use Rattle.step_results.specs.AtLine.{AtLine}
 use Rattle.step_results.specs.Steps.{◌>>=◌}
-use Rattle.sa_fabric.specs.Served.{IsServed}
-use Rattle.sa_runs.specs.Administration.{subnet_administration}
-use Rattle.sa_runs.specs.Laws.{remembered_after}
+use Rattle.subnet_core.specs.Served.{IsServed}
+use Rattle.sa_replies.specs.Administration.{subnet_administration}
+use Rattle.sa_replies.specs.RunLaws.{remembered_after}
 use Rattle.script_lines.specs.Script.{commands_in}
 use Rattle.script_lines.specs.declared.script_cause.ScriptCause.{ScriptCause}
 use Rattle.subnet_core.specs.BringUp.{Becomes, IsStarted, IsStopped, IsUp, SubnetState, up_in}

@@ -4,13 +4,13 @@ use Rattle.data_packet.specs.declared.refusal.Refusal.{Refusal}
 use Rattle.data_packet.specs.declared.refusal.Refusal.TheVariants.{KeyNotHeld}
 use Rattle.fabric_parts.specs.declared.cable.PortRef.{PortRef}
 use Rattle.fabric_wire.specs.Recabling.{cabling_of}
-use Rattle.delivery_laws.specs.Deliveries.{DeliveryState, HasPort, adapter_at}
+use Rattle.smp_wire.specs.Deliveries.{DeliveryState, HasPort, adapter_at}
 use Rattle.pkey_rules.specs.KeyTable.{holds}
 use Rattle.port_model.specs.AdapterState.{AdapterState}
 use Rattle.sa_store.specs.Registry.{RegistryState}
-use Rattle.sa_groups.specs.Delivery.{is_receiver_of}
+use Rattle.sa_model.specs.Delivery.{is_receiver_of}
 use Rattle.sa_replies.specs.Answer.{Administration, Answered, answer}
-use Rattle.sa_runs.specs.Administration.{subnet_administration}
+use Rattle.sa_replies.specs.Administration.{subnet_administration}
 use Rattle.smp_wire.specs.FabricState.{FabricState}
 use Rattle.subnet_core.specs.BringUp.{Stands, SubnetState}
 use Rattle.subnet_core.specs.Inventory.{InventoryState}
@@ -25,9 +25,9 @@ use Rattle.subnet_model.specs.declared.command.SendCommand.{SendCommand}
 use Rattle.subnet_model.specs.declared.event.Outcome.TheVariants.{Refused as RefusedToSend}
 use Rattle.subnet_model.specs.declared.event.PortEvent.{PortEvent}
 use Rattle.subnet_model.specs.declared.subnet_port.SubnetPort.{SubnetPort}
-use Rattle.subnet_sends.specs.Laws.{IsSender, reported}
-use Rattle.subnet_sends.specs.Sends.{asked_as, event_of, given_to_ask}
-use Rattle.subnet_sends.specs.declared.event.Event.{Event}
+use Rattle.subnet_fabric.specs.SendLaws.{IsSender, reported}
+use Rattle.subnet_fabric.specs.Sends.{asked_as, event_of, given_to_ask}
+use Rattle.subnet_fabric.specs.declared.event.Event.{Event}
 use Rattle.updn_routes.specs.Subnet.{RoutesState}
 
 -- ---- one request: the MADs that answer it, and what the port that asked receives

@@ -8,7 +8,7 @@ use Rattle.subnet_core.specs.Inventory.{IsInventoried, InventoryState}
 use Rattle.subnet_fabric.specs.BringUp.{HasNoPath, IsBroughtUpBy, IsUnfound, BroughtUpState}
 use Rattle.subnet_fabric.specs.Laws.{all_keys}
 use Rattle.sa_store.specs.Registry.{RegistryState}
-use Rattle.sa_fabric.specs.Served.{IsServed}
+use Rattle.subnet_core.specs.Served.{IsServed}
 use Rattle.sa_replies.specs.Answer.{Administration}
 use Rattle.sa_replies.specs.State.{IsStateOf, at_start}
 use Rattle.subnet_model.specs.declared.subnet_port.SubnetPort.{SubnetPort}

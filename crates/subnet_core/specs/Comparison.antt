@@ -2,7 +2,7 @@
 -- events are equal.
 use Rattle.std.specs.Prelude.{ℕ, ◌≡◌, ◌↔◌, true, List, Option, Result, Ok, Err}
 use Rattle.step_results.specs.Steps.{◌>>=◌}
-use Rattle.sa_runs.specs.Administration.{subnet_administration}
+use Rattle.sa_replies.specs.Administration.{subnet_administration}
 use Rattle.script_lines.specs.NamedPort.{named_adapter_port}
 use Rattle.script_lines.specs.Script.{commands_in}
 use Rattle.script_lines.specs.declared.script_cause.ScriptCause.{ScriptCause}

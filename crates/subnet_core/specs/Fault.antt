@@ -1,6 +1,6 @@
 -- Why a step does not complete.
-use Rattle.sa_fabric.specs.declared.answering.AnswerFault.{AnswerFault}
-use Rattle.sa_fabric.specs.declared.answering.AnswerFault.TheVariants as answering
+use Rattle.subnet_core.specs.declared.administering.AnswerFault.{AnswerFault}
+use Rattle.subnet_core.specs.declared.administering.AnswerFault.TheVariants as answering
 use Rattle.subnet_core.specs.declared.fault.StepFault.{StepFault}
 use Rattle.subnet_core.specs.declared.fault.StepFault.TheVariants as step
 

@@ -9,11 +9,11 @@ use Rattle.subnet_model.specs.declared.event.PortEvent.{PortEvent}
 use Rattle.subnet_model.specs.Isolation.{DependsOnNear}
 use Rattle.subnet_model.specs.Source.{ComesFromNear}
 use Rattle.sa_replies.specs.Sources.{bytes_from_near}
-use Rattle.sa_runs.specs.Administration.{subnet_administration}
-use Rattle.sa_runs.specs.NamedRuns.{IsRunNamed}
-use Rattle.sa_runs.specs.RunData.{HasItsData}
-use Rattle.sa_runs.specs.Sources.{NotedEvent, noted_after, noted_in, noted_report, noted_step}
-use Rattle.subnet_ports.specs.Ports.{configuration_of, ports_of}
+use Rattle.sa_replies.specs.Administration.{subnet_administration}
+use Rattle.sa_replies.specs.NamedRuns.{IsRunNamed}
+use Rattle.sa_replies.specs.RunData.{HasItsData}
+use Rattle.sa_replies.specs.RunSources.{NotedEvent, noted_after, noted_in, noted_report, noted_step}
+use Rattle.subnet_fabric.specs.Ports.{configuration_of, ports_of}
 use Rattle.subnet_core.specs.Inventory.{partitions_for}
 use Rattle.script_lines.specs.Script.{commands_in}
 

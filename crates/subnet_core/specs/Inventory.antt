@@ -11,7 +11,7 @@ use Rattle.step_results.specs.Steps.{◌>>=◌}
 use Rattle.subnet_core.specs.declared.fault.RunFault.{RunFault}
 use Rattle.subnet_core.specs.declared.fault.RunFault.TheVariants.{NoMemory, Topology, Partitions, Sweep, NoLegalPath, Push, Port, Script, SecondScript, Read, Write}
 use Rattle.subnet_model.specs.Configuration.{ConfigurationState}
-use Rattle.subnet_ports.specs.Ports.{configuration_of}
+use Rattle.subnet_fabric.specs.Ports.{configuration_of}
 use Rattle.topo_file.specs.Sound.{IsSound}
 use Rattle.topo_file.specs.Topology.{TopologyState, topology_of, topology_within}
 

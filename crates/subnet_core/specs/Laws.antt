@@ -2,7 +2,7 @@
 use Rattle.std.specs.Prelude.{ℕ, ◌≡◌, ◌==◌, ◌&&◌, List, Option, Ok}
 use Rattle.std.specs.List.{All, list_any}
 use Rattle.subnet_model.specs.declared.command.Command.{Command}
-use Rattle.sa_runs.specs.Administration.{subnet_administration}
+use Rattle.sa_replies.specs.Administration.{subnet_administration}
 use Rattle.subnet_core.specs.After.{IsUpAfter}
 use Rattle.subnet_core.specs.BringUp.{Becomes}
 use Rattle.subnet_core.specs.Headline.{RecordsComeFromNear}

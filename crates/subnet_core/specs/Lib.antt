@@ -19,3 +19,6 @@ pub mod RunsAgain
 pub mod Stream
 pub mod StreamSteps
 pub mod WrongRules
+pub mod MlidRanges
+pub mod Served
+pub mod AdministrationLaws

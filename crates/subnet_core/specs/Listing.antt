@@ -7,9 +7,9 @@ use Rattle.pkey_rules.specs.KeyTable.{find_base}
 use Rattle.partition_file.specs.declared.heading.Heading.{Heading}
 use Rattle.subnet_model.specs.Configuration.{ConfigurationState}
 use Rattle.subnet_model.specs.declared.subnet_port.SubnetPort.{SubnetPort}
-use Rattle.line_parts.specs.Lines.{heading_line, member_line}
-use Rattle.line_parts.specs.Ports.{port_text}
-use Rattle.text_parts.specs.Parts.{guid_text, hex_text}
+use Rattle.partition_reports.specs.Lines.{heading_line, member_line}
+use Rattle.partition_reports.specs.Ports.{port_text}
+use Rattle.text_words.specs.Parts.{guid_text, hex_text}
 
 -- `port LID GUID PORT`
 abbrev pub port_line : SubnetPort → List ℕ

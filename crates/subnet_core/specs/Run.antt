@@ -8,7 +8,7 @@ use Rattle.script_lines.specs.Script.{command_of, commands_in}
 use Rattle.subnet_core.specs.declared.fault.RunFault.{RunFault}
 use Rattle.subnet_core.specs.declared.fault.RunFault.TheVariants.{Script}
 use Rattle.subnet_model.specs.Configuration.{ConfigurationState}
-use Rattle.sa_runs.specs.Administration.{subnet_administration}
+use Rattle.sa_replies.specs.Administration.{subnet_administration}
 use Rattle.subnet_model.specs.Report.{report_by}
 use Rattle.subnet_model.specs.declared.command.Command.{Command}
 use Rattle.subnet_model.specs.declared.event.PortEvent.{PortEvent}

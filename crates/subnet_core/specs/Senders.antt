@@ -3,7 +3,7 @@ use Rattle.std.specs.Prelude.{ℕ, ◌≡◌, true, false, List, [], ◌∷◌, 
 use Rattle.data_packet.specs.declared.packet.Packet.{Packet}
 use Rattle.data_packet.specs.declared.refusal.Refusal.{Refusal}
 use Rattle.fabric_parts.specs.declared.cable.PortRef.{PortRef}
-use Rattle.delivery_laws.specs.Deliveries.{AreDeliveries, DeliveryState, HasPort, adapter_at}
+use Rattle.smp_wire.specs.Deliveries.{AreDeliveries, DeliveryState, HasPort, adapter_at}
 use Rattle.port_model.specs.AdapterState.{AdapterState}
 use Rattle.smp_wire.specs.FabricState.{FabricState}
 use Rattle.smp_wire.specs.declared.node.Node.{Node}
@@ -13,11 +13,11 @@ use Rattle.subnet_model.specs.declared.command.Command.{Command}
 use Rattle.subnet_model.specs.declared.command.Command.TheVariants.{Ask, Cable, Send}
 use Rattle.subnet_model.specs.declared.command.SendCommand.{SendCommand}
 use Rattle.subnet_model.specs.declared.subnet_port.SubnetPort.{SubnetPort}
-use Rattle.subnet_sends.specs.Replies.{ComeOfReplies}
-use Rattle.subnet_sends.specs.Sends.{AreReceived, Stamps, asked_as, given_to_ask}
-use Rattle.subnet_sends.specs.declared.event.Event.{Event}
-use Rattle.subnet_sends.specs.declared.event.Event.TheVariants.{Refused}
-use Rattle.subnet_sends.specs.Laws.{IsSender}
+use Rattle.subnet_fabric.specs.Replies.{ComeOfReplies}
+use Rattle.subnet_fabric.specs.Sends.{AreReceived, Stamps, asked_as, given_to_ask}
+use Rattle.subnet_fabric.specs.declared.event.Event.{Event}
+use Rattle.subnet_fabric.specs.declared.event.Event.TheVariants.{Refused}
+use Rattle.subnet_fabric.specs.SendLaws.{IsSender}
 
 -- a command names a listed port of a channel adapter, if it is one of a port
 abbrev pub NamesSender : List SubnetPort → Command → Type 0

@@ -3,7 +3,7 @@ use Rattle.std.specs.Prelude.{ℕ, ◌≡◌, ◌⊎◌, List, [], ◌∷◌, �
 use Rattle.std.specs.Io.KnownBytes.{Appends, Consumes, IsAtEnd}
 use Rattle.std.specs.Option.{option_to_list}
 use Rattle.step_results.specs.AtLine.{AtLine, after_lines}
-use Rattle.sa_runs.specs.Administration.{subnet_administration}
+use Rattle.sa_replies.specs.Administration.{subnet_administration}
 use Rattle.script_lines.specs.Script.{command_of, with_line}
 use Rattle.script_lines.specs.declared.script_cause.ScriptCause.{ScriptCause}
 use Rattle.subnet_core.specs.BringUp.{Becomes}

@@ -1,7 +1,7 @@
 //! How a port that asks acknowledges a table that answers it in segments.
 
 ghost use Rattle.std.specs.Prelude.{◌≡◌, ◌<◌, ◌≤◌, ◌+◌, ◌^◌, IfOk};
-ghost use Rattle.sa_runs.specs.Asking.{ack_mad, acknowledgements, acks_of, is_first_segment, segments_reported};
+ghost use Rattle.sa_replies.specs.Asking.{ack_mad, acknowledgements, acks_of, is_first_segment, segments_reported};
 
 use bitflags::Flags;
 use mad_layout::{Header, Mad, Method, RmppFlags, RmppHeader, RmppKind, SA_DATA_BYTES, SaMad};

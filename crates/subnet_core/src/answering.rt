@@ -8,14 +8,16 @@ ghost use Rattle.subnet_core.specs.Senders.{AreSentBack};
 ghost use Rattle.subnet_model.specs.declared.command.Command.TheVariants.{Ask, Cable, Send};
 
 use crate::acknowledging::acknowledgements;
+use crate::administering::{AnswerFault, answer};
+use crate::administrator::Administrator;
 use crate::bringing_up::keys_of;
 use crate::inventory::Inventory;
+use crate::recabling::{Listed, recable};
 use fabric_wire::{Delivery, Fabric};
 use mad_layout::Mad;
-use sa_fabric::{Administrator, AnswerFault, Listed, answer, recable};
 use std::alloc::Global;
+use subnet_fabric::{Event, Sent, ask, manager_key, reply, send};
 use subnet_model::{AskCommand, CableCommand, Command, SendCommand};
-use subnet_sends::{Event, Sent, ask, manager_key, reply, send};
 use updn_routes::Routes;
 
 /// The MADs that answer a request, and what happens at ports.

@@ -13,7 +13,7 @@ ghost use Rattle.subnet_core.specs.Senders.{NamesSender};
 ghost use Rattle.subnet_core.specs.declared.fault.RunFault.TheVariants.{NoMemory, SecondScript};
 ghost use Rattle.subnet_model.specs.Near.{is_near};
 ghost use Rattle.subnet_model.specs.Restriction.{actor, acts_in, commands_of, events_at};
-ghost use Rattle.subnet_sends.specs.Sends.{event_of};
+ghost use Rattle.subnet_fabric.specs.Sends.{event_of};
 
 use crate::bringing_up::bring_up;
 use crate::fault::RunFault;
@@ -21,8 +21,8 @@ use crate::running::commands_in;
 use crate::subnet::Subnet;
 use std::alloc::Global;
 use std::marker::Model;
+use subnet_fabric::Event;
 use subnet_model::{Command, SubnetPort, is_near};
-use subnet_sends::Event;
 
 /// What two scripts in one subnet have in common for a port.
 #[derive(Clone, Copy, Debug, PartialEq, Eq)]
@@ -156,7 +156,7 @@ struct PortRun {
 impl Model for PortRun {
     ghost use Rattle.std.specs.Prelude.{map};
     ghost use Rattle.subnet_core.specs.Comparison.{PortRunState};
-    ghost use Rattle.subnet_sends.specs.Sends.{event_of};
+    ghost use Rattle.subnet_fabric.specs.Sends.{event_of};
 
     ghost Value = { PortRunState };
 

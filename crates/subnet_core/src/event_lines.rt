@@ -1,18 +1,18 @@
 //! The lines of a report.
 
 ghost use Rattle.std.specs.Prelude.{◌≡◌, ◌≤◌, ◌++◌, [], ◌∷◌, length, map, OnOk, IfOk};
-ghost use Rattle.subnet_sends.specs.Sends.{event_of};
+ghost use Rattle.subnet_fabric.specs.Sends.{event_of};
 ghost use Rattle.data_packet.specs.declared.payload.TheConstants.{PAYLOAD_BYTES};
 ghost use Rattle.subnet_model.specs.Delivery.{port_with_guid};
 ghost use Rattle.subnet_core.specs.EventLines.{name_text, trimmed, payload_text, packet_text, outcome_text, line_text, report_text};
 
 use crate::lookup::{PortIndex, places_by_guid};
 use data_packet::{PAYLOAD_BYTES, Packet};
-use line_parts::push_port;
+use partition_reports::push_port;
 use std::alloc::{AllocError, Global};
+use subnet_fabric::Event;
 use subnet_model::SubnetPort;
-use subnet_sends::Event;
-use text_parts::{digits_of, push_decimal, push_hex};
+use text_words::{digits_of, push_decimal, push_hex};
 
 /// The lines of these events, one each.
 pub(crate) fn report_text(

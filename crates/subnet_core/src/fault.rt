@@ -1,7 +1,7 @@
 //! Why a run does not begin, and why a step does not complete.
 
+use crate::administering::AnswerFault;
 use partition_file::PartitionCause;
-use sa_fabric::AnswerFault;
 use script_lines::ScriptCause;
 use std::alloc::{AllocError, AllocFailed};
 use subnet_model::NodeName;

@@ -15,8 +15,8 @@ use partition_file::{PartFault, Partitions, no_file};
 use script_lines::{ScriptCause, adapter_place, named_adapter_port, named_port};
 use std::alloc::{AllocError, Global};
 use std::marker::Model;
+use subnet_fabric::configuration_of;
 use subnet_model::Configuration;
-use subnet_ports::configuration_of;
 use topo_file::{TopoFault, Topology};
 
 /// A topology under a partition file: its end ports by LID, with their names and keys, and its partitions.

@@ -16,8 +16,8 @@ use fabric_parts::Limits;
 use script_lines::{ScriptCause, named_port};
 use std::alloc::Global;
 use std::marker::Model;
+use subnet_fabric::large_configuration_of;
 use subnet_model::Configuration;
-use subnet_ports::large_configuration_of;
 use topo_file::{LargeTopology, TopoFault};
 
 /// A topology under a partition file, as an [`Inventory`](crate::Inventory), but of any size that we take.

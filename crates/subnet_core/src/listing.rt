@@ -4,11 +4,11 @@ ghost use Rattle.std.specs.Prelude.{◌≡◌, ◌++◌, [], ◌∷◌, OnOk, If
 ghost use Rattle.std.specs.List.{flat_map, enumerate_from};
 ghost use Rattle.subnet_core.specs.Listing.{listing_text, member_text, partition_text, port_line};
 
-use line_parts::{push_heading_line, push_member_line, push_port};
 use partition_file::Heading;
+use partition_reports::{push_heading_line, push_member_line, push_port};
 use std::alloc::{AllocError, Global};
 use subnet_model::{Configuration, SubnetPort};
-use text_parts::{push_guid, push_hex};
+use text_words::{push_guid, push_hex};
 
 /// The lines of the ports and partitions of a subnet.
 pub(crate) fn listing_text(

@@ -13,7 +13,7 @@ use std::alloc::{AllocError, Global};
 use subnet_fabric::{FabricFault, Managed};
 use subnet_model::SubnetPort;
 use sweep::SweepFault;
-use text_parts::push_decimal;
+use text_words::push_decimal;
 
 /// Sets up the fabric behind a wire as that of an inventory: its end ports have to be those of the topology. Returns the
 /// routes, and how many ports of switches do not enforce partitions.

@@ -1,14 +1,14 @@
 //! What a run answers.
 
 ghost use Rattle.std.specs.Prelude.{◌≡◌, map, IfOk};
-ghost use Rattle.subnet_sends.specs.Sends.{event_of};
+ghost use Rattle.subnet_fabric.specs.Sends.{event_of};
 ghost use Rattle.subnet_core.specs.EventLines.{report_text};
 
 use crate::event_lines;
 use std::alloc::{AllocError, Global};
 use std::marker::Model;
+use subnet_fabric::Event;
 use subnet_model::{Configuration, SubnetPort};
-use subnet_sends::Event;
 
 /// What happened in a run: its events, in order, at ports that have names.
 #[derive(Debug, Drop)]
@@ -21,7 +21,7 @@ pub struct Report {
 impl Model for Report {
     ghost use Rattle.std.specs.Prelude.{map};
     ghost use Rattle.subnet_core.specs.Run.{ReportState};
-    ghost use Rattle.subnet_sends.specs.Sends.{event_of};
+    ghost use Rattle.subnet_fabric.specs.Sends.{event_of};
 
     ghost Value = { ReportState };
 

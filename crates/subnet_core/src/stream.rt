@@ -5,7 +5,7 @@ ghost use Rattle.sa_replies.specs.State.{at_start};
 ghost use Rattle.subnet_core.specs.Stream.{CarriesOut, report_so_far};
 ghost use Rattle.subnet_core.specs.EventLines.{line_text, report_text};
 ghost use Rattle.subnet_core.specs.StreamSteps.{ReadsOn, Takes, Reports, begun_by_parts, lines_of_parts, rest_of};
-ghost use Rattle.subnet_sends.specs.Sends.{event_of};
+ghost use Rattle.subnet_fabric.specs.Sends.{event_of};
 ghost use Rattle.std.specs.Io.KnownBytes.{Appends};
 ghost use Rattle.text_streams.specs.Reading.{AreInTime, IsEndless};
 ghost use Rattle.text_streams.specs.Writing.{AppendsPart};
@@ -19,7 +19,7 @@ use indexmap::IndexMap;
 use std::alloc::{AllocError, Global};
 use std::io::ErrorKind;
 use std::marker::Model;
-use subnet_sends::Event;
+use subnet_fabric::Event;
 use text_streams::{Output, PIECE, READS, Reader, write_whole};
 use text_words::Lines;
 

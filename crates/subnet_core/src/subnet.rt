@@ -2,7 +2,7 @@
 
 ghost use Rattle.std.specs.Prelude.{◌≡◌, false, true, ◌↔◌, ◌++◌, map, All, IsErrOf, IfOk, IfSome, OnOk, OnErr};
 ghost use Rattle.sa_replies.specs.State.{at_start};
-ghost use Rattle.sa_runs.specs.Administration.{subnet_administration};
+ghost use Rattle.sa_replies.specs.Administration.{subnet_administration};
 ghost use Rattle.subnet_model.specs.Near.{near};
 ghost use Rattle.subnet_model.specs.Report.{events_from, step_by};
 ghost use Rattle.subnet_core.specs.After.{IsThrough};
@@ -12,20 +12,19 @@ ghost use Rattle.subnet_core.specs.Listing.{listing_text};
 ghost use Rattle.subnet_core.specs.Inventory.{RunGives};
 ghost use Rattle.subnet_core.specs.Run.{parsed, reported_of};
 ghost use Rattle.subnet_core.specs.Senders.{Comes, NamesSender};
-ghost use Rattle.subnet_sends.specs.Sends.{event_of};
+ghost use Rattle.subnet_fabric.specs.Sends.{event_of};
 
+use crate::administrator::Administrator;
 use crate::answering::carried_out;
 use crate::fault::{RunFault, StepFault};
 use crate::inventory::Inventory;
 use crate::report::Report;
 use fabric_wire::Fabric;
-use sa_fabric::Administrator;
 use script_lines::command_of;
 use std::alloc::{AllocError, Global};
 use std::marker::Model;
-use subnet_fabric::BroughtUp;
+use subnet_fabric::{BroughtUp, Event};
 use subnet_model::{Command, near};
-use subnet_sends::Event;
 use updn_routes::Routes;
 
 /// A subnet that was brought up and takes commands one by one.

@@ -10,8 +10,8 @@ use Rattle.fabric_parts.specs.declared.cable.PortRef.{PortRef}
 use Rattle.fabric_wire.proofs.EndPortLemmas.{known_distinct}
 use Rattle.fabric_wire.specs.OfTopology.{fabric_of}
 use Rattle.lid_assign.specs.Lids.{lid_in}
-use Rattle.delivery_laws.specs.Forwards.{ForwardsByLid}
-use Rattle.delivery_laws.specs.Groups.{ForwardsByMlid}
+use Rattle.smp_wire.specs.Forwards.{ForwardsByLid}
+use Rattle.smp_wire.specs.Groups.{ForwardsByMlid}
 use Rattle.partition_file.specs.Sound.{IsSound as ArePartitions}
 use Rattle.partition_file.specs.declared.partition.Partition.{Partition}
 use Rattle.port_model.specs.AdapterState.{AdapterState}
@@ -21,8 +21,8 @@ use Rattle.subnet_fabric.proofs.ListedLemmas.{as_many, is_fabric, up}
 use Rattle.subnet_fabric.specs.BringUp.{IsBroughtUpBy, root_guids}
 use Rattle.subnet_fabric.specs.Laws.{AFabricWithGroupsIsAsListed, all_keys}
 use Rattle.subnet_model.specs.declared.subnet_port.SubnetPort.{SubnetPort}
-use Rattle.subnet_ports.specs.Ports.{ports_of}
-use Rattle.subnet_sends.specs.OfFabric.{IsFabricOf, IsListed, IsSetUpAsListed, IsThere, nobody}
+use Rattle.subnet_fabric.specs.Ports.{ports_of}
+use Rattle.subnet_fabric.specs.OfFabric.{IsFabricOf, IsListed, IsSetUpAsListed, IsThere, nobody}
 use Rattle.table_push.proofs.AllMaskLemmas.{all_masks_are_there, cabled_still, cabled_then, masks_keep_what_is_up}
 use Rattle.table_push.proofs.ForwardsLemmas.{brought_up_forwards_by_lid}
 use Rattle.table_push.proofs.ForwardsMlidLemmas.{brought_up_forwards_by_mlid}

@@ -26,3 +26,17 @@ pub mod PlanningLemmas
 pub mod StandingLemmas
 pub mod StandingListedLemmas
 mod ManagedLemmas
+pub mod EndPlaceLemmas
+pub mod PlacedLemmas
+pub mod PortLemmas
+pub mod EndPortLemmas
+pub mod FabricPortLemmas
+pub mod GraphPortLemmas
+pub mod LidLemmas
+pub mod OwnEndLemmas
+pub mod ConfiguredLemmas
+pub mod GuidOrderLemmas
+pub mod ListLemmas
+pub mod WayLemmas
+pub mod SendLemmas
+pub mod ReplyLemmas

@@ -17,8 +17,8 @@ use Rattle.fabric_wire.proofs.OfTopologyGoodLemmas.{good}
 use Rattle.fabric_wire.specs.OfTopology.{fabric_of}
 use Rattle.lid_assign.proofs.LawLemmas.{lids_and_guids_name_each_other}
 use Rattle.lid_assign.specs.Lids.{guid_in, lid_in}
-use Rattle.delivery_laws.specs.Deliveries.{adapter_at}
-use Rattle.delivery_laws.specs.Forwards.{ForwardsByLid, IsCabledPort}
+use Rattle.smp_wire.specs.Deliveries.{adapter_at}
+use Rattle.smp_wire.specs.Forwards.{ForwardsByLid, IsCabledPort}
 use Rattle.partition_file.specs.Sound.{IsSound as ArePartitions}
 use Rattle.partition_file.specs.declared.partition.Partition.{Partition}
 use Rattle.pkey_rules.specs.StoredKeys.{stored_keys}
@@ -35,15 +35,15 @@ use Rattle.smp_wire.specs.FabricState.{FabricState, adapter_port}
 use Rattle.smp_wire.specs.declared.node.Node.{Node}
 use Rattle.smp_wire.specs.declared.node.Node.TheVariants.{Switch, Adapter}
 use Rattle.subnet_model.specs.declared.subnet_port.SubnetPort.{SubnetPort}
-use Rattle.subnet_ports.proofs.EndPortLemmas.{end_ports_stand_in_order}
-use Rattle.subnet_ports.proofs.FabricPortLemmas.{end_ports_are_the_fabrics}
-use Rattle.subnet_ports.proofs.GraphPortLemmas.{sweeps_find_what_is_listed, type_kept}
-use Rattle.subnet_ports.proofs.LidLemmas.{in_lid_order}
-use Rattle.subnet_ports.proofs.OwnEndLemmas.{one_end}
-use Rattle.subnet_ports.specs.EndPorts.{AreEndPorts, IsEndPort, end_port_at, is_end_port}
-use Rattle.subnet_ports.specs.FabricPorts.{AreOfGraph, planned_port}
-use Rattle.subnet_ports.specs.Ports.{ports_of}
-use Rattle.subnet_sends.specs.OfFabric.{IsFabricOf, IsListed, IsSetUpAsListed, IsThere, nobody}
+use Rattle.subnet_fabric.proofs.EndPortLemmas.{end_ports_stand_in_order}
+use Rattle.subnet_fabric.proofs.FabricPortLemmas.{end_ports_are_the_fabrics}
+use Rattle.subnet_fabric.proofs.GraphPortLemmas.{sweeps_find_what_is_listed, type_kept}
+use Rattle.subnet_fabric.proofs.LidLemmas.{in_lid_order}
+use Rattle.subnet_fabric.proofs.OwnEndLemmas.{one_end}
+use Rattle.subnet_fabric.specs.EndPorts.{AreEndPorts, IsEndPort, end_port_at, is_end_port}
+use Rattle.subnet_fabric.specs.FabricPorts.{AreOfGraph, planned_port}
+use Rattle.subnet_fabric.specs.Ports.{ports_of}
+use Rattle.subnet_fabric.specs.OfFabric.{IsFabricOf, IsListed, IsSetUpAsListed, IsThere, nobody}
 use Rattle.sweep.proofs.CabledLemmas.{cabled_of, far_of}
 use Rattle.sweep.proofs.EndPortLemmas.{there_is}
 use Rattle.sweep.specs.EndPorts.{FabricPort, end_port_in, held_in, is_end_port_of, port_held}

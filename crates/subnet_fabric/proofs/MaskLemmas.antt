@@ -14,15 +14,15 @@ use Rattle.fabric_parts.specs.declared.cable.PortRef.{PortRef}
 use Rattle.fabric_parts.specs.declared.node_type.NodeType.{NodeType}
 use Rattle.fabric_parts.specs.declared.node_type.NodeType.TheVariants as node_type
 use Rattle.fabric_wire.specs.OfTopology.{fabric_of, node_of, node_of_type}
-use Rattle.delivery_laws.proofs.FreeLemmas.{first_switch}
-use Rattle.delivery_laws.specs.Forwards.{ForwardsByLid, IsCabledPort}
-use Rattle.delivery_laws.specs.Groups.{ForwardsByMlid, GoesByMasks, is_in_masks_at, is_in_node_masks}
+use Rattle.smp_wire.proofs.FreeLemmas.{first_switch}
+use Rattle.smp_wire.specs.Forwards.{ForwardsByLid, IsCabledPort}
+use Rattle.smp_wire.specs.Groups.{ForwardsByMlid, GoesByMasks, is_in_masks_at, is_in_node_masks}
 use Rattle.port_model.specs.AdapterState.{AdapterState}
 use Rattle.step_results.proofs.ListLemmas.{all_alike, all_there}
 use Rattle.smp_wire.specs.FabricState.{FabricState, is_switch_at}
 use Rattle.smp_wire.specs.declared.node.Node.{Node}
 use Rattle.smp_wire.specs.declared.node.Node.TheVariants.{Switch, Adapter}
-use Rattle.subnet_sends.specs.OfFabric.{nobody}
+use Rattle.subnet_fabric.specs.OfFabric.{nobody}
 use Rattle.switch_model.specs.Multicast.{is_in_masks, mask_of}
 use Rattle.switch_model.specs.SwitchState.{SwitchState}
 use Rattle.table_push.proofs.AttachmentLemmas.{is_no_switch}

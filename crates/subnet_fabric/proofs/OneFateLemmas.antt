@@ -4,10 +4,10 @@ use Rattle.std.specs.List.{enumerate_from}
 use Rattle.fabric_wire.proofs.OfTopologyGoodLemmas.{good}
 use Rattle.fabric_wire.specs.OfTopology.{fabric_of}
 use Rattle.lid_assign.specs.Lids.{AreLids, end_ports}
-use Rattle.route_order_laws.proofs.AlikeLemmas.{none_is_reached_and_refused, one_pair_is_refused}
-use Rattle.route_order_laws.proofs.OfFabricLemmas.{graphs_of_one_fabric_are_alike}
-use Rattle.route_order_laws.specs.Alike.{AreAlike, layout_of}
-use Rattle.subnet_ports.proofs.GraphPortLemmas.{sweeps_find_what_is_listed}
+use Rattle.updn_routes.proofs.AlikeLemmas.{none_is_reached_and_refused, one_pair_is_refused}
+use Rattle.updn_routes.proofs.OfFabricLemmas.{graphs_of_one_fabric_are_alike}
+use Rattle.updn_routes.specs.Alike.{AreAlike, layout_of}
+use Rattle.subnet_fabric.proofs.GraphPortLemmas.{sweeps_find_what_is_listed}
 use Rattle.sweep.specs.Graph.{GraphState}
 use Rattle.topo_file.specs.Sound.{IsSound}
 use Rattle.topo_file.specs.Topology.{TopologyState}

@@ -3,9 +3,9 @@ use Rattle.std.proofs.Common.{ℕ, zero, suc, ◌≡◌, ◌∙◌, ap, refl, sy
 use Rattle.std.specs.Option.{option_and_then, option_map_or}
 use Rattle.fabric_wire.proofs.OfTopologyGoodLemmas.{good}
 use Rattle.fabric_wire.specs.OfTopology.{fabric_of}
-use Rattle.route_order_laws.proofs.ChoiceLemmas.{next_hops_are_the_fabrics}
-use Rattle.route_order_laws.proofs.OfFabricLemmas.{has_switch, not_without}
-use Rattle.route_order_laws.specs.NextHops.{AreChosenFrom, hop_by}
+use Rattle.updn_routes.proofs.ChoiceLemmas.{next_hops_are_the_fabrics}
+use Rattle.updn_routes.proofs.OfFabricLemmas.{has_switch, not_without}
+use Rattle.updn_routes.specs.NextHops.{AreChosenFrom, hop_by}
 use Rattle.smp_wire.specs.FabricState.{FabricState}
 use Rattle.smp_wire.specs.declared.node.Node.{Node}
 use Rattle.smp_wire.specs.declared.node.Node.TheVariants.{Switch, Adapter}

@@ -6,7 +6,7 @@ use Rattle.std.proofs.lemmas.Option.{slice_get-map}
 use Rattle.std.proofs.lemmas.Simd.{map-map}
 use Rattle.fabric_wire.specs.Cabling.{CablingState}
 use Rattle.fabric_wire.specs.OfTopology.{fabric_of}
-use Rattle.route_order_laws.proofs.OfFabricLemmas.{not_without}
+use Rattle.updn_routes.proofs.OfFabricLemmas.{not_without}
 use Rattle.smp_wire.specs.FabricState.{FabricState, is_switch}
 use Rattle.smp_wire.specs.Good.{IsGoodNode, node_guid}
 use Rattle.smp_wire.specs.declared.node.Node.{Node}

@@ -17,7 +17,7 @@ use Rattle.fabric_wire.specs.Cabling.{CablingState}
 use Rattle.fabric_wire.specs.OfTopology.{fabric_of, link_of, links_of, named, node_of, node_of_type}
 use Rattle.fabric_wire.specs.Recabling.{cabling_with, can_change, changed, node_linked}
 use Rattle.port_model.specs.AdapterState.{AdapterState, at_power_up as adapter_at_power_up}
-use Rattle.route_order_laws.proofs.OfFabricLemmas.{has_switch}
+use Rattle.updn_routes.proofs.OfFabricLemmas.{has_switch}
 use Rattle.smp_wire.proofs.CableLemmas.{same_port}
 use Rattle.smp_wire.specs.FabricState.{FabricState, is_port, is_switch, is_switch_at}
 use Rattle.smp_wire.specs.Good.{IsGood, node_guid}

@@ -6,7 +6,7 @@ use Rattle.std.specs.Str.{bytes_eq}
 use Rattle.std.proofs.lemmas.List.Folds.{flat_map-map}
 use Rattle.std.proofs.lemmas.Simd.{map-map}
 use Rattle.attr_tables.specs.declared.port_info.PortInfo.{PortInfo}
-use Rattle.fabric_parts.specs.Cable.{far_end, port}
+use Rattle.fabric_parts.specs.Cable.{far_end, last_of, port}
 use Rattle.fabric_parts.specs.declared.cable.Cable.{Cable}
 use Rattle.fabric_parts.specs.declared.cable.PortRef.{PortRef}
 use Rattle.port_model.specs.AdapterState.{AdapterState}
@@ -14,7 +14,7 @@ use Rattle.step_results.proofs.ElementLemmas.{all_same, get_same, or_same}
 use Rattle.smp_wire.specs.FabricState.{FabricState, all_cables, is_port, is_switch, is_switch_at, port_count}
 use Rattle.smp_wire.specs.Good.{IsGood, IsGoodNode, end_port_guids, has_a_right_count, is_in_order, is_of, is_right, most_ports_of, node_guid}
 use Rattle.smp_wire.specs.Shape.{IsSameShape}
-use Rattle.smp_wire.specs.Walk.{end_of, hop, last_of, walk}
+use Rattle.smp_wire.specs.Walk.{end_of, hop, walk}
 use Rattle.smp_wire.specs.declared.node.Node.{Node}
 use Rattle.smp_wire.specs.declared.node.Node.TheVariants.{Switch, Adapter}
 use Rattle.sweep.specs.Graph.{GraphState}

@@ -9,7 +9,7 @@ use Rattle.fabric_parts.specs.declared.cable.PortRef.{PortRef}
 use Rattle.fabric_parts.specs.declared.node_type.NodeType.TheVariants as node_type
 use Rattle.fabric_wire.proofs.RecablingLemmas.{asked, nodes_alike, not_there, port_same, switch_same}
 use Rattle.fabric_wire.specs.Recabling.{cabling_of, can_change, changed, node_linked, nodes_linked}
-use Rattle.delivery_laws.specs.Deliveries.{adapter_at, adapter_ports}
+use Rattle.smp_wire.specs.Deliveries.{adapter_at, adapter_ports}
 use Rattle.step_results.proofs.ElementLemmas.{get_other, get_written, or_same}
 use Rattle.smp_wire.specs.FabricState.{FabricState, adapter_port, is_port, is_switch_at}
 use Rattle.smp_wire.specs.Good.{IsGood, node_guid}

@@ -7,7 +7,7 @@ use Rattle.std.proofs.lemmas.Bool.Decides.{nat_tests}
 use Rattle.std.proofs.lemmas.Option.{get_or_from_slice_get, none-some, same_Some, slice_get-map}
 use Rattle.fabric_parts.specs.Cable.{far_end, is_same_port, port}
 use Rattle.fabric_parts.specs.declared.cable.PortRef.{PortRef}
-use Rattle.delivery_laws.specs.Deliveries.{adapter_at, adapter_ports, guid_at as port_guid_at}
+use Rattle.smp_wire.specs.Deliveries.{adapter_at, adapter_ports, guid_at as port_guid_at}
 use Rattle.port_model.specs.AdapterState.{AdapterState}
 use Rattle.smp_wire.proofs.CableLemmas.{cabled_is_port, far_is_port, same_port}
 use Rattle.smp_wire.proofs.PresentLemmas.{present_right}

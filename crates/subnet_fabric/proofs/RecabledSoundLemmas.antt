@@ -13,7 +13,7 @@ use Rattle.fabric_wire.proofs.CutLemmas.{Free, apart}
 use Rattle.fabric_wire.proofs.OfTopologyLemmas.{nodes_from, port_there, switch_there}
 use Rattle.fabric_wire.specs.OfTopology.{fabric_of}
 use Rattle.step_results.proofs.ListLemmas.{IsDistinct-nil}
-use Rattle.route_order_laws.proofs.OfFabricLemmas.{within_rows}
+use Rattle.updn_routes.proofs.OfFabricLemmas.{within_rows}
 use Rattle.smp_wire.proofs.CableLemmas.{far_end_before, ports_turn, same_port}
 use Rattle.smp_wire.specs.FabricState.{is_switch_at}
 use Rattle.smp_wire.specs.Good.{IsGood, ends_of, is_right}

@@ -8,13 +8,13 @@ use Rattle.fabric_parts.specs.declared.cable.PortRef.{PortRef}
 use Rattle.fabric_wire.proofs.RecablingLemmas.{stays_good}
 use Rattle.fabric_wire.specs.Recabling.{can_change, changed}
 use Rattle.lid_assign.specs.Lids.{lid_in}
-use Rattle.delivery_laws.specs.Deliveries.{adapter_ports, guid_at as port_guid_at}
+use Rattle.smp_wire.specs.Deliveries.{adapter_ports, guid_at as port_guid_at}
 use Rattle.port_model.specs.AdapterState.{AdapterState}
 use Rattle.smp_wire.specs.FabricState.{FabricState, adapter_port, is_switch, is_switch_at}
 use Rattle.smp_wire.specs.Good.{IsGood}
 use Rattle.smp_wire.specs.declared.node.Node.{Node}
 use Rattle.smp_wire.specs.declared.node.Node.TheVariants.{Switch, Adapter}
-use Rattle.route_order_laws.proofs.OfFabricLemmas.{has_switch, not_without}
+use Rattle.updn_routes.proofs.OfFabricLemmas.{has_switch, not_without}
 use Rattle.subnet_fabric.proofs.RecabledCableLemmas.{leads}
 use Rattle.subnet_fabric.proofs.RecabledLidLemmas.{HaveSameEnds, named, one_list, same_named}
 use Rattle.subnet_fabric.proofs.RecabledNodeLemmas.{adapter_stays, end_stays, guid_stays, kind_stays, moves, seen_stays}

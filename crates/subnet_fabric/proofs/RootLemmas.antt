@@ -11,12 +11,11 @@ use Rattle.step_results.proofs.ListLemmas.{all_there}
 use Rattle.smp_wire.specs.FabricState.{FabricState, is_switch, is_switch_at as is_switch_in}
 use Rattle.smp_wire.specs.Good.{node_guid}
 use Rattle.smp_wire.specs.declared.node.Node.{Node}
-use Rattle.subnet_ports.specs.Ports.{guid_at}
 use Rattle.sweep.proofs.FoundLemmas.{among_place, any_at, any_by}
 use Rattle.sweep.specs.Graph.{GraphState}
 use Rattle.sweep.specs.OfFabric.{Found, IsLayoutOf, guid_at as guid_in_fabric, nodes_of, switch_of}
 use Rattle.sweep.specs.declared.graph.GraphSwitch.{GraphSwitch}
-use Rattle.topo_file.specs.Node.{is_switch as is_planned_switch, is_switch_at}
+use Rattle.topo_file.specs.Node.{guid_at, is_switch as is_planned_switch, is_switch_at}
 use Rattle.topo_file.specs.Sound.{IsSound, is_sized}
 use Rattle.topo_file.specs.Topology.{TopologyState}
 use Rattle.topo_file.specs.declared.node.Node.{Node as PlannedNode}

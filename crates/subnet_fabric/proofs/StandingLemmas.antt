@@ -36,7 +36,6 @@ use Rattle.subnet_fabric.specs.SetUp.{CanBeSetUp, IsNotSetUp, IsSetUpBy, are_swi
 use Rattle.subnet_fabric.specs.Standing.{CanComeUp, IsRecabled, IsStanding, cabling_after}
 use Rattle.subnet_fabric.specs.declared.fault.FabricFault.{FabricFault}
 use Rattle.subnet_fabric.specs.declared.fault.FabricFault.TheVariants as fault
-use Rattle.subnet_ports.specs.Ports.{guid_at}
 use Rattle.sweep.proofs.CutLemmas.{graphs_are_recabled}
 use Rattle.sweep.proofs.FoundLemmas.{place_is}
 use Rattle.sweep.specs.Graph.{IsGraph}
@@ -44,7 +43,7 @@ use Rattle.sweep.specs.Laws.{AreAlike, IsCut, in_graph}
 use Rattle.sweep.specs.Limits.{IsTooBig}
 use Rattle.sweep.specs.OfFabric.{IsGraphOf, IsLayoutOf, guid_at as guid_in_fabric, nodes_of, place_of}
 use Rattle.sweep.specs.declared.fault.SweepFault.TheVariants as sweep
-use Rattle.topo_file.specs.Node.{is_switch_at as is_planned_at}
+use Rattle.topo_file.specs.Node.{guid_at, is_switch_at as is_planned_at}
 use Rattle.topo_file.specs.Sound.{IsSound}
 use Rattle.topo_file.specs.Topology.{TopologyState}
 use Rattle.updn_routes.specs.Subnet.{RoutesState, guids_of}

@@ -10,15 +10,15 @@ use Rattle.fabric_wire.specs.Cabling.{CablingState, uncut}
 use Rattle.fabric_wire.proofs.OfTopologyGoodLemmas.{good as made_good}
 use Rattle.fabric_wire.specs.OfTopology.{fabric_of}
 use Rattle.fabric_wire.specs.Recabling.{cabling_of}
-use Rattle.delivery_laws.specs.Forwards.{ForwardsByLid, HoldsBackNothing, IsCabledPort}
-use Rattle.delivery_laws.specs.Groups.{ForwardsByMlid}
+use Rattle.smp_wire.specs.Forwards.{ForwardsByLid, HoldsBackNothing, IsCabledPort}
+use Rattle.smp_wire.specs.Groups.{ForwardsByMlid}
 use Rattle.partition_file.specs.declared.partition.Partition.{Partition}
 use Rattle.port_model.specs.AdapterState.{AdapterState}
 use Rattle.partition_file.specs.Sound.{IsSound as ArePartitions}
 use Rattle.smp_wire.specs.FabricState.{FabricState}
 use Rattle.smp_wire.specs.Good.{IsGood}
-use Rattle.push_order_laws.proofs.PushLemmas.{masks_are_the_fabrics, pushes_are_the_fabrics}
-use Rattle.push_order_laws.specs.Laws.{AreRoutesIn}
+use Rattle.table_push.proofs.PushLemmas.{masks_are_the_fabrics, pushes_are_the_fabrics}
+use Rattle.table_push.specs.OrderLaws.{AreRoutesIn}
 use Rattle.subnet_fabric.proofs.FoundLemmas.{laid_out}
 use Rattle.subnet_fabric.proofs.GroupLemmas.{a_fabric_with_groups_is_as_listed}
 use Rattle.subnet_fabric.proofs.ListedLemmas.{up}
@@ -33,8 +33,8 @@ use Rattle.subnet_fabric.specs.Recabled.{IsUpWith, base_of, with_cables}
 use Rattle.subnet_fabric.specs.Standing.{IsStanding}
 use Rattle.subnet_fabric.specs.StandingLaws.{AStandingFabricIsAsListed, BroughtUpStands, MasksLetItStand, OneCablingFollows, OneFabricStands}
 use Rattle.subnet_model.specs.declared.subnet_port.SubnetPort.{SubnetPort}
-use Rattle.subnet_ports.specs.Ports.{adapter_end_place, end_ports, in_order, keyed, ports_of, end_place_if_cabled, end_places, end_places_at, end_places_of_type}
-use Rattle.subnet_sends.specs.OfFabric.{IsFabricOf, IsListed, IsSetUpAsListed, IsThere}
+use Rattle.subnet_fabric.specs.Ports.{adapter_end_place, end_ports, in_order, keyed, ports_of, end_place_if_cabled, end_places, end_places_at, end_places_of_type}
+use Rattle.subnet_fabric.specs.OfFabric.{IsFabricOf, IsListed, IsSetUpAsListed, IsThere}
 use Rattle.sweep.specs.Graph.{GraphState}
 use Rattle.sweep.specs.OfFabric.{IsGraphOf}
 use Rattle.table_push.proofs.AllMaskLemmas.{masks_keep_what_is_up}

@@ -8,7 +8,7 @@ use Rattle.std.proofs.lemmas.Option.{slice_get-map}
 use Rattle.agent_rules.specs.declared.power_up.TheConstants.{LINEAR_TABLE, MULTICAST_TABLE}
 use Rattle.agent_rules.specs.declared.link.PortLink.TheVariants.{Internal}
 use Rattle.attr_tables.specs.declared.port_info.PortInfo.{PortInfo}
-use Rattle.fabric_parts.specs.Cable.{is_cabled}
+use Rattle.fabric_parts.specs.Cable.{is_cabled, last_of}
 use Rattle.fabric_parts.specs.declared.cable.Cable.{Cable}
 use Rattle.fabric_parts.specs.declared.cable.PortRef.{PortRef}
 use Rattle.fabric_parts.specs.declared.node_type.NodeType.{NodeType}
@@ -19,7 +19,6 @@ use Rattle.fabric_wire.specs.Recabling.{changed, node_linked}
 use Rattle.port_model.specs.AdapterState.{AdapterState}
 use Rattle.smp_wire.specs.FabricState.{FabricState}
 use Rattle.smp_wire.specs.Good.{SwitchesJoined, leads, end_port_guids, is_in_order, most_ports_of}
-use Rattle.smp_wire.specs.Walk.{last_of}
 use Rattle.smp_wire.specs.declared.node.Node.{Node}
 use Rattle.smp_wire.specs.declared.node.Node.TheVariants.{Switch, Adapter}
 use Rattle.switch_model.specs.SwitchState.{at_power_up as switch_at_power_up, port_at_power_up, ports_from}

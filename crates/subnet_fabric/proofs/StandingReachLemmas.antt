@@ -2,9 +2,9 @@
 use Rattle.std.proofs.Common.{ℕ, ◌≡◌, ◌∙◌, subst, sym, List}
 use Rattle.std.proofs.lemmas.Option.{same_Some}
 use Rattle.lid_assign.specs.Lids.{AreLids, end_ports}
-use Rattle.route_order_laws.proofs.AlikeLemmas.{none_is_reached_and_refused}
-use Rattle.route_order_laws.proofs.OfFabricLemmas.{graphs_of_one_fabric_are_alike}
-use Rattle.route_order_laws.specs.Alike.{layout_of}
+use Rattle.updn_routes.proofs.AlikeLemmas.{none_is_reached_and_refused}
+use Rattle.updn_routes.proofs.OfFabricLemmas.{graphs_of_one_fabric_are_alike}
+use Rattle.updn_routes.specs.Alike.{layout_of}
 use Rattle.smp_wire.specs.FabricState.{FabricState}
 use Rattle.smp_wire.specs.Good.{IsGood}
 use Rattle.subnet_fabric.proofs.RecabledLidLemmas.{HaveSameEnds, one_list}

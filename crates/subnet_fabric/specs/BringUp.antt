@@ -5,11 +5,11 @@ use Rattle.smp_wire.specs.FabricState.{FabricState}
 use Rattle.subnet_fabric.specs.SetUp.{HasNoPathFrom, IsSetUpBy}
 use Rattle.subnet_fabric.specs.declared.fault.FabricFault.{FabricFault}
 use Rattle.subnet_fabric.specs.declared.fault.FabricFault.TheVariants.{NoMemory, Sweep, NoLegalPath, Push}
-use Rattle.subnet_ports.specs.Ports.{guid_at}
 use Rattle.sweep.specs.Hops.{IsTooFar}
 use Rattle.sweep.specs.declared.fault.SweepFault.{SweepFault}
 use Rattle.sweep.specs.declared.fault.SweepFault.TheVariants as sweep
 use Rattle.topo_file.specs.Topology.{TopologyState}
+use Rattle.topo_file.specs.Node.{guid_at}
 use Rattle.updn_routes.specs.Subnet.{RoutesState}
 
 -- ---- how it comes about

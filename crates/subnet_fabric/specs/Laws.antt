@@ -9,8 +9,8 @@ use Rattle.smp_wire.specs.FabricState.{FabricState}
 use Rattle.smp_wire.specs.declared.node.Node.{Node}
 use Rattle.smp_wire.specs.declared.node.Node.TheVariants.{Switch, Adapter}
 use Rattle.subnet_model.specs.declared.subnet_port.SubnetPort.{SubnetPort}
-use Rattle.subnet_ports.specs.Ports.{ports_of}
-use Rattle.subnet_sends.specs.OfFabric.{IsFabricOf, nobody}
+use Rattle.subnet_fabric.specs.Ports.{ports_of}
+use Rattle.subnet_fabric.specs.OfFabric.{IsFabricOf, nobody}
 use Rattle.sweep.specs.Hops.{IsTooFar}
 use Rattle.table_push.specs.BroughtUpLaws.{AreOfGroups, by_guid}
 use Rattle.table_push.specs.Masks.{all_masks_pushed}

@@ -8,3 +8,12 @@ pub mod Laws
 pub mod Recabled
 pub mod Standing
 pub mod StandingLaws
+pub mod Ports
+pub mod EndPorts
+pub mod FabricPorts
+pub mod PortLaws
+pub mod GuidOrder
+pub mod OfFabric
+pub mod SendLaws
+pub mod Sends
+pub mod Replies

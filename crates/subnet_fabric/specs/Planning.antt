@@ -3,17 +3,17 @@ use Rattle.std.specs.Prelude.{ℕ, ◌≡◌, ◌==◌, Bool, true, false, List,
 use Rattle.fabric_parts.specs.Cable.{port}
 use Rattle.fabric_parts.specs.declared.cable.Cable.{Cable}
 use Rattle.fabric_parts.specs.declared.cable.PortRef.{PortRef}
-use Rattle.route_order_laws.specs.NextHops.{AreChosenFrom}
+use Rattle.updn_routes.specs.NextHops.{AreChosenFrom}
 use Rattle.smp_wire.specs.FabricState.{FabricState}
 use Rattle.smp_wire.specs.Good.{SwitchesJoined}
 use Rattle.subnet_fabric.specs.SetUp.{AreAssigned, CanBeSetUp, HasNoPathFrom, IsLaidOut}
 use Rattle.subnet_fabric.specs.declared.planning.Planned.{Planned}
 use Rattle.subnet_fabric.specs.declared.planning.Planned.TheVariants.{Routed, NotWhole, NoLegalPath}
-use Rattle.subnet_ports.specs.Ports.{guid_at}
 use Rattle.sweep.specs.Graph.{GraphState, is_linked}
 use Rattle.sweep.specs.Hops.{IsTooFar}
 use Rattle.sweep.specs.Recabled.{MayBeCabled, with_cable, without}
 use Rattle.topo_file.specs.Topology.{TopologyState}
+use Rattle.topo_file.specs.Node.{guid_at}
 use Rattle.updn_routes.specs.Routes.{AllReached, AreRoutesOf, order_of}
 use Rattle.updn_routes.specs.Subnet.{RoutesState, guids_of, homes_of, rows_of}
 

@@ -6,8 +6,8 @@ use Rattle.fabric_wire.specs.Recabling.{cabling_of}
 use Rattle.partition_file.specs.Sound.{IsSound as ArePartitions}
 use Rattle.partition_file.specs.declared.partition.Partition.{Partition}
 use Rattle.smp_wire.specs.FabricState.{FabricState}
-use Rattle.subnet_ports.specs.Ports.{ports_of}
-use Rattle.subnet_sends.specs.OfFabric.{IsFabricOf}
+use Rattle.subnet_fabric.specs.Ports.{ports_of}
+use Rattle.subnet_fabric.specs.OfFabric.{IsFabricOf}
 use Rattle.table_push.specs.BroughtUpLaws.{AreOfGroups, by_guid}
 use Rattle.table_push.specs.Masks.{all_masks_pushed}
 use Rattle.topo_file.specs.Sound.{IsSound}

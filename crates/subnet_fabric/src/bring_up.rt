@@ -9,8 +9,7 @@ use fabric_wire::Fabric;
 use pkey_rules::{KeyTable, PARTITIONS};
 use std::alloc::{AllocError, Global};
 use std::marker::Model;
-use subnet_ports::guid_at;
-use topo_file::Topology;
+use topo_file::{Topology, guid_at};
 use updn_routes::Routes;
 
 /// A fabric that is up, and the routes that brought it there.

@@ -16,9 +16,8 @@ use crate::bring_up::root_guids;
 use fabric_parts::{Cable, PortRef};
 use lid_assign::assign;
 use std::alloc::{AllocError, Global};
-use subnet_ports::guid_at;
 use sweep::Graph;
-use topo_file::Topology;
+use topo_file::{Topology, guid_at};
 use updn_routes::{RouteFault, Routes, routes};
 
 /// What would become of a fabric with a cable cut, or mended.

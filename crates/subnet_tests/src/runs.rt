@@ -1,11 +1,11 @@
 //! Steps and whole runs, carried out or refused since an allocation failed.
 
-use example_texts::TWO_SWITCHES;
 use std::alloc::Global;
 use std::process::Abort;
 use std::test::Fail;
 use subnet_core::{RunFault, StepFault, Subnet, bring_up, run};
 use subnet_model::Command;
+use test_fabrics::TWO_SWITCHES;
 
 /// The subnet of a topology without a partition file. It is given, and has no clause: a proof would read the text.
 fn subnet_of(alloc: Global, topology: &[u8]) -> Result<Subnet, RunFault> {

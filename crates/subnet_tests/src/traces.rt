@@ -4,13 +4,13 @@
 use attr_tables::SmpAttribute::{
     self, LinearForwardingTable, MulticastForwardingTable, PKeyTable, SwitchInfo,
 };
-use example_texts::TWO_SWITCHES;
 use fabric_parts::PortRef;
 use fabric_wire::{Fabric, get_attribute, set_attribute};
 use packet_trace::trace_text;
 use std::alloc::Global;
 use std::test::Fail;
 use subnet_core::bring_up;
+use test_fabrics::TWO_SWITCHES;
 use topo_file::read;
 
 /// Bytes that are written: the attribute and its modifier, the path to the node, the first byte's place, and they.

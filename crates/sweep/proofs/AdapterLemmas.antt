@@ -5,6 +5,7 @@ use Rattle.std.specs.List.{list_all, list_any}
 use Rattle.std.proofs.Math.Seq.{drop-cons}
 use Rattle.std.proofs.lemmas.List.{append_assoc, append-nil, take_more}
 use Rattle.std.proofs.lemmas.Bool.Decides.{Decides-eqb, nat_tests}
+use Rattle.step_results.proofs.BoolLemmas.{and_true}
 use Rattle.sweep.specs.Graph.{agree, all_agree}
 use Rattle.sweep.specs.Adapters.{is_count}
 use Rattle.sweep.specs.declared.graph.GraphPort.{GraphPort}
@@ -29,11 +30,7 @@ agree_on past [] = true
 agree_on past (port ∷ rest) = list_all (λ one. agree one port) past && agree_on (past ++ port ∷ []) rest
 
 all_push : {X : Type 0} (p : X → Bool) (xs : List X) (x : X) → list_all p (xs ++ x ∷ []) ≡ list_all p xs && p x
-all_push p [] x = both (p x)
-  where
-    both : (b : Bool) → b && true ≡ b
-    both true = refl
-    both false = refl
+all_push p [] x = and_true (p x)
 all_push p (y ∷ xs) x = ap (λ (b : Bool). p y && b) (all_push p xs x) ∙ assoc (p y)
   where
     assoc : (a : Bool) → a && (list_all p xs && p x) ≡ (a && list_all p xs) && p x
@@ -41,11 +38,11 @@ all_push p (y ∷ xs) x = ap (λ (b : Bool). p y && b) (all_push p xs x) ∙ ass
     assoc false = refl
 
 any_push : {X : Type 0} (p : X → Bool) (xs : List X) (x : X) → list_any p (xs ++ x ∷ []) ≡ list_any p xs || p x
-any_push p [] x = both (p x)
+any_push p [] x = and_true (p x)
   where
-    both : (b : Bool) → b || false ≡ b
-    both true = refl
-    both false = refl
+    and_true : (b : Bool) → b || false ≡ b
+    and_true true = refl
+    and_true false = refl
 any_push p (y ∷ xs) x = ap (λ (b : Bool). p y || b) (any_push p xs x) ∙ assoc (p y)
   where
     assoc : (a : Bool) → a || (list_any p xs || p x) ≡ (a || list_any p xs) || p x
@@ -65,11 +62,11 @@ agree_push (one ∷ past) port =
     (four (list_all (agree one) past) (agree one port) (all_agree past) (list_all (λ one. agree one port) past))
 
 pub agree_whole : (past rest : List GraphPort) → all_agree (past ++ rest) ≡ all_agree past && agree_on past rest
-agree_whole past [] = rw (append-nil past) (both (all_agree past))
+agree_whole past [] = rw (append-nil past) (and_true (all_agree past))
   where
-    both : (b : Bool) → b ≡ b && true
-    both true = refl
-    both false = refl
+    and_true : (b : Bool) → b ≡ b && true
+    and_true true = refl
+    and_true false = refl
 agree_whole past (port ∷ rest) =
     ap all_agree (sym (append_assoc past (port ∷ []) rest)) ∙ agree_whole (past ++ port ∷ []) rest
     ∙ ap (λ (b : Bool). b && agree_on (past ++ port ∷ []) rest) (agree_push past port)
@@ -117,14 +114,14 @@ report_more past port old new was is same guid count =
         self true = refl
         self false = refl
 
-    both : (b : Bool) → b && true ≡ b
-    both true = refl
-    both false = refl
+    and_true : (b : Bool) → b && true ≡ b
+    and_true true = refl
+    and_true false = refl
 
     by : (b : Bool) → port.node_guid == guid ≡ b
         → is_count count (old guid) && (not b || (port.num_ports == count)) ≡ is_count count (cond b (Some port.num_ports) (old guid))
     by true at = twice (old guid) (ap (λ (g : ℕ). is_count port.num_ports (old g)) (sym ((Decides-eqb port.node_guid guid).0 at)) ∙ same)
-    by false at = both (is_count count (old guid))
+    by false at = and_true (is_count count (old guid))
 
 pub has_more : (past : List GraphPort) (port : GraphPort) (key : AdapterPort) (old new : Bool) → old ≡ has past key
     → new ≡ cond ((port.node_guid == key.guid) && (port.number == key.number)) true old → new ≡ has (past ++ port ∷ []) key
@@ -162,7 +159,3 @@ pub kept_agrees : (past : List GraphPort) (port : GraphPort) (reported : Option 
     → report past port.node_guid port.num_ports ≡ is_count port.num_ports reported → contained ≡ has past (record { guid = port.node_guid; number = port.number })
     → new ≡ not contained → list_all (λ one. agree one port) past ≡ is_count port.num_ports reported && new
 kept_agrees past port reported contained new reports there is = agrees past port ∙ rw (reports, sym there, is) refl
-
-pub not_new : (reported new : Bool) → new ≡ false → reported && new ≡ false
-not_new true new old = old
-not_new false new old = refl

@@ -3,13 +3,13 @@ use Rattle.std.proofs.Common.{ℕ, ◌≡◌, refl, sym, Bool, true, false, if�
 use Rattle.std.specs.List.{list_all}
 use Rattle.std.specs.Option.{option_and_then}
 use Rattle.std.proofs.lemmas.Option.{same_Some}
-use Rattle.fabric_parts.specs.Cable.{far_end}
+use Rattle.fabric_parts.specs.Cable.{far_end, last_of}
 use Rattle.fabric_parts.specs.declared.cable.Cable.{Cable}
 use Rattle.fabric_parts.specs.declared.cable.PortRef.{PortRef}
 use Rattle.smp_wire.proofs.CableLemmas.{far_is_port}
 use Rattle.smp_wire.specs.FabricState.{FabricState, is_port}
 use Rattle.smp_wire.specs.Good.{IsGood, is_right}
-use Rattle.smp_wire.specs.Walk.{end_of, hands_on, hop, last_of, walk}
+use Rattle.smp_wire.specs.Walk.{end_of, hands_on, hop, walk}
 use Rattle.smp_wire.specs.declared.node.Node.{Node}
 use Rattle.smp_wire.proofs.PresentLemmas.{present_right}
 

@@ -9,11 +9,11 @@ use Rattle.std.proofs.lemmas.List.Elements.{All-cons, All-nil}
 use Rattle.std.proofs.lemmas.Map.Keys.{IsDistinct-cons}
 use Rattle.std.proofs.lemmas.Option.{same_Some, slice_get_within}
 use Rattle.step_results.proofs.ListLemmas.{IsDistinct-nil, all_there}
-use Rattle.fabric_parts.specs.Cable.{is_same_port, port}
+use Rattle.fabric_parts.specs.Cable.{is_same_port, last_of, port}
 use Rattle.fabric_parts.specs.declared.cable.PortRef.{PortRef}
 use Rattle.smp_wire.specs.FabricState.{FabricState, is_switch_at}
 use Rattle.smp_wire.specs.Good.{IsGood, SwitchesJoined}
-use Rattle.smp_wire.specs.Walk.{last_of, walk}
+use Rattle.smp_wire.specs.Walk.{walk}
 use Rattle.sweep.specs.Graph.{graph_with}
 use Rattle.sweep.specs.OfFabric.{Found, IsGraphOf, Leads, is_among, nodes_of, ports_before, row_of}
 use Rattle.sweep.specs.Progress.{AreMet, IsAsked, IsDiscovery, IsProgress, IsShownAt, StandsAt, WasMet, is_found}

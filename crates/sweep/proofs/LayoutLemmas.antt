@@ -7,13 +7,13 @@ use Rattle.std.proofs.lemmas.Bool.{and_from, and_parts, eq-eqb, eqb-false, eqb-t
 use Rattle.std.proofs.lemmas.List.{length-map}
 use Rattle.std.proofs.lemmas.Option.{same_Some, slice_get_cases, slice_get_within}
 use Rattle.step_results.proofs.ListLemmas.{list_any_weaker}
-use Rattle.fabric_parts.specs.Cable.{far_end, is_same_port, port}
+use Rattle.fabric_parts.specs.Cable.{far_end, is_same_port, last_of, port}
 use Rattle.fabric_parts.specs.declared.cable.PortRef.{PortRef}
 use Rattle.smp_wire.proofs.CableLemmas.{cabled_is_port}
 use Rattle.smp_wire.proofs.PresentLemmas.{present_right}
 use Rattle.smp_wire.specs.FabricState.{FabricState, is_port, is_switch_at}
 use Rattle.smp_wire.specs.Good.{IsGood}
-use Rattle.smp_wire.specs.Walk.{hop, last_of, walk}
+use Rattle.smp_wire.specs.Walk.{hop, walk}
 use Rattle.sweep.specs.Graph.{GraphState}
 use Rattle.sweep.specs.Joined.{is_next_to, is_walk_by}
 use Rattle.sweep.specs.OfFabric.{Found, IsLayoutOf, link_to, node_at, nodes_of, place_of, placed, port_seen, port_to, ports_at, ports_up_to, row_of}

@@ -5,12 +5,12 @@ use Rattle.std.specs.Option.{option_and_then}
 use Rattle.std.proofs.lemmas.Bool.{and_parts}
 use Rattle.std.proofs.lemmas.Bool.Decides.{nat_tests}
 use Rattle.std.proofs.lemmas.Option.{same_Some}
-use Rattle.fabric_parts.specs.Cable.{far_end, port}
+use Rattle.fabric_parts.specs.Cable.{far_end, last_of, port}
 use Rattle.fabric_parts.specs.declared.cable.PortRef.{PortRef}
 use Rattle.smp_wire.proofs.PathLemmas.{paths_begin}
 use Rattle.smp_wire.specs.FabricState.{FabricState, is_port, is_switch_at}
 use Rattle.smp_wire.specs.Good.{IsGood}
-use Rattle.smp_wire.specs.Walk.{hands_on, hop, last_of, walk}
+use Rattle.smp_wire.specs.Walk.{hands_on, hop, walk}
 use Rattle.sweep.specs.Hops.{IsWithin}
 use Rattle.sweep.specs.OfFabric.{Found, ports_at}
 use Rattle.sweep.specs.Progress.{IsAsked, IsDiscovery, IsKnownBehind, StandsAt, is_found}

@@ -3,6 +3,7 @@ use Rattle.std.proofs.Common.{ℕ, ◌≡◌, ◌∙◌, ◌^◌, ◌<◌, ◌�
 use Rattle.std.proofs.Common.{slice_get, Option, Some, None, Result, Ok, Err, ◌⊎◌, inl, inr, arith}
 use Rattle.std.specs.Option.{option_and_then, option_map_or}
 use Rattle.std.proofs.lemmas.Option.{slice_get_cases}
+use Rattle.step_results.proofs.BoolLemmas.{not_twice}
 use Rattle.mad_layout.specs.Layout.{Fits, Holds}
 use Rattle.mad_layout.specs.declared.status.MadStatus.{MadStatus}
 use Rattle.mad_layout.proofs.LayoutLemmas.{holds_put_all}
@@ -110,10 +111,6 @@ reported_fault fault = Err fault
 same_Ok : (a b : List ℕ) → reported_bytes a ≡ reported_bytes b → a ≡ b
 same_Ok a b h = cc
 
-twice : (b : Bool) → not (not b) ≡ b
-twice true = refl
-twice false = refl
-
 given_along : (fabric : FabricState) (at : PortRef) (path : List ℕ) (number : ℕ) (reported : Result (List ℕ) SweepFault) → end_of fabric path ≡ Some at
     → reported ≡ heard (reported_for (gives_along fabric path LinkAsked number)) → reported ≡ heard (reported_for (gives_at fabric at LinkAsked number))
 given_along fabric at path number reported ends is =
@@ -127,7 +124,7 @@ linked fabric at path bytes number read good links ends switch is_there reported
     let given = gives_link fabric at number good links (end_port fabric path at good ends) switch is_there in
     let so = given_along fabric at path number (reported_bytes bytes) ends reported in
     let same : bytes ≡ given.bytes = same_Ok bytes given.bytes (so ∙ ap (λ (one : Option (Result (List ℕ) MadStatus)). heard (reported_for one)) given.gives) in
-    ap not (given.reads read (rw (sym same) holds)) ∙ twice (is_cabled fabric.cables (port at.node number))
+    ap not (given.reads read (rw (sym same) holds)) ∙ not_twice (is_cabled fabric.cables (port at.node number))
 
 pub not_linked : (fabric : FabricState) (at : PortRef) (path : List ℕ) (number : ℕ) (fault : SweepFault) → IsGood fabric → ShowsLinks fabric
     → end_of fabric path ≡ Some at → is_switch_at fabric.nodes at.node ≡ true → is_port fabric.nodes (port at.node number) ≡ true

@@ -5,7 +5,7 @@ use Rattle.std.specs.Option.{ok_or, option_and_then, option_map_or}
 use Rattle.std.proofs.lemmas.Bool.{and_parts}
 use Rattle.std.proofs.lemmas.Bool.Decides.{Decides-eqb}
 use Rattle.std.proofs.lemmas.Option.{same_Some}
-use Rattle.fabric_parts.specs.Cable.{ends_at, far_end, is_same_port, other_end}
+use Rattle.fabric_parts.specs.Cable.{ends_at, far_end, is_same_port, last_of, other_end}
 use Rattle.fabric_parts.specs.NodeType.{is_switch_type}
 use Rattle.fabric_parts.specs.declared.cable.Cable.{Cable}
 use Rattle.fabric_parts.specs.declared.cable.PortRef.{PortRef}
@@ -15,7 +15,7 @@ use Rattle.smp_wire.specs.declared.node.Node.{Node}
 use Rattle.smp_wire.specs.declared.node.Node.TheVariants.{Switch, Adapter}
 use Rattle.smp_wire.specs.FabricState.{FabricState, adapter_port, is_port, is_switch, is_switch_at}
 use Rattle.smp_wire.specs.Good.{IsGood, is_right, node_guid}
-use Rattle.smp_wire.specs.Walk.{end_of, last_of, walk}
+use Rattle.smp_wire.specs.Walk.{end_of, walk}
 use Rattle.step_results.proofs.ElementLemmas.{find_all}
 use Rattle.smp_wire.proofs.PathLemmas.{paths_begin}
 use Rattle.sweep.specs.OfFabric.{switch_of}

@@ -8,14 +8,14 @@ use Rattle.std.proofs.lemmas.Bool.{and_parts, eq-eqb, eqb-true, false≢true, or
 use Rattle.std.proofs.lemmas.List.Elements.{Contains-get_or}
 use Rattle.step_results.proofs.DistinctLemmas.{differ}
 use Rattle.step_results.proofs.ListLemmas.{all_there}
-use Rattle.fabric_parts.specs.Cable.{far_end, is_same_port, port}
+use Rattle.fabric_parts.specs.Cable.{far_end, is_same_port, last_of, port}
 use Rattle.fabric_parts.specs.declared.cable.PortRef.{PortRef}
 use Rattle.smp_wire.proofs.CableLemmas.{far_is_port}
 use Rattle.smp_wire.proofs.PathLemmas.{paths_begin}
 use Rattle.smp_wire.proofs.PresentLemmas.{present_once, present_right}
 use Rattle.smp_wire.specs.FabricState.{FabricState, is_port, is_switch_at}
 use Rattle.smp_wire.specs.Good.{IsGood, SwitchesJoined, is_right}
-use Rattle.smp_wire.specs.Walk.{last_of, walk}
+use Rattle.smp_wire.specs.Walk.{walk}
 use Rattle.sweep.specs.Graph.{GraphState}
 use Rattle.sweep.specs.Hops.{IsTooFar, IsWithin}
 use Rattle.sweep.specs.Joined.{AllJoined, is_next_to, is_walk_by}

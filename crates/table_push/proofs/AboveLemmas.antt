@@ -2,11 +2,12 @@
 use Rattle.std.proofs.Common.{ℕ, zero, suc, ◌≡◌, ◌+◌, ◌-◌, ◌<◌, ◌≤◌, ◌==◌, ◌&&◌, ◌||◌, ◌∙◌, inl, inr, ap, refl, sym, Bool, true, false, nat_lt, List, length, get_or, replicate, slice_set, bit_or, Option, Some, None, option_map, arith}
 use Rattle.std.specs.Int.{bit_at}
 use Rattle.std.specs.Option.{option_and_then, option_map_or}
-use Rattle.std.proofs.lemmas.Bool.{eq-eqb, eqb-true, false≢true, ltb-false, ltb-true, or_cases}
+use Rattle.std.proofs.lemmas.Bool.{eq-eqb, eqb-true, false≢true, ltb-false, ltb-true, or_cases, or_right}
 use Rattle.std.proofs.lemmas.List.{length-set}
 use Rattle.std.proofs.lemmas.Option.{none-some, option_and_then_some, same_Some}
 use Rattle.std.proofs.lemmas.Bool.Decides.{nat_tests}
 use Rattle.step_results.proofs.ListLemmas.{found_passes}
+use Rattle.step_results.proofs.BoolLemmas.{or_assoc}
 use Rattle.table_push.specs.MaskSteps.{is_that_port}
 use Rattle.table_push.specs.TreeSteps.{ArePut, is_up_to}
 use Rattle.table_push.proofs.ReachLemmas.{no_bits, same_answers}
@@ -66,10 +67,6 @@ that_one (Some top) s h = ap (λ (v : ℕ). Some v) (eqb-true top s h)
 
 one_of : (s : ℕ) (o : Option ℕ) → o ≡ Some s → is_that_port o s ≡ true
 one_of s o h = ap (λ (some : Option ℕ). is_that_port some s) h ∙ eq-eqb s s refl
-
-or_right : (a b : Bool) → b ≡ true → (a || b) ≡ true
-or_right true b h = refl
-or_right false b h = h
 
 or_left : (a b : Bool) → a ≡ true → (a || b) ≡ true
 or_left true b h = refl
@@ -141,17 +138,13 @@ and_distributes false true false = refl
 and_distributes false false true = refl
 and_distributes false false false = refl
 
-or_again : (a b c : Bool) → ((a || b) || c) ≡ (a || (b || c))
-or_again true b c = refl
-or_again false b c = refl
-
 pub both_put : (p q r : ℕ → Bool) (bit : ℕ) (one two three : List ℕ) → ((s : ℕ) → r s ≡ (p s || q s)) → ArePut p bit one two → ArePut q bit two three
     → ArePut r bit one three
 both_put p q r bit one two three are first second = (
   second.0 ∙ first.0,
   λ s t low.
       second.1 s t low ∙ ap (λ (b : Bool). b || (q s && (bit == t))) (first.1 s t low)
-      ∙ or_again (bit_at (get_or one s 0) t == 1) (p s && (bit == t)) (q s && (bit == t))
+      ∙ or_assoc (bit_at (get_or one s 0) t == 1) (p s && (bit == t)) (q s && (bit == t))
       ∙ ap (λ (b : Bool). (bit_at (get_or one s 0) t == 1) || b) (and_distributes (p s) (q s) (bit == t) ∙ ap (λ (b : Bool). b && (bit == t)) (sym (are s))),
 )
 

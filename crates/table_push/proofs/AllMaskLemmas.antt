@@ -11,8 +11,8 @@ use Rattle.agent_rules.specs.Good.{IsTable}
 use Rattle.agent_rules.specs.declared.power_up.TheConstants.{MULTICAST_TABLE}
 use Rattle.fabric_parts.specs.declared.cable.PortRef.{PortRef}
 use Rattle.fabric_parts.specs.declared.lid.TheConstants.{FIRST_MULTICAST_LID}
-use Rattle.delivery_laws.specs.Deliveries.{adapter_at, adapter_ports}
-use Rattle.delivery_laws.specs.Forwards.{IsCabledPort, node_switch_port, switch_port_at}
+use Rattle.smp_wire.specs.Deliveries.{adapter_at, adapter_ports}
+use Rattle.smp_wire.specs.Forwards.{IsCabledPort, node_switch_port, switch_port_at}
 use Rattle.port_model.specs.AdapterState.{AdapterState}
 use Rattle.step_results.proofs.ElementLemmas.{or_same}
 use Rattle.smp_wire.proofs.GoodLemmas.{down_at}

@@ -7,8 +7,8 @@ use Rattle.std.proofs.lemmas.Option.{none-some, slice_get_within}
 use Rattle.fabric_parts.specs.Cable.{far_end, port}
 use Rattle.fabric_parts.specs.declared.cable.PortRef.{PortRef}
 use Rattle.fabric_parts.specs.declared.node_type.NodeType.TheVariants as node_type
-use Rattle.delivery_laws.specs.Deliveries.{adapter_at, adapter_ports}
-use Rattle.delivery_laws.specs.Forwards.{IsCabledPort}
+use Rattle.smp_wire.specs.Deliveries.{adapter_at, adapter_ports}
+use Rattle.smp_wire.specs.Forwards.{IsCabledPort}
 use Rattle.port_model.specs.AdapterState.{AdapterState}
 use Rattle.smp_wire.proofs.CableLemmas.{far_is_port}
 use Rattle.smp_wire.specs.FabricState.{FabricState, adapter_port, is_switch, is_switch_at}

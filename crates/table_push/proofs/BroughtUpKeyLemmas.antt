@@ -1,7 +1,7 @@
 -- A port of a switch holds the full form of each key of the port before it.
 use Rattle.std.proofs.Common.{ℕ, zero, suc, ◌≡◌, ◌-◌, ◌==◌, ◌||◌, ◌∙◌, ap, refl, sym, not, Bool, true, false, List, [], ◌∷◌, ◌++◌, filter, length, map, replicate}
 use Rattle.std.proofs.lemmas.Bool.{eq-eqb, eqb-true, false≢true, or_left, or_right}
-use Rattle.delivery_laws.proofs.KeyLemmas.{full_base}
+use Rattle.smp_wire.proofs.KeyLemmas.{full_base}
 use Rattle.pkey_rules.specs.KeyTable.{holds, same_base}
 use Rattle.pkey_rules.specs.PKey.{base_of, full_form}
 use Rattle.pkey_rules.specs.StoredKeys.{stored_keys}

@@ -9,7 +9,7 @@ use Rattle.fabric_parts.specs.Cable.{far_end, port}
 use Rattle.fabric_parts.specs.declared.cable.PortRef.{PortRef}
 use Rattle.lid_assign.specs.Lids.{adapter_end, end_ports, guid_in, lid_in, switch_end}
 use Rattle.lid_assign.proofs.LawLemmas.{lids_and_guids_name_each_other}
-use Rattle.delivery_laws.specs.Forwards.{Follows, IsCabledPort, Leads, entry_at}
+use Rattle.smp_wire.specs.Forwards.{Follows, IsCabledPort, Leads, entry_at}
 use Rattle.pkey_rules.specs.declared.end_port.EndPort.{EndPort}
 use Rattle.port_model.specs.AdapterState.{AdapterState}
 use Rattle.step_results.proofs.ListLemmas.{all_have}

@@ -4,8 +4,8 @@ use Rattle.std.specs.Option.{option_and_then, option_map_or}
 use Rattle.std.proofs.lemmas.Bool.Decides.{nat_tests}
 use Rattle.std.proofs.lemmas.Option.{none-some, same_Some}
 use Rattle.fabric_parts.specs.declared.cable.PortRef.{PortRef}
-use Rattle.delivery_laws.specs.Deliveries.{adapter_at, adapter_ports}
-use Rattle.delivery_laws.specs.Forwards.{node_switch_port, switch_port_at}
+use Rattle.smp_wire.specs.Deliveries.{adapter_at, adapter_ports}
+use Rattle.smp_wire.specs.Forwards.{node_switch_port, switch_port_at}
 use Rattle.port_model.specs.AdapterState.{AdapterState}
 use Rattle.smp_wire.specs.FabricState.{FabricState, adapter_port}
 use Rattle.smp_wire.specs.Good.{node_guid}

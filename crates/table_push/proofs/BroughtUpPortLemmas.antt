@@ -10,8 +10,8 @@ use Rattle.attr_tables.specs.declared.port_state.PortState.TheVariants.{Active}
 use Rattle.fabric_parts.specs.Cable.{far_end, is_same_port, port}
 use Rattle.fabric_parts.specs.declared.cable.PortRef.{PortRef}
 use Rattle.lid_assign.specs.Lids.{adapter_end, end_ports, lid_in, switch_end}
-use Rattle.delivery_laws.specs.Deliveries.{adapter_at}
-use Rattle.delivery_laws.specs.Forwards.{IsCabledPort, switch_port_at}
+use Rattle.smp_wire.specs.Deliveries.{adapter_at}
+use Rattle.smp_wire.specs.Forwards.{IsCabledPort, switch_port_at}
 use Rattle.port_model.specs.AdapterState.{AdapterState}
 use Rattle.port_model.specs.Packets.{is_active}
 use Rattle.step_results.proofs.ListLemmas.{all_have, all_there}

@@ -22,6 +22,7 @@ use Rattle.table_push.specs.Nodes.{with_keys}
 use Rattle.table_push.specs.Pushes.{Leaves, Stands}
 use Rattle.table_push.specs.declared.fault.PushFault.{PushFault}
 use Rattle.step_results.proofs.DistinctLemmas.{left_part}
+use Rattle.step_results.proofs.BoolLemmas.{or_assoc}
 use Rattle.table_push.proofs.GuidLemmas.{no_place, place_is}
 use Rattle.table_push.proofs.AttachedLemmas.{adapter_leads, switch_leads}
 use Rattle.table_push.proofs.LeadLemmas.{begins_as, ends_as}
@@ -134,10 +135,6 @@ at_adapter stood left result fabric routes keys there k one table good is of at 
     put_more stood left result fabric routes keys there (attachment.switch.path ++ one.at.port ∷ []) 0 one.node_guid one.number table (wanted ∙ sym reports)
     (adapter_leads fabric routes.graph k one attachment.switch good of at attachment.there) stands puts
 
-or_first : (a b c : Bool) → ((a || b) || c) ≡ (a || (b || c))
-or_first true b c = refl
-or_first false b c = refl
-
 pub cable_ends : (result : Result (Unit {0}) PushFault) (left : Option FabricState) (fabric : FabricState) (routes : RoutesState) (keys : List (List ℕ))
     (there : ℕ → ℕ → Bool) (one named : GraphPort) → one ≡ named
     → Leaves result left fabric (with_keys (keys_where (with_this (with_this there (guid_of routes.graph.switches one.at.node) one.at.port) one.node_guid one.number) routes keys) fabric)
@@ -145,7 +142,7 @@ pub cable_ends : (result : Result (Unit {0}) PushFault) (left : Option FabricSta
 cable_ends result left fabric routes keys there one named same leaves =
     subst (λ (port : GraphPort). Leaves result left fabric (with_keys (keys_where (λ guid number. there guid number || at_cable routes.graph.switches guid number port) routes keys) fabric)) same
     (subst (Leaves result left fabric)
-    (put_same routes keys fabric _ _ (λ guid number. or_first (there guid number) ((guid_of routes.graph.switches one.at.node == guid) && (one.at.port == number))
+    (put_same routes keys fabric _ _ (λ guid number. or_assoc (there guid number) ((guid_of routes.graph.switches one.at.node == guid) && (one.at.port == number))
     ((one.node_guid == guid) && (one.number == number)))) leaves)
 
 -- ---- all cables
@@ -172,7 +169,7 @@ cables_more result left fabric routes keys place one within there leaves =
   where
     each : (guid number : ℕ) → (at_first routes place guid number || at_cable routes.graph.switches guid number one) ≡ at_first routes (place + 1) guid number
     each guid number =
-        or_first (at_switches routes.graph.switches guid number) (at_cables routes.graph.switches (take place routes.graph.ports) guid number) (at_cable routes.graph.switches guid number one)
+        or_assoc (at_switches routes.graph.switches guid number) (at_cables routes.graph.switches (take place routes.graph.ports) guid number) (at_cable routes.graph.switches guid number one)
         ∙ ap (λ (b : Bool). at_switches routes.graph.switches guid number || b)
         (ap (λ (other : GraphPort). list_any (at_cable routes.graph.switches guid number) (take place routes.graph.ports) || at_cable routes.graph.switches guid number other)
         (sym (get_or_from_slice_get routes.graph.ports place one one there))

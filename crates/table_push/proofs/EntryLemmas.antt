@@ -7,7 +7,7 @@ use Rattle.std.proofs.lemmas.List.{get_or_past, length-map}
 use Rattle.std.proofs.lemmas.List.FromFn.{get_or-map-range_with_len, length-map-range_with_len}
 use Rattle.std.proofs.lemmas.Option.{none-some, same_Some, slice_get-get_or, slice_get-map, slice_get_past}
 use Rattle.agent_rules.specs.declared.power_up.TheConstants.{LINEAR_TABLE}
-use Rattle.delivery_laws.specs.Forwards.{entry_at, node_entry}
+use Rattle.smp_wire.specs.Forwards.{entry_at, node_entry}
 use Rattle.fabric_parts.specs.declared.cable.PortRef.{PortRef}
 use Rattle.smp_wire.specs.FabricState.{FabricState, is_switch}
 use Rattle.smp_wire.specs.Good.{node_guid}

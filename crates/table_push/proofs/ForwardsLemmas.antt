@@ -3,9 +3,9 @@ use Rattle.std.proofs.Common.{ℕ, ◌≡◌, ◌-◌, ◌<◌, ◌∙◌, ap, s
 use Rattle.std.proofs.lemmas.Option.{slice_get-get_or}
 use Rattle.fabric_parts.specs.Cable.{far_end}
 use Rattle.fabric_parts.specs.declared.cable.PortRef.{PortRef}
-use Rattle.delivery_laws.specs.Deliveries.{adapter_at}
+use Rattle.smp_wire.specs.Deliveries.{adapter_at}
 use Rattle.pkey_rules.specs.PKey.{full_form}
-use Rattle.delivery_laws.specs.Forwards.{IsCabledPort, switch_port_at}
+use Rattle.smp_wire.specs.Forwards.{IsCabledPort, switch_port_at}
 use Rattle.pkey_rules.specs.KeyTable.{holds}
 use Rattle.pkey_rules.specs.StoredKeys.{stored_keys}
 use Rattle.port_model.specs.AdapterState.{AdapterState}

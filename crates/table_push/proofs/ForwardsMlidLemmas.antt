@@ -7,9 +7,9 @@ use Rattle.std.proofs.lemmas.Option.{same_Some}
 use Rattle.fabric_parts.specs.Cable.{far_end, port}
 use Rattle.fabric_parts.specs.Lid.{is_multicast}
 use Rattle.fabric_parts.specs.declared.cable.PortRef.{PortRef}
-use Rattle.delivery_laws.specs.Deliveries.{adapter_at}
-use Rattle.delivery_laws.specs.Forwards.{IsCabledPort}
-use Rattle.delivery_laws.specs.Groups.{GoesByMasks, is_in_masks_at}
+use Rattle.smp_wire.specs.Deliveries.{adapter_at}
+use Rattle.smp_wire.specs.Forwards.{IsCabledPort}
+use Rattle.smp_wire.specs.Groups.{GoesByMasks, is_in_masks_at}
 use Rattle.port_model.specs.AdapterState.{AdapterState}
 use Rattle.smp_wire.specs.FabricState.{FabricState}
 use Rattle.sweep.proofs.MetLemmas.{good_once}

@@ -8,9 +8,9 @@ use Rattle.fabric_parts.specs.declared.cable.PortRef.{PortRef}
 use Rattle.fabric_parts.specs.declared.node_type.NodeType.TheVariants as node_type
 use Rattle.lid_assign.specs.Lids.{lid_in}
 use Rattle.lid_assign.proofs.LawLemmas.{lids_and_guids_name_each_other}
-use Rattle.delivery_laws.specs.Deliveries.{adapter_at, adapter_ports}
-use Rattle.delivery_laws.specs.Forwards.{IsCabledPort}
-use Rattle.delivery_laws.specs.Groups.{GoesByMasks, LeadsToReceiver, is_in_masks_at}
+use Rattle.smp_wire.specs.Deliveries.{adapter_at, adapter_ports}
+use Rattle.smp_wire.specs.Forwards.{IsCabledPort}
+use Rattle.smp_wire.specs.Groups.{GoesByMasks, LeadsToReceiver, is_in_masks_at}
 use Rattle.port_model.specs.AdapterState.{AdapterState}
 use Rattle.smp_wire.specs.FabricState.{FabricState, adapter_port, is_switch, is_switch_at}
 use Rattle.smp_wire.specs.Good.{node_guid}

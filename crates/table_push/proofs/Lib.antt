@@ -60,3 +60,6 @@ pub mod SpreadAwayLemmas
 pub mod ForwardsMlidLemmas
 pub mod IdleBitLemmas
 pub mod AllMaskLemmas
+pub mod PortOrderLemmas
+pub mod HopOrderLemmas
+pub mod PushLemmas

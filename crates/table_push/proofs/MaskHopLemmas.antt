@@ -11,7 +11,7 @@ use Rattle.fabric_parts.specs.Cable.{port}
 use Rattle.fabric_parts.specs.Lid.{is_multicast}
 use Rattle.fabric_parts.specs.declared.cable.PortRef.{PortRef}
 use Rattle.fabric_parts.specs.declared.lid.TheConstants.{FIRST_MULTICAST_LID}
-use Rattle.delivery_laws.specs.Groups.{is_in_masks_at, is_in_node_masks}
+use Rattle.smp_wire.specs.Groups.{is_in_masks_at, is_in_node_masks}
 use Rattle.step_results.proofs.ListLemmas.{range_at}
 use Rattle.smp_wire.specs.FabricState.{FabricState, is_switch}
 use Rattle.smp_wire.specs.Good.{node_guid}

@@ -9,8 +9,8 @@ use Rattle.fabric_parts.specs.Cable.{far_end, port}
 use Rattle.fabric_parts.specs.declared.cable.PortRef.{PortRef}
 use Rattle.lid_assign.specs.Lids.{lid_in}
 use Rattle.lid_assign.proofs.LawLemmas.{lids_and_guids_name_each_other}
-use Rattle.delivery_laws.specs.Deliveries.{adapter_at}
-use Rattle.delivery_laws.specs.Forwards.{IsCabledPort, Leads, entry_at}
+use Rattle.smp_wire.specs.Deliveries.{adapter_at}
+use Rattle.smp_wire.specs.Forwards.{IsCabledPort, Leads, entry_at}
 use Rattle.port_model.specs.AdapterState.{AdapterState}
 use Rattle.smp_wire.proofs.CableLemmas.{cabled_is_port}
 use Rattle.smp_wire.specs.FabricState.{FabricState, is_switch_at, port_count}

@@ -2,7 +2,7 @@
 use Rattle.std.proofs.Common.{ℕ, ◌≡◌, ◌+◌, ◌<◌, ◌≤◌, ◌==◌, ◌&&◌, ◌||◌, ◌∙◌, ap, refl, sym, subst, inl, inr, Bool, true, false, List, get_or, bit_or, take, length, slice_get, Option, Some, None, arith}
 use Rattle.std.specs.Int.{bit_at}
 use Rattle.std.specs.Option.{option_map_or}
-use Rattle.std.proofs.lemmas.Bool.{cases_lt, false≢true}
+use Rattle.std.proofs.lemmas.Bool.{cases_lt, false≢true, or_parts}
 use Rattle.std.proofs.lemmas.List.{take_all}
 use Rattle.std.proofs.lemmas.Option.{none-some, slice_get-get_or}
 use Rattle.fabric_parts.specs.declared.cable.PortRef.{PortRef}
@@ -16,13 +16,8 @@ use Rattle.table_push.proofs.ReachLemmas.{either_bit}
 use Rattle.table_push.proofs.AttachmentBitLemmas.{some_more}
 use Rattle.table_push.proofs.TreeMaskLemmas.{down_any, down_first, down_none}
 
--- ---- bits that are not there
-neither : (a b : Bool) → (a || b) ≡ false → (a ≡ false) × (b ≡ false)
-neither true b none = absurd (false≢true (sym none))
-neither false b none = (refl, none)
-
 pub no_bit : (a b n : ℕ) → (bit_at (bit_or a b) n == 1) ≡ false → ((bit_at a n == 1) ≡ false) × ((bit_at b n == 1) ≡ false)
-no_bit a b n none = neither (bit_at a n == 1) (bit_at b n == 1) (sym (either_bit a b n) ∙ none)
+no_bit a b n none = or_parts (bit_at a n == 1) (bit_at b n == 1) (sym (either_bit a b n) ∙ none)
 
 -- ---- receivers
 none_attached : (homes : List PortRef) (s lid number : ℕ) → is_attached_to homes lid s ≡ false → is_attached_at homes s lid number ≡ false

@@ -7,7 +7,7 @@ use Rattle.std.proofs.lemmas.Bool.{ne_eqb}
 use Rattle.std.proofs.lemmas.List.{take_all}
 use Rattle.std.proofs.lemmas.List.Folds.{list_any-append, list_any_more}
 use Rattle.std.proofs.lemmas.Option.{get_or_from_slice_get, slice_get-get_or}
-use Rattle.step_results.proofs.BoolLemmas.{or_none}
+use Rattle.step_results.proofs.BoolLemmas.{or_assoc, or_none}
 use Rattle.lid_assign.specs.Lids.{lid_in}
 use Rattle.smp_wire.specs.FabricState.{FabricState}
 use Rattle.smp_wire.specs.Good.{IsGood, ShowsLinks}
@@ -80,11 +80,6 @@ links_end round stood fabric routes there place count row has all stands =
     ends_as stood fabric _ _ stands
     (λ i. with_infos (changed_where round (with_links there (guid_of routes.graph.switches place) (same i)) routes) fabric)
 
--- ---- a switch
-or_first : (a b c : Bool) → ((a || b) || c) ≡ (a || (b || c))
-or_first true b c = refl
-or_first false b c = refl
-
 and_both : (a b c : Bool) → ((a && b) || (a && c)) ≡ (a && (b || c))
 and_both true b c = refl
 and_both false b c = refl
@@ -108,7 +103,7 @@ pub switch_reported : (round : Round) (result : Result (Unit {0}) PushFault) (le
     → Leaves result left fabric (with_infos (changed_where round (λ guid number. there guid number || at_switch routes.graph guid number place) routes) fabric)
 switch_reported round result left fabric routes there place leaves =
     subst (Leaves result left fabric) (reported_same round routes fabric _ _ (λ guid number.
-    or_first (there guid number) ((guid_of routes.graph.switches place == guid) && (0 == number)) ((guid_of routes.graph.switches place == guid) && has_link routes.graph place number)
+    or_assoc (there guid number) ((guid_of routes.graph.switches place == guid) && (0 == number)) ((guid_of routes.graph.switches place == guid) && has_link routes.graph place number)
     ∙ ap (λ (b : Bool). there guid number || b) (and_both (guid_of routes.graph.switches place == guid) (0 == number) (has_link routes.graph place number)))) leaves
 
 -- ---- all switches
@@ -193,7 +188,7 @@ pub cable_reported : (round : Round) (result : Result (Unit {0}) PushFault) (lef
 cable_reported round result left fabric routes there one named same leaves =
     subst (λ (port : GraphPort). Leaves result left fabric (with_infos (changed_where round (λ guid number. there guid number || at_cable routes.graph.switches guid number port) routes) fabric)) same
     (subst (Leaves result left fabric)
-    (reported_same round routes fabric _ _ (λ guid number. or_first (there guid number) ((guid_of routes.graph.switches one.at.node == guid) && (one.at.port == number))
+    (reported_same round routes fabric _ _ (λ guid number. or_assoc (there guid number) ((guid_of routes.graph.switches one.at.node == guid) && (one.at.port == number))
     ((one.node_guid == guid) && (one.number == number)))) leaves)
 
 -- ---- all cables
@@ -217,7 +212,7 @@ cables_more round result left fabric routes place one within there leaves =
     each : (guid number : ℕ) → (at_first routes place guid number || at_cable routes.graph.switches guid number one) ≡ at_first routes (place + 1) guid number
     each guid number =
         let before = at_switches_before routes.graph (length routes.graph.switches) guid number in
-        or_first before (at_cables routes.graph.switches (take place routes.graph.ports) guid number) (at_cable routes.graph.switches guid number one)
+        or_assoc before (at_cables routes.graph.switches (take place routes.graph.ports) guid number) (at_cable routes.graph.switches guid number one)
         ∙ ap (λ (b : Bool). before || b)
         (ap (λ (other : GraphPort). list_any (at_cable routes.graph.switches guid number) (take place routes.graph.ports) || at_cable routes.graph.switches guid number other)
         (sym (get_or_from_slice_get routes.graph.ports place one one there))

@@ -4,8 +4,8 @@ use Rattle.std.proofs.lemmas.Bool.{eqb-true, false≢true}
 use Rattle.std.proofs.lemmas.Option.{same_Some}
 use Rattle.fabric_parts.specs.Cable.{far_end, port}
 use Rattle.fabric_parts.specs.declared.cable.PortRef.{PortRef}
-use Rattle.delivery_laws.specs.Forwards.{IsCabledPort}
-use Rattle.delivery_laws.specs.Groups.{Copies, GoesByMasks, is_in_masks_at}
+use Rattle.smp_wire.specs.Forwards.{IsCabledPort}
+use Rattle.smp_wire.specs.Groups.{Copies, GoesByMasks, is_in_masks_at}
 use Rattle.port_model.specs.AdapterState.{AdapterState}
 use Rattle.smp_wire.specs.FabricState.{FabricState, is_switch_at}
 use Rattle.sweep.specs.OfFabric.{Found}

@@ -5,7 +5,7 @@ use Rattle.std.proofs.lemmas.Bool.{eq-eqb, eqb-true, false≢true, not-true, not
 use Rattle.std.proofs.lemmas.Option.{same_Some}
 use Rattle.fabric_parts.specs.Cable.{far_end, port}
 use Rattle.fabric_parts.specs.declared.cable.PortRef.{PortRef}
-use Rattle.delivery_laws.specs.Groups.{Copies, GoesByMasks, is_in_masks_at}
+use Rattle.smp_wire.specs.Groups.{Copies, GoesByMasks, is_in_masks_at}
 use Rattle.smp_wire.specs.FabricState.{FabricState, is_switch_at}
 use Rattle.sweep.specs.OfFabric.{Found}
 use Rattle.sweep.proofs.MetLemmas.{good_once}

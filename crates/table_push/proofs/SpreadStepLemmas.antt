@@ -8,8 +8,8 @@ use Rattle.fabric_parts.specs.Cable.{far_end, port}
 use Rattle.fabric_parts.specs.declared.cable.PortRef.{PortRef}
 use Rattle.lid_assign.specs.Lids.{guid_in, lid_in}
 use Rattle.lid_assign.proofs.LawLemmas.{lids_and_guids_name_each_other}
-use Rattle.delivery_laws.specs.Forwards.{IsCabledPort}
-use Rattle.delivery_laws.specs.Groups.{is_in_masks_at, is_in_node_masks}
+use Rattle.smp_wire.specs.Forwards.{IsCabledPort}
+use Rattle.smp_wire.specs.Groups.{is_in_masks_at, is_in_node_masks}
 use Rattle.port_model.specs.AdapterState.{AdapterState}
 use Rattle.step_results.proofs.ListLemmas.{all_there}
 use Rattle.smp_wire.proofs.CableLemmas.{cabled_is_port}

@@ -14,6 +14,7 @@ use Rattle.fabric_parts.specs.declared.lid.TheConstants.{FIRST_MULTICAST_LID}
 use Rattle.std.proofs.lemmas.Option.{none-some, same_Some}
 use Rattle.step_results.proofs.ListLemmas.{found_passes, range_at}
 use Rattle.step_results.proofs.TestLemmas.{same_and}
+use Rattle.step_results.proofs.BoolLemmas.{or_assoc}
 use Rattle.subnet_model.specs.declared.group_receiver.GroupReceiver.{GroupReceiver}
 use Rattle.attr_tables.specs.Blocks.{block_of}
 use Rattle.table_push.proofs.MaskLemmas.{bit_where}
@@ -306,11 +307,6 @@ module _ (routes : RoutesState) (tree : Tree) (switches place number : ℕ) (is_
           let leads = and_parts (not (found.one == place)) (is_that_port (tree_hop routes place (record { node = found.one; port = 0 })) number) parts.1 in
           at found.one (range_low 0 64 found.at found.one found.there) parts.0 (not-true (found.one == place) leads.0) leads.1 (is_below rows depths place found.one) refl
 
--- ---- the bits of a switch
-or_joined : (a b c : Bool) → ((a || b) || c) ≡ (a || (b || c))
-or_joined true b c = refl
-or_joined false b c = refl
-
 -- what is attached to its ports, and what they lead to along the tree, make its mask
 pub one_mask_is : (routes : RoutesState) (tree : Tree) (place mlid : ℕ) (receivers : List GroupReceiver) (marks : ℕ) → AreOfGraph routes → AreRoutes routes.between
     → place < 64 → IsTree routes tree 64
@@ -321,7 +317,7 @@ pub one_mask_is : (routes : RoutesState) (tree : Tree) (place mlid : ℕ) (recei
 one_mask_is routes tree place mlid receivers marks of are low is_tree on number below =
     let long : length routes.between.homes ≡ length routes.lids = ap length of.homes_are ∙ length-map routes.lids (home_in routes.graph) in
     let own = some_receives receivers mlid (λ lid. is_attached_at routes.between.homes place lid number) in
-    or_joined own (leads_up tree marks place number) (some_lead_down tree 64 marks place number)
+    or_assoc own (leads_up tree marks place number) (some_lead_down tree 64 marks place number)
     ∙ ap (λ (b : Bool). own || b)
     (sides_are routes tree marks place number is_tree are.few low below
     ∙ range_same (marked_away routes marks place number) (away routes place mlid number receivers) 0 64

@@ -2,10 +2,10 @@
 use Rattle.std.proofs.Common.{ℕ, ◌≡◌, ◌+◌, ◌-◌, ◌^◌, ◌<◌, ◌==◌, ◌&&◌, ◌||◌, not, ◌∙◌, ap, refl, sym, subst, Bool, true, false, if◌then◌else◌, List, [], ◌∷◌, length, get_or, bit_or, slice_set, w64, Option, Some, None, arith}
 use Rattle.std.specs.Int.{bit_at}
 use Rattle.std.specs.List.{list_any, range_with_len}
-use Rattle.std.proofs.lemmas.Bool.{eq-eqb, eqb-true, false≢true}
+use Rattle.std.proofs.lemmas.Bool.{and_left, eq-eqb, eqb-true, false≢true}
 use Rattle.std.proofs.lemmas.List.{get_or-set_other, get_or-set_same}
 use Rattle.std.proofs.lemmas.Nat.Bits.{bit_at-lt, bit_at_not}
-use Rattle.step_results.proofs.BoolLemmas.{bit_turned}
+use Rattle.step_results.proofs.BoolLemmas.{bit_turned, false_more, or_assoc}
 use Rattle.step_results.proofs.TestLemmas.{same_either_way}
 use Rattle.table_push.specs.MaskSteps.{is_that_port}
 use Rattle.table_push.specs.TreeSteps.{IsBelowSet, IsNode, IsOutsideSet, IsSpread, IsTree, leads_down, leads_up, meets, some_lead_down, where_meets}
@@ -56,14 +56,6 @@ where_bit switches set bits n = by (meets switches set)
     by true = refl
     by false = no_bits n
 
-or_none : (a : Bool) → a ≡ (a || false)
-or_none true = refl
-or_none false = refl
-
-or_joined : (a b c : Bool) → ((a || b) || c) ≡ (a || (b || c))
-or_joined true b c = refl
-or_joined false b c = refl
-
 pub ups_are : (tree : Tree) (held next switches s number : ℕ) → next ≡ bit_or held (where_meets switches (get_or tree.outside s 0) (get_or tree.ups s 0))
     → (bit_at next number == 1) ≡ (((bit_at held number == 1) || leads_up tree switches s number) || some_lead_down tree 0 switches s number)
 unfolding some_lead_down
@@ -71,7 +63,7 @@ ups_are tree held next switches s number is =
     ap (λ (n : ℕ). bit_at n number == 1) is
     ∙ either_bit held (where_meets switches (get_or tree.outside s 0) (get_or tree.ups s 0)) number
     ∙ ap (λ (b : Bool). (bit_at held number == 1) || b) (where_bit switches (get_or tree.outside s 0) (get_or tree.ups s 0) number)
-    ∙ or_none ((bit_at held number == 1) || leads_up tree switches s number)
+    ∙ false_more ((bit_at held number == 1) || leads_up tree switches s number)
 
 pub down_any : (tree : Tree) (k switches s number : ℕ)
     → some_lead_down tree (k + 1) switches s number ≡ (some_lead_down tree k switches s number || leads_down tree switches s number k)
@@ -84,7 +76,7 @@ one_or old x s p n true same =
     either_bit old x n ∙ ap (λ (b : Bool). (bit_at old n == 1) || (b && (bit_at x n == 1))) (sym turned)
 one_or old x s p n false other =
     let turned : (p == s) ≡ false = same_either_way p s ∙ other in
-    or_none (bit_at old n == 1) ∙ ap (λ (b : Bool). (bit_at old n == 1) || (b && (bit_at x n == 1))) (sym turned)
+    false_more (bit_at old n == 1) ∙ ap (λ (b : Bool). (bit_at old n == 1) || (b && (bit_at x n == 1))) (sym turned)
 
 own_or : (masks : List ℕ) (x s p n : ℕ) → p < length masks → (b : Bool) → (s == p) ≡ b
     → (bit_at (get_or (slice_set masks p (bit_or (get_or masks p 0) x)) s 0) n == 1) ≡ ((bit_at (get_or masks s 0) n == 1) || ((p == s) && (bit_at x n == 1)))
@@ -106,7 +98,7 @@ down_more tree row masks next switches k p x s number of low is becomes so_far =
     ap (λ (all : List ℕ). bit_at (get_or all s 0) number == 1) becomes
     ∙ own_or masks x s p number low (s == p) refl
     ∙ ap (λ (b : Bool). b || ((p == s) && (bit_at x number == 1))) so_far
-    ∙ or_joined before (some_lead_down tree k switches s number) ((p == s) && (bit_at x number == 1))
+    ∙ or_assoc before (some_lead_down tree k switches s number) ((p == s) && (bit_at x number == 1))
     ∙ ap (λ (b : Bool). before || (some_lead_down tree k switches s number || ((p == s) && b)))
     (ap (λ (n : ℕ). bit_at n number == 1) is ∙ where_bit switches (get_or tree.below k 0) (get_or tree.ends k 0) number)
     ∙ ap (λ (o : Option ℕ). before || (some_lead_down tree k switches s number
@@ -121,7 +113,7 @@ pub no_down : (tree : Tree) (row masks next : List ℕ) (switches k s number : �
 no_down tree row masks next switches k s number of becomes so_far =
     let before = (bit_at (get_or row s 0) number == 1) || leads_up tree switches s number in
     ap (λ (all : List ℕ). bit_at (get_or all s 0) number == 1) becomes ∙ so_far
-    ∙ ap (λ (b : Bool). before || b) (or_none (some_lead_down tree k switches s number)
+    ∙ ap (λ (b : Bool). before || b) (false_more (some_lead_down tree k switches s number)
     ∙ ap (λ (o : Option ℕ). some_lead_down tree k switches s number
     || (is_that_port o s && (meets switches (get_or tree.below k 0) && (bit_at (get_or tree.ends k 0) number == 1)))) (sym of)
     ∙ sym (down_any tree k switches s number))
@@ -130,10 +122,6 @@ no_down tree row masks next switches k s number of becomes so_far =
 and_true : (a b : Bool) → a ≡ true → b ≡ (a && b)
 and_true true b is = refl
 and_true false b is = absurd (false≢true is)
-
-and_false : (a b : Bool) → a ≡ false → (a && b) ≡ false
-and_false true b is = absurd (false≢true (sym is))
-and_false false b is = refl
 
 -- one port more that leads down from it
 pub way_down : (tree : Tree) (held so_far next switches k s number : ℕ) → is_that_port (get_or tree.parents k None) s ≡ true
@@ -145,7 +133,7 @@ way_down tree held so_far next switches k s number own is before =
     ap (λ (n : ℕ). bit_at n number == 1) is
     ∙ either_bit so_far (where_meets switches (get_or tree.below k 0) (get_or tree.ends k 0)) number
     ∙ ap (λ (b : Bool). b || (bit_at (where_meets switches (get_or tree.below k 0) (get_or tree.ends k 0)) number == 1)) before
-    ∙ or_joined front (some_lead_down tree k switches s number) (bit_at (where_meets switches (get_or tree.below k 0) (get_or tree.ends k 0)) number == 1)
+    ∙ or_assoc front (some_lead_down tree k switches s number) (bit_at (where_meets switches (get_or tree.below k 0) (get_or tree.ends k 0)) number == 1)
     ∙ ap (λ (b : Bool). front || (some_lead_down tree k switches s number || b))
     (where_bit switches (get_or tree.below k 0) (get_or tree.ends k 0) number
     ∙ and_true (is_that_port (get_or tree.parents k None) s) (meets switches (get_or tree.below k 0) && (bit_at (get_or tree.ends k 0) number == 1)) own)
@@ -157,8 +145,8 @@ pub down_none : (tree : Tree) (switches k s number : ℕ) → is_that_port (get_
 down_none tree switches k s number other =
     down_any tree k switches s number
     ∙ ap (λ (b : Bool). some_lead_down tree k switches s number || b)
-    (and_false (is_that_port (get_or tree.parents k None) s) (meets switches (get_or tree.below k 0) && (bit_at (get_or tree.ends k 0) number == 1)) other)
-    ∙ sym (or_none (some_lead_down tree k switches s number))
+    (and_left (is_that_port (get_or tree.parents k None) s) (meets switches (get_or tree.below k 0) && (bit_at (get_or tree.ends k 0) number == 1)) other)
+    ∙ sym (false_more (some_lead_down tree k switches s number))
 
 -- no port leads down so far
 pub down_first : (tree : Tree) (switches s number : ℕ) → some_lead_down tree 0 switches s number ≡ false
@@ -177,7 +165,7 @@ none_spread tree row switches none s number low =
     ∙ ap (λ (b : Bool). b && (bit_at (get_or tree.ups s 0) number == 1)) (meets_none (get_or tree.outside s 0)) in
     let down : list_any (leads_down tree switches s number) (range_with_len 0 64) ≡ false =
     none_leads (range_with_len 0 64) in
-    or_none (bit_at (get_or row s 0) number == 1) ∙ or_none ((bit_at (get_or row s 0) number == 1) || false)
+    false_more (bit_at (get_or row s 0) number == 1) ∙ false_more ((bit_at (get_or row s 0) number == 1) || false)
     ∙ sym (ap (λ (b : Bool). ((bit_at (get_or row s 0) number == 1) || b) || list_any (leads_down tree switches s number) (range_with_len 0 64)) up
     ∙ ap (λ (b : Bool). ((bit_at (get_or row s 0) number == 1) || false) || b) down)
   where

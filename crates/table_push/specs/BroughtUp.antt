@@ -5,8 +5,8 @@ use Rattle.std.specs.List.{IsDistinct}
 use Rattle.fabric_parts.specs.declared.cable.PortRef.{PortRef}
 use Rattle.fabric_parts.specs.Cable.{far_end}
 use Rattle.lid_assign.specs.Lids.{lid_in}
-use Rattle.delivery_laws.specs.Deliveries.{adapter_at}
-use Rattle.delivery_laws.specs.Forwards.{IsCabledPort, switch_port_at}
+use Rattle.smp_wire.specs.Deliveries.{adapter_at}
+use Rattle.smp_wire.specs.Forwards.{IsCabledPort, switch_port_at}
 use Rattle.port_model.specs.AdapterState.{AdapterState}
 use Rattle.port_model.specs.Packets.{is_active}
 use Rattle.smp_wire.specs.FabricState.{FabricState, is_switch_at}

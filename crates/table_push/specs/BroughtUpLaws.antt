@@ -5,8 +5,8 @@ use Rattle.agent_rules.specs.declared.power_up.TheConstants.{MULTICAST_TABLE}
 use Rattle.fabric_parts.specs.Lid.{is_multicast}
 use Rattle.fabric_parts.specs.declared.lid.TheConstants.{FIRST_MULTICAST_LID}
 use Rattle.lid_assign.specs.Lids.{lid_in}
-use Rattle.delivery_laws.specs.Forwards.{ForwardsByLid}
-use Rattle.delivery_laws.specs.Groups.{ForwardsByMlid, HasNoIdleBits}
+use Rattle.smp_wire.specs.Forwards.{ForwardsByLid}
+use Rattle.smp_wire.specs.Groups.{ForwardsByMlid, HasNoIdleBits}
 use Rattle.smp_wire.specs.FabricState.{FabricState}
 use Rattle.smp_wire.specs.Good.{IsGood}
 use Rattle.fabric_parts.specs.declared.cable.PortRef.{PortRef}

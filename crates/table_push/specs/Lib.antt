@@ -19,3 +19,4 @@ pub mod BroughtUp
 pub mod Pushed
 pub mod Forget
 pub mod BroughtUpLaws
+pub mod OrderLaws

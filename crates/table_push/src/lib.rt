@@ -9,6 +9,11 @@
 //! [`push_all_counting`] also return how many ports of switches do not enforce partitions. `specs/BroughtUp.antt` says what a
 //! fabric holds then, and [`pushes_bring_up`] that it does. [`brought_up_forwards_by_lid`] says that every packet goes by its LID
 //! then, for routes that lead to each port ([`known_to_lead_home`]). The attributes are those of the IBA volume 1, chapter 14.
+//!
+//! Nothing that is pushed depends on the order in which a sweep found the switches (`src/order_laws.rt`). Two graphs of one
+//! fabric differ in the order of their switches alone (`updn_routes`), and so routes over them, with the same LIDs and roots,
+//! lead by the same ports. Here this is carried to all that is pushed by routes (IBA volume 1, chapter 14): LFTs, MFTs, P_Key
+//! tables, PortInfo and SwitchInfo are the same whichever of the two is pushed.
 #![tactic(auto)]
 
 mod attachments;
@@ -20,6 +25,7 @@ mod laws;
 mod linear;
 mod masks;
 mod multicast;
+mod order_laws;
 mod places;
 mod ports;
 mod pushing;
@@ -41,6 +47,7 @@ pub use crate::laws::{
 };
 pub use crate::linear::push_linear;
 pub use crate::multicast::push_multicast;
+pub use crate::order_laws::pushes_are_the_fabrics;
 pub use crate::ports::{push_ports, push_ports_counting};
 pub use crate::pushing::{known_to_lead_home, push_all, push_all_counting};
 pub use crate::trees::{Tree, tree_of};

@@ -1,6 +1,6 @@
 //! Fabrics whose SMPs go hop by hop.
 
-use example_texts::TWO_SWITCHES;
+use crate::texts::TWO_SWITCHES;
 use fabric_wire::Fabric;
 use std::alloc::Global;
 use std::test::Fail;

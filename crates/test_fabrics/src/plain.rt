@@ -1,7 +1,7 @@
 //! The same fabrics over the plain wire, which has no hops.
 
+use crate::texts::TWO_SWITCHES;
 use agent_rules::{LINEAR_TABLE, MULTICAST_TABLE, PortLink};
-use example_texts::TWO_SWITCHES;
 use fabric_parts::{PortRef, SWITCH_PORTS};
 use fabric_wire::{AdapterPorts, BoxedSwitch, Node, PlainWire};
 use port_model::AdapterPort;

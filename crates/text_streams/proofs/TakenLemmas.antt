@@ -106,11 +106,6 @@ none_read Sure step nothing known before after so_far number waiting reads is ke
       grows = λ sure. absurd (unsure sure);
     }
 
--- before the first read
-pub nothing_read : (Sure : Type 0) {S Cause : Type 0} (step : ℕ → S → List ℕ → Result S Cause) (nothing : S) (known : Option (List ℕ)) → IsTaken Sure step nothing known known nothing 0 [] 0
-nothing_read Sure step nothing known =
-    record { read = []; consumed = consumes_nothing known; same = λ rest. refl; few = omega arith; short = omega arith; grows = λ sure. omega arith }
-
 -- ---- the text once nothing more is read
 -- what is left, if it is known
 abbrev left_of : Option (List ℕ) → List ℕ
@@ -129,9 +124,6 @@ nothing_left None end = refl
 nothing_left (Some bytes) end = end
 
 module _ (Sure : Type 0) {S Cause : Type 0} (step : ℕ → S → List ℕ → Result S Cause) (nothing so_far : S) (number : ℕ) (waiting : List ℕ) (reads : ℕ) where
-  of_lines : List ℕ → Result S (AtLine Cause)
-  of_lines text = after_lines step 1 nothing (lines text)
-
   -- a line was refused
   pub piece_refused : (error : TextFault Cause) (known before after : Option (List ℕ)) (piece : List ℕ)
       → IsTaken Sure step nothing known before so_far number waiting reads → Consumes before after piece

@@ -1,10 +1,10 @@
 //! Lines by which ports of the two-switch fabric ask subnet administration, and those that are at fault.
 
-use example_texts::TWO_SWITCHES;
 use mad_layout::Mad;
 use script_lines::{ScriptCause, command_of};
 use std::test::Fail;
 use subnet_model::Command;
+use test_fabrics::TWO_SWITCHES;
 use topo_file::{Topology, read};
 
 /// A line, the GUID of its port, and which bytes stand where in its MAD. All else is 0.

@@ -1,10 +1,10 @@
 //! Lines that cut and mend a cable of the two-switch fabric.
 
-use example_texts::TWO_SWITCHES;
 use fabric_parts::{Cable, PortRef};
 use script_lines::command_of;
 use std::test::Fail;
 use subnet_model::{CableCommand, Command};
+use test_fabrics::TWO_SWITCHES;
 use topo_file::{Topology, read};
 
 /// Port 3 of A and of B, which are the first two nodes.

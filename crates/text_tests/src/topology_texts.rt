@@ -1,10 +1,10 @@
 //! Worked topologies, read or refused since an allocation failed.
 
-use example_texts::TWO_SWITCHES;
 use fabric_parts::{Cable, NodeType, PortRef};
 use std::alloc::Global;
 use std::process::Abort;
 use std::test::Fail;
+use test_fabrics::TWO_SWITCHES;
 use topo_file::{TopoFault, Topology, is_connected, read};
 
 /// The same with both switches as roots, B before A.

@@ -4,3 +4,4 @@ pub mod LineWordsLemmas
 pub mod ContentLemmas
 pub mod WordLemmas
 pub mod ScanLemmas
+pub mod RowLemmas

@@ -3,3 +3,5 @@ pub mod Failure
 pub mod Lines
 pub mod Number
 pub mod Words
+pub mod Parts
+pub mod WholeParts

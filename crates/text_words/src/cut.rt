@@ -1,11 +1,18 @@
-//! A text cut at a byte.
+//! A line without its end, and a text cut at a byte.
 
 ghost use Rattle.std.specs.Prelude.{◌≡◌, ◌≤◌, ◌==◌, length};
 ghost use Rattle.std.specs.List.{position_or_len};
 ghost use Rattle.std.specs.Option.{option_map};
-ghost use Rattle.text_words.specs.Cut.{both, cut_at};
+ghost use Rattle.text_words.specs.Cut.{both, cut_at, trimmed};
 
 use memchr::memchr;
+
+/// A line without what ends it, and without the blanks before that.
+pub fn trimmed(line: &[u8]) -> &[u8]
+    ensures { result.now ≡ trimmed line.now }
+{
+    line.trim_ascii_end()
+}
 
 /// What stands before and behind the first such byte, if there is one.
 #[tactic(auto, using(step_results::proofs::PlaceLemmas::list_any_place))]

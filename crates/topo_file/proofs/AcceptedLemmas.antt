@@ -1,5 +1,5 @@
 -- What is so of a node and of a cable that a line may declare.
-use Rattle.std.proofs.Common.{◌≡◌, ℕ, ◌-◌, ◌^◌, true, false, ◌&&◌, ◌||◌, nat_le, List, [], ◌∷◌, Option, Some, None, Ok, is_some, refl, sym}
+use Rattle.std.proofs.Common.{◌≡◌, ℕ, ◌-◌, ◌^◌, true, false, ◌&&◌, ◌||◌, nat_le, List, [], ◌∷◌, Option, Some, None, Ok, is_some, sym}
 use Rattle.std.specs.List.{list_any}
 use Rattle.std.specs.Option.{ok_or}
 use Rattle.std.specs.Str.{bytes_eq}
@@ -20,6 +20,7 @@ use Rattle.topo_file.specs.Node.{is_one_too_many, lacks_guids, place_of, shares_
 use Rattle.topo_file.specs.Sound.{is_named, is_sized_within, joins_right}
 use Rattle.topo_file.specs.Topology.{cable_of, cable_encoded, name_of, new_cable, new_node, node_of, node_encoded, number_up_to, port_of, within}
 use Rattle.step_results.proofs.PlaceLemmas.{not_there}
+use Rattle.step_results.proofs.BoolLemmas.{none_of}
 
 in_range : (top n : ℕ) (found : Option ℕ) → within top found ≡ Ok n → (nat_le 1 n && nat_le n top) ≡ true
 in_range top n None h = cc
@@ -33,17 +34,13 @@ pub record IsNewNode (limits : Limits) (nodes : List Node) (node : Node) : Type 
   pub sized : is_sized_within limits node ≡ true
   pub own : list_any (λ other. shares_guid node other) nodes ≡ false
 
-is_none : {X : Type 0} (o : Option X) → is_some o ≡ false → o ≡ None
-is_none None h = refl
-is_none (Some x) h = absurd cc
-
 new_is : (limits : Limits) (nodes : List Node) (node made : Node) → new_node limits nodes node ≡ Ok made
     → (list_any (λ other. bytes_eq node.name other.name) nodes ≡ false) × (lacks_guids nodes node ≡ false) × (made ≡ node)
 new_is limits nodes node made h =
     let named = not_stopped (is_some (place_of node.name nodes)) DuplicateName _ made h in
     let guids = not_stopped (lacks_guids nodes node) DuplicateGuid _ made named.1 in
     let room = not_stopped (is_one_too_many limits nodes node.node_type node.ports) OverLimit _ made guids.1 in
-    (not_there (λ other. bytes_eq node.name other.name) nodes (is_none (place_of node.name nodes) named.0), guids.0, sym (same_ok node made room.1))
+    (not_there (λ other. bytes_eq node.name other.name) nodes (none_of (place_of node.name nodes) named.0), guids.0, sym (same_ok node made room.1))
 
 encoded_is : (limits : Limits) (node_type : NodeType) (nodes : List Node) (name guid ports : List ℕ) (made : Node)
     → node_encoded limits node_type nodes name guid ports ≡ Ok made → IsNewNode limits nodes made

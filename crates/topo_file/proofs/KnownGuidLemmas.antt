@@ -5,6 +5,7 @@ use Rattle.std.proofs.lemmas.Bool.{and_from, and_parts, le-leb, leb-true, or_fro
 use Rattle.std.proofs.lemmas.Bool.Decides.{nat_tests}
 use Rattle.std.proofs.lemmas.List.Folds.{list_any-append}
 use Rattle.step_results.proofs.ListLemmas.{list_any_weaker}
+use Rattle.step_results.proofs.BoolLemmas.{false_more}
 use Rattle.topo_file.specs.declared.node.Node.{Node}
 use Rattle.topo_file.specs.Guids.{KnowMore, KnowsGuids, has_guid}
 use Rattle.topo_file.specs.Node.{IsGuidOf, last_guid, port_guids, shares_guid}
@@ -15,37 +16,11 @@ use Rattle.topo_file.proofs.GuidLemmas.{shared}
 abbrev pub is_among : ℕ → ℕ → ℕ → Bool
 is_among first count guid = nat_le first guid && nat_lt guid (first + count)
 
-or_none : (b : Bool) → b ≡ (b || false)
-or_none true = refl
-or_none false = refl
-
-pub none_noted : (known : Bool) (first guid : ℕ) → known ≡ (known || is_among first 0 guid)
-none_noted known first guid =
-    let none : is_among first 0 guid ≡ false = grind (arith, nat_tests) in
-    or_none known ∙ ap (λ (b : Bool). known || b) (sym none)
-
-among_more : (first count guid : ℕ) → is_among first (count + 1) guid ≡ (nat_eq (first + count) guid || is_among first count guid)
-among_more first count guid = grind (arith, nat_tests)
-
-joined : (same was among : Bool) → cond same true (was || among) ≡ (was || (same || among))
-joined true true among = refl
-joined true false among = refl
-joined false was among = refl
-
-pub one_noted : (before now after : Bool) (first count guid : ℕ) → now ≡ (before || is_among first count guid)
-    → after ≡ cond (nat_eq (first + count) guid) true now → after ≡ (before || is_among first (count + 1) guid)
-one_noted before now after first count guid so_far updated =
-    updated ∙ ap (cond (nat_eq (first + count) guid) true) so_far ∙ joined (nat_eq (first + count) guid) before (is_among first count guid)
-    ∙ ap (λ (b : Bool). before || b) (sym (among_more first count guid))
-
-pub all_noted : (node : Node) (guid : ℕ) → is_among node.guid (port_guids node.node_type node.ports + 1) guid ≡ has_guid guid node
-all_noted node guid = grind (arith, nat_tests)
-
 -- ---- one more node
 pub knows_more : (before after : List ℕ) (nodes : List Node) (node : Node) → KnowsGuids before nodes → KnowMore node before after → KnowsGuids after (nodes ++ node ∷ [])
 knows_more before after nodes node knows more guid =
     more guid ∙ ap (λ (b : Bool). b || has_guid guid node) (knows guid)
-    ∙ ap (λ (b : Bool). list_any (has_guid guid) nodes || b) (or_none (has_guid guid node)) ∙ sym (list_any-append (has_guid guid) nodes (node ∷ []))
+    ∙ ap (λ (b : Bool). list_any (has_guid guid) nodes || b) (false_more (has_guid guid node)) ∙ sym (list_any-append (has_guid guid) nodes (node ∷ []))
 
 -- ---- some GUID of the node is found
 found_here : (node other : Node) (number : ℕ) → number ≤ port_guids node.node_type node.ports → has_guid (node.guid + number) other ≡ true → shares_guid node other ≡ true

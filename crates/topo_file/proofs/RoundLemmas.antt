@@ -6,6 +6,7 @@ use Rattle.std.proofs.lemmas.Bool.Decides.{nat_tests}
 use Rattle.std.proofs.lemmas.List.{length-map, take_more}
 use Rattle.std.proofs.lemmas.List.Folds.{list_any-append}
 use Rattle.std.proofs.lemmas.List.FromFn.{length-enumerate_from}
+use Rattle.step_results.proofs.BoolLemmas.{false_more}
 use Rattle.fabric_parts.specs.declared.cable.Cable.{Cable}
 use Rattle.topo_file.specs.declared.node.Node.{Node}
 use Rattle.topo_file.specs.Node.{is_switch_at}
@@ -57,15 +58,11 @@ or_true : (b : Bool) → true ≡ (b || true)
 or_true true = refl
 or_true false = refl
 
-or_false : (b : Bool) → b ≡ (b || false)
-or_false true = refl
-or_false false = refl
-
 set_marks : (marks : List Bool) (to place : ℕ) → to < length marks → is_marked (slice_set marks to true) place ≡ (is_marked marks place || (to == place))
 set_marks [] to place inside = absurd (omega (arith, inside))
 set_marks (m ∷ marks) zero zero inside = or_true m
-set_marks (m ∷ marks) zero (suc place) inside = rw (zero_suc place) (or_false (is_marked marks place))
-set_marks (m ∷ marks) (suc to) zero inside = rw (suc_zero to) (or_false m)
+set_marks (m ∷ marks) zero (suc place) inside = rw (zero_suc place) (false_more (is_marked marks place))
+set_marks (m ∷ marks) (suc to) zero inside = rw (suc_zero to) (false_more m)
 set_marks (m ∷ marks) (suc to) (suc place) inside = rw (suc_suc to place) (set_marks marks to place (omega (arith, inside)))
 
 and_true : (b : Bool) → b ≡ (b && true)
@@ -85,7 +82,7 @@ and_false false = refl
 pub marked_none : (marks : List Bool) (to : ℕ) (test : Bool) → test ≡ false
     → (place : ℕ) → is_marked marks place ≡ (is_marked marks place || ((to == place) && test))
 marked_none marks to test fails place =
-    or_false (is_marked marks place) ∙ ap (λ (b : Bool). is_marked marks place || b) (and_false (to == place) ∙ ap (λ (b : Bool). (to == place) && b) (sym fails))
+    false_more (is_marked marks place) ∙ ap (λ (b : Bool). is_marked marks place || b) (and_false (to == place) ∙ ap (λ (b : Bool). (to == place) && b) (sym fails))
 
 -- ---- a cable more
 -- a switch stands within the list
@@ -159,7 +156,7 @@ round_more nodes cables i d marks before middle after inside long wide was first
 -- ---- the first and the last
 pub kept_marks : (nodes : List Node) (marks : List Bool) (place : ℕ) → is_marked (kept nodes marks) place ≡ is_marked (spread nodes [] marks) place
 kept_marks nodes marks place =
-    mark-kept nodes marks place ∙ ap (λ (b : Bool). is_switch_at nodes place && b) (or_false (is_marked marks place)) ∙ sym (mark-spread nodes [] marks place)
+    mark-kept nodes marks place ∙ ap (λ (b : Bool). is_switch_at nodes place && b) (false_more (is_marked marks place)) ∙ sym (mark-spread nodes [] marks place)
 
 pub kept_long : (nodes : List Node) (marks : List Bool) → length (kept nodes marks) ≡ length nodes
 kept_long nodes marks = length-map (enumerate_from 0 nodes) _ ∙ length-enumerate_from 0 nodes

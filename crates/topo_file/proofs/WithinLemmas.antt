@@ -106,18 +106,6 @@ large_lines limits nodes cables sound = record {
 pub few_ports : (so_far : DraftState) → IsSoundSoFar so_far → adapter_ports so_far.nodes ≤ 44000
 few_ports so_far sound = omega (arith, sound.lines.limits.1, adapters_within so_far.limits)
 
--- what all lines declare, with the SM port, is a topology of those limits, and so a large one
-pub whole_within : (so_far : DraftState) (manager : Manager) → IsSoundSoFar so_far → so_far.manager ≡ Some manager
-    → is_cabled so_far.cables manager.port ≡ true → AllJoined so_far.nodes so_far.cables
-    → IsSoundWithin so_far.limits (record { nodes = so_far.nodes; cables = so_far.cables; roots = so_far.roots; sm = manager.port })
-whole_within so_far manager sound is cabled joined = record {
-  lines = sound.lines;
-  connected = joined;
-  roots = sound.roots;
-  manager_port = ap (on_adapter so_far.nodes) (sym is) ∙ sound.manager;
-  manager_cabled = cabled;
-}
-
 pub large_whole : (so_far : DraftState) (manager : Manager) → IsSoundSoFar so_far → so_far.manager ≡ Some manager
     → is_cabled so_far.cables manager.port ≡ true → AllJoined so_far.nodes so_far.cables
     → IsSoundWithin Large (record { nodes = so_far.nodes; cables = so_far.cables; roots = so_far.roots; sm = manager.port })

@@ -27,6 +27,10 @@ is_switch_at nodes place = option_map_or is_switch (slice_get nodes place) false
 abbrev pub name_at : List Node → ℕ → List ℕ
 name_at nodes place = option_map_or (λ node. node.name) (slice_get nodes place) []
 
+-- the GUID of the node there; 0, which is no GUID, if there is none
+abbrev pub guid_at : List Node → ℕ → ℕ
+guid_at nodes place = option_map_or (λ node. node.guid) (slice_get nodes place) 0
+
 -- how many ports the node there has; they count from 1
 abbrev pub ports_at : List Node → ℕ → ℕ
 ports_at nodes place = option_map_or (λ node. node.ports) (slice_get nodes place) 0

@@ -130,7 +130,8 @@ fn mark_along(next: &mut Vec<bool>, nodes: &[Node], marks: &[bool], from: usize,
     }
 }
 
-fn is_marked(marks: &[bool], place: usize) -> bool
+/// Whether what has this number is marked.
+pub fn is_marked(marks: &[bool], place: usize) -> bool
     ensures { result ≡ is_marked marks.now place }
 {
     match marks.get(place) {

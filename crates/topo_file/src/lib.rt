@@ -17,10 +17,10 @@ mod node;
 mod reader;
 mod topology;
 
-pub use crate::connectivity::is_connected;
+pub use crate::connectivity::{is_connected, is_marked};
 pub use crate::fault::{TopoFault, TopologyCause};
 pub use crate::large_topology::LargeTopology;
 pub use crate::laws::connected_means_joined;
-pub use crate::node::{Name, Node, name_at, ports_at};
+pub use crate::node::{Name, Node, guid_at, is_switch_at, name_at, ports_at};
 pub use crate::reader::{read, read_within};
 pub use crate::topology::Topology;

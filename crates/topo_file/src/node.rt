@@ -1,7 +1,7 @@
 //! The nodes of a topology.
 
 ghost use Rattle.std.specs.Prelude.{◌≡◌, ◌≤◌, ◌<◌, ◌^◌, ◌+◌, length, [], ◌∷◌, ◌++◌, None, IfOk, OnOk, OnErr};
-ghost use Rattle.topo_file.specs.Node.{HasGuids, is_switch, is_switch_at, lacks_guids, last_guid, name_at, place_of, port_guid, port_guids, ports_at, shares_guid, switch_count};
+ghost use Rattle.topo_file.specs.Node.{HasGuids, guid_at, is_switch, is_switch_at, lacks_guids, last_guid, name_at, place_of, port_guid, port_guids, ports_at, shares_guid, switch_count};
 ghost use Rattle.topo_file.specs.Guids.{KnowMore, KnowSame};
 ghost use Rattle.std.specs.List.{list_any};
 ghost use Rattle.topo_file.specs.NewNode.{seen};
@@ -203,12 +203,22 @@ impl NodeList {
 }
 
 /// Whether the node there is a switch.
-pub(crate) fn is_switch_at(nodes: &[Node], place: usize) -> bool
+pub fn is_switch_at(nodes: &[Node], place: usize) -> bool
     ensures { result ≡ is_switch_at nodes.now place }
 {
     match nodes.get(place) {
         Some(node) => node.is_switch(),
         None => false,
+    }
+}
+
+/// The GUID of the node there, or 0 if there is none.
+pub fn guid_at(nodes: &[Node], place: usize) -> u64
+    ensures { result ≡ guid_at nodes.now place }
+{
+    match nodes.get(place) {
+        Some(node) => node.guid,
+        None => 0,
     }
 }
 

@@ -5,3 +5,4 @@ pub mod NameLemmas
 pub mod TextLemmas
 pub mod LawLemmas
 pub mod ExampleLemmas
+pub mod WrongLemmas

@@ -8,29 +8,21 @@ use Rattle.std.proofs.lemmas.List.{take_more}
 use Rattle.std.proofs.lemmas.List.Elements.{filter-append}
 use Rattle.step_results.proofs.ListLemmas.{any_none, any_or}
 use Rattle.step_results.proofs.TestLemmas.{same_either_way}
+use Rattle.step_results.proofs.BoolLemmas.{and_false, and_true}
 use Rattle.fabric_parts.specs.declared.cable.Cable.{Cable}
 use Rattle.fabric_parts.specs.declared.cable.PortRef.{PortRef}
 use Rattle.netdiscover_file.specs.declared.port.PortLine.{PortLine}
 use Rattle.netdiscover_file.specs.Agreement.{far_line}
 use Rattle.netdiscover_file.specs.Discovery.{DiscoveryState}
 use Rattle.topo_file.specs.declared.node.Node.{Node}
-use Rattle.topo_file.specs.Node.{is_switch_at, port_guid_at}
+use Rattle.topo_file.specs.Node.{guid_at, is_switch_at, port_guid_at}
 use Rattle.topo_file.specs.Topology.{TopologyState}
-use Rattle.topology_import.specs.Agreement.{guid_at, has_cable, is_between, is_cable_of, is_port_by, is_port_of, is_reported}
+use Rattle.topology_import.specs.Agreement.{has_cable, is_between, is_cable_of, is_port_by, is_port_of, is_reported}
 use Rattle.topology_import.specs.Ends.{counted}
 use Rattle.topology_import.specs.Nodes.{switch_guid_at}
 use Rattle.topology_import.specs.PortPairs.{cable_pair, end_key, is_pair_of, is_same_key, is_same_pair, joins, joins_cable, joins_line, key_by, line_key, pair_of, port_key, switch_key}
 use Rattle.topology_import.specs.declared.port_pairs.PortKey.{PortKey}
 use Rattle.topology_import.specs.declared.port_pairs.PortPair.{PortPair}
-
--- ---- a port is a line's if and only if their keys are the same
-and_false : (x : Bool) → (x && false) ≡ false
-and_false true = refl
-and_false false = refl
-
-and_true : (x : Bool) → (x && true) ≡ x
-and_true true = refl
-and_true false = refl
 
 not_none : (n : ℕ) → (0 == n + 1) ≡ false
 not_none n = grind (arith, nat_tests)
@@ -158,33 +150,3 @@ added true true = refl
 added true false = refl
 added false true = refl
 added false false = refl
-
-pub or_false : (x : Bool) → x ≡ (x || false)
-or_false true = refl
-or_false false = refl
-
-any_push : {X : Type 0} (p : X → Bool) (xs : List X) (x : X) → list_any p (xs ++ x ∷ []) ≡ (list_any p xs || p x)
-any_push p [] x = sym (or_false (p x))
-any_push p (y ∷ xs) x = ap (λ (b : Bool). p y || b) (any_push p xs x) ∙ sym (or_assoc (p y) (list_any p xs) (p x))
-  where
-    or_assoc : (a b c : Bool) → ((a || b) || c) ≡ (a || (b || c))
-    or_assoc true b c = refl
-    or_assoc false b c = refl
-
-pub any_more : {X : Type 0} (p : X → Bool) (xs : List X) (i : ℕ) (d : X) → i < length xs
-    → list_any p (take (i + 1) xs) ≡ (list_any p (take i xs) || p (get_or xs i d))
-any_more p xs i d inside = ap (λ some. list_any p some) (take_more xs i d inside) ∙ any_push p (take i xs) (get_or xs i d)
-
-pub counted_more : {X : Type 0} (q p : X → Bool) (xs : List X) (i : ℕ) (d : X) → i < length xs → q (get_or xs i d) ≡ true
-    → list_any p (filter q (take (i + 1) xs)) ≡ (list_any p (filter q (take i xs)) || p (get_or xs i d))
-counted_more q p xs i d inside counts =
-    ap (λ some. list_any p (filter q some)) (take_more xs i d inside)
-    ∙ ap (λ some. list_any p some) (filter-append q (take i xs) (get_or xs i d ∷ []) ∙ ap (λ (b : Bool). filter q (take i xs) ++ (if b then get_or xs i d ∷ [] else [])) counts)
-    ∙ any_push p (filter q (take i xs)) (get_or xs i d)
-
-pub uncounted_more : {X : Type 0} (q p : X → Bool) (xs : List X) (i : ℕ) (d : X) → i < length xs → q (get_or xs i d) ≡ false
-    → list_any p (filter q (take (i + 1) xs)) ≡ list_any p (filter q (take i xs))
-uncounted_more q p xs i d inside counts =
-    ap (λ some. list_any p (filter q some)) (take_more xs i d inside)
-    ∙ ap (λ some. list_any p some) (filter-append q (take i xs) (get_or xs i d ∷ []) ∙ ap (λ (b : Bool). filter q (take i xs) ++ (if b then get_or xs i d ∷ [] else [])) counts
-    ∙ append-nil (filter q (take i xs)))

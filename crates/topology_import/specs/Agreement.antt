@@ -1,5 +1,5 @@
 -- Whether a topology that was read is that of a discovery.
-use Rattle.std.specs.Prelude.{ℕ, Bool, false, not, ◌+◌, ◌==◌, ◌&&◌, ◌||◌, List, length, slice_get, Option, Some, None}
+use Rattle.std.specs.Prelude.{ℕ, Bool, false, not, ◌+◌, ◌==◌, ◌&&◌, ◌||◌, List, length, Option, Some, None}
 use Rattle.std.specs.List.{list_all, list_any, range_with_len, zip}
 use Rattle.std.specs.Option.{option_map_or}
 use Rattle.std.specs.Str.{bytes_eq}
@@ -10,7 +10,7 @@ use Rattle.netdiscover_file.specs.declared.port.PortLine.{PortLine}
 use Rattle.netdiscover_file.specs.Agreement.{far_line}
 use Rattle.netdiscover_file.specs.Discovery.{DiscoveryState}
 use Rattle.topo_file.specs.declared.node.Node.{Node}
-use Rattle.topo_file.specs.Node.{is_switch, is_switch_at, port_guid_at}
+use Rattle.topo_file.specs.Node.{guid_at, is_switch, is_switch_at, port_guid_at}
 use Rattle.topo_file.specs.Topology.{TopologyState}
 use Rattle.topology_import.specs.declared.planned.Planned.{Planned}
 use Rattle.topology_import.specs.Ends.{counted, is_above}
@@ -30,9 +30,6 @@ abbrev pub has_ends : List PortLine → Node → Bool
 has_ends ends node = is_switch node || list_all (λ before. is_above ends node.guid (before + 1)) (range_with_len 0 node.ports)
 
 -- ---- ports: an end port by its own GUID, one of a switch by the GUID of the switch and its number
-abbrev pub guid_at : List Node → ℕ → ℕ
-guid_at nodes place = option_map_or (λ node. node.guid) (slice_get nodes place) 0
-
 abbrev pub is_end_port : List Node → PortRef → ℕ → Bool
 is_end_port nodes port guid = not (is_switch_at nodes port.node) && (port_guid_at nodes port == guid)
 

@@ -14,3 +14,4 @@ pub mod Laws
 pub mod Examples
 pub use Rattle.topo_file.specs.Topology
 pub use Rattle.netdiscover_file.specs.Discovery
+pub mod WrongRules

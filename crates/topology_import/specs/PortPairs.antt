@@ -9,10 +9,9 @@ use Rattle.netdiscover_file.specs.declared.port.PortLine.{PortLine}
 use Rattle.netdiscover_file.specs.Agreement.{far_line}
 use Rattle.netdiscover_file.specs.Discovery.{DiscoveryState}
 use Rattle.topo_file.specs.declared.node.Node.{Node}
-use Rattle.topo_file.specs.Node.{is_switch_at, port_guid_at}
+use Rattle.topo_file.specs.Node.{guid_at, is_switch_at, port_guid_at}
 use Rattle.topology_import.specs.declared.port_pairs.PortKey.{PortKey}
 use Rattle.topology_import.specs.declared.port_pairs.PortPair.{PortPair}
-use Rattle.topology_import.specs.Agreement.{guid_at}
 use Rattle.topology_import.specs.Nodes.{switch_guid_at}
 
 -- an end port by its own GUID, a port of a switch by the GUID of the switch and its number, from 1 on

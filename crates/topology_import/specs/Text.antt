@@ -2,7 +2,7 @@
 use Rattle.std.specs.Prelude.{ℕ, ◌+◌, ◌-◌, ◌^◌, ◌==◌, nat_lt, List, [], ◌∷◌, ◌++◌, codes, decimal, flat_map, length, position, slice_get, Option, if◌then◌else◌}
 use Rattle.std.specs.List.{range_with_len}
 use Rattle.std.specs.Option.{option_and_then, option_map_or}
-use Rattle.text_parts.specs.Parts.{guid_text, port_name, quoted}
+use Rattle.text_words.specs.Parts.{guid_text, port_name, quoted}
 use Rattle.fabric_parts.specs.NodeType.{is_switch_type}
 use Rattle.netdiscover_file.specs.declared.node.Node.{Node}
 use Rattle.netdiscover_file.specs.declared.port.PortLine.{PortLine}

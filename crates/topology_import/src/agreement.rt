@@ -4,7 +4,7 @@ ghost use Rattle.std.specs.Prelude.{◌≡◌, ◌+◌, ◌&&◌, IfOk};
 ghost use Rattle.std.specs.List.{list_all, range_with_len, zip};
 ghost use Rattle.topo_file.specs.Node.{is_switch_at, port_guid, port_guid_at};
 ghost use Rattle.topology_import.specs.Ends.{counted, is_above};
-ghost use Rattle.topology_import.specs.Agreement.{agrees, are_as_planned, guid_at, has_cable, has_ends, is_as_planned, is_end_port, is_reported};
+ghost use Rattle.topology_import.specs.Agreement.{agrees, are_as_planned, has_cable, has_ends, is_as_planned, is_end_port, is_reported};
 ghost use Rattle.topology_import.specs.PortPairs.{joins_cable, joins_line};
 
 use crate::ends::{EndList, counts};
@@ -13,7 +13,7 @@ use crate::port_pairs::{PortKey, PortPairs};
 use fabric_parts::{Cable, PortRef};
 use netdiscover_file::{Discovery, PortLine};
 use std::alloc::{AllocError, Global};
-use topo_file::{LargeTopology, Node};
+use topo_file::{LargeTopology, Node, is_switch_at};
 
 fn is_as_planned(planned: &Planned, node: &Node) -> bool
     ensures { result ≡ is_as_planned (planned.now, node.now) }
@@ -60,24 +60,6 @@ fn all_have_ends(ends: &EndList, nodes: &[Node]) -> bool
     ensures { result ≡ list_all (has_ends ends.now) nodes.now }
 {
     nodes.iter().all(|node| has_ends(ends, node))
-}
-
-pub(crate) fn guid_at(nodes: &[Node], place: usize) -> u64
-    ensures { result ≡ guid_at nodes.now place }
-{
-    match nodes.get(place) {
-        Some(node) => node.guid,
-        None => 0,
-    }
-}
-
-pub(crate) fn is_switch_at(nodes: &[Node], place: usize) -> bool
-    ensures { result ≡ is_switch_at nodes.now place }
-{
-    match nodes.get(place) {
-        Some(node) => node.is_switch(),
-        None => false,
-    }
 }
 
 /// The GUID of a port of the adapter there, which may be past 64 bits.

@@ -12,7 +12,7 @@ use fabric_parts::NAME_BYTES;
 use indexmap::IndexMap;
 use netdiscover_file::Node;
 use std::alloc::{AllocError, Global};
-use text_parts::push_decimal;
+use text_words::push_decimal;
 
 /// The name of the node there as it stands, or no name if there is none.
 pub(crate) fn name_at(nodes: &[Node], place: usize) -> &[u8]

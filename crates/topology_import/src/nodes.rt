@@ -30,7 +30,8 @@ fn switch_guid(node: &Node) -> u64
     node.port_guid.unwrap_or(node.id.guid)
 }
 
-pub(crate) fn switch_guid_at(nodes: &[Node], place: usize) -> u64
+/// The GUID that the switch there has in the topology, or 0 if there is none.
+pub fn switch_guid_at(nodes: &[Node], place: usize) -> u64
     ensures { result ≡ switch_guid_at nodes.now place }
 {
     match nodes.get(place) {

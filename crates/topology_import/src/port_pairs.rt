@@ -6,7 +6,7 @@ ghost use Rattle.topology_import.specs.Ends.{counted};
 ghost use Rattle.topology_import.specs.declared.port_pairs.PortPair.{PortPair};
 ghost use Rattle.topology_import.specs.PortPairs.{cable_pair, end_key, is_pair_of, is_same_pair, joins, line_key, pair_of, port_key, switch_key};
 
-use crate::agreement::{guid_at, is_switch_at, port_guid_at};
+use crate::agreement::port_guid_at;
 use crate::ends::counts;
 use crate::nodes::switch_guid_at;
 use fabric_parts::{Cable, PortRef};
@@ -14,7 +14,7 @@ use indexmap::IndexSet;
 use netdiscover_file::{Discovery, PortLine};
 use std::alloc::{AllocError, Global};
 use std::marker::Model;
-use topo_file::{LargeTopology, Node};
+use topo_file::{LargeTopology, Node, guid_at, is_switch_at};
 
 /// A port named by GUIDs alone: an end port by its own, a port of a switch by that of the switch and its number, from 1 on.
 #[derive(Clone, Copy, Debug, PartialEq, Eq, Hash)]

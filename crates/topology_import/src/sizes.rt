@@ -6,7 +6,7 @@ ghost use Rattle.topology_import.specs.Sizes.{is_switch, is_too_large, is_wide, 
 use crate::planned::Planned;
 use fabric_parts::{ADAPTER_PORTS, SWITCH_PORTS, SWITCHES};
 use std::alloc::AllocError;
-use text_parts::push_decimal;
+use text_words::push_decimal;
 
 fn is_wide(node: &Planned) -> bool
     ensures { result ≡ is_wide node.now }

@@ -10,7 +10,7 @@ use crate::planned::{Planned, PlannedList};
 use crate::sizes::push_sizes;
 use netdiscover_file::{Discovery, Node, PortLine};
 use std::alloc::{AllocError, Global};
-use text_parts::{push_decimal, push_guid, push_port_name, push_quoted};
+use text_words::{push_decimal, push_guid, push_port_name, push_quoted};
 
 fn title() -> &'static [u8]
     ensures { result.now ≡ title }

@@ -21,3 +21,7 @@ pub mod EntryLemmas
 pub mod RootLemmas
 pub mod AnswerLemmas
 pub mod GraphLemmas
+pub mod AlikeLemmas
+pub mod OfFabricLemmas
+pub mod ChoiceLemmas
+pub mod TreeOrderLemmas

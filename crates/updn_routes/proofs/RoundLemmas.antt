@@ -7,10 +7,12 @@ use Rattle.std.proofs.lemmas.Bool.{and_parts, and_from, cases_lt, eqb-true, eq-e
 use Rattle.std.proofs.lemmas.List.{get_or-map}
 use Rattle.std.proofs.lemmas.List.FromFn.{get_or-map-range_with_len, length-range_with_len}
 use Rattle.step_results.proofs.ListLemmas.{list_any_weaker}
+use Rattle.sweep.proofs.RoundLemmas.{exactly}
+use Rattle.sweep.specs.Rounds.{is_exactly}
 use Rattle.updn_routes.specs.declared.link.Link.{Link}
 use Rattle.updn_routes.specs.Cabling.{AllJoined, is_cabling, is_next_to, is_walk, links_of}
 use Rattle.updn_routes.specs.Order.{AreDistances, IsDistance}
-use Rattle.updn_routes.specs.Rounds.{AreFound, at_first, found_at, further, is_exactly, is_marked, or_further, spread}
+use Rattle.updn_routes.specs.Rounds.{AreFound, at_first, found_at, further, is_marked, or_further, spread}
 use Rattle.updn_routes.proofs.CablingLemmas.{ends}
 use Rattle.updn_routes.proofs.DistanceLemmas.{joined_distances, next_of}
 use Rattle.updn_routes.proofs.PlaceLemmas.{all_stay, fewer, fewer_by_one}
@@ -50,11 +52,6 @@ found_first rows marks count = record { count = long marks ∙ count; right = ri
         let is = subst (λ (k : ℕ). is_marked marks k ≡ true) (sym (eqb-true s d walk)) end in
         absurd (not_both 0 (sym e ∙ (at s less ∙ ap at_first is)))
     no_nearer s d (t ∷ steps) less e end walk = omega arith
-
--- ---- one more round
-exactly : (o : Option ℕ) (k : ℕ) → is_exactly o k ≡ true → o ≡ Some k
-exactly None k h = absurd (false≢true h)
-exactly (Some j) k h = ap Some (eqb-true j k h)
 
 module _ (rows : List (List Link)) (passes : ℕ → Bool) (k : ℕ) (found : List (Option ℕ)) (cabling : is_cabling rows ≡ true) (so_far : AreFound rows passes k found) where
   at : (s : ℕ) → s < length rows → found_at (spread rows found k) s ≡ further rows found k s

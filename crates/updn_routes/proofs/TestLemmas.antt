@@ -3,6 +3,9 @@ use Rattle.std.proofs.Common.{◌≡◌, ℕ, suc, ◌≤◌, Bool, true, false,
 use Rattle.std.proofs.Common.{Option, Some, None, refl, ap, subst, ◌∙◌, inl, inr, arith}
 use Rattle.std.specs.List.{list_all, list_any, range_with_len}
 use Rattle.std.proofs.lemmas.Bool.{and_parts, and_from, or_cases, or_left, or_right, eqb-true, leb-true, ltb-true, ne_eqb, eq-eqb, false≢true}
+use Rattle.step_results.proofs.BoolLemmas.{implied}
+use Rattle.sweep.proofs.RoundLemmas.{exactly}
+use Rattle.sweep.specs.Rounds.{is_exactly}
 use Rattle.updn_routes.specs.declared.link.Link.{Link}
 use Rattle.updn_routes.specs.Cabling.{is_cabling, leads, links_of}
 use Rattle.updn_routes.specs.Choice.{AllChosen}
@@ -17,13 +20,9 @@ abbrev pub is_no_better : Option ℕ → ℕ → ℕ → ℕ → Bool
 is_no_better None k port q = true
 is_no_better (Some j) k port q = nat_lt k j || ((j == k) && nat_le port q)
 
-abbrev pub is_at : Option ℕ → ℕ → Bool
-is_at None k = false
-is_at (Some j) k = j == k
-
 abbrev pub is_best : List Link → (ℕ → Bool) → (ℕ → Option ℕ) → ℕ → ℕ → Bool
 is_best row kind far port k =
-    list_any (λ link. (link.port == port) && (kind link.to && is_at (far link.to) k)) row
+    list_any (λ link. (link.port == port) && (kind link.to && is_exactly (far link.to) k)) row
     && list_all (λ link. not (kind link.to) || is_no_better (far link.to) k port link.port) row
 
 abbrev pub is_none_at : List Link → (ℕ → Bool) → (ℕ → Option ℕ) → Bool
@@ -45,7 +44,7 @@ entry_of table s = get_or table s None
 abbrev pub is_table : List (List Link) → (ℕ → ℕ → Bool) → ℕ → List (Option ℕ) → List (Option ℕ) → List (Option ℕ)
     → Bool
 is_table rows before d down own next =
-    (is_at (entry_of down d) 0 && is_at (entry_of own d) 0)
+    (is_exactly (entry_of down d) 0 && is_exactly (entry_of own d) 0)
     && list_all (λ s. (s == d) || is_entry rows before (entry_of down) (entry_of own) s (entry_of down s) (entry_of own s) (entry_of next s)) (range_with_len 0 (length rows))
 
 -- ---- what it says
@@ -55,14 +54,6 @@ at_link test row q t all h =
     let link = some_of (goes q t) (λ link. test link.port link.to) row all h in
     let parts = and_parts (link.0.port == q) (link.0.to == t) link.1.0 in
     subst (λ (v : ℕ). test q v ≡ true) (eqb-true link.0.to t parts.1) (subst (λ (p : ℕ). test p link.0.to ≡ true) (eqb-true link.0.port q parts.0) link.1.1)
-
-is_so : (b c : Bool) → (not b || c) ≡ true → b ≡ true → c ≡ true
-is_so true c h e = h
-is_so false c h e = absurd (false≢true e)
-
-at_is : (o : Option ℕ) (k : ℕ) → is_at o k ≡ true → o ≡ Some k
-at_is None k h = absurd (false≢true h)
-at_is (Some j) k h = ap Some (eqb-true j k h)
 
 none_is : (o : Option ℕ) → is_none o ≡ true → o ≡ None
 none_is None h = refl
@@ -86,15 +77,15 @@ record Out (row : List Link) (kind : ℕ → Bool) (far : ℕ → Option ℕ) (p
   at : far to ≡ Some k
 
 out_of : (row : List Link) (kind : ℕ → Bool) (far : ℕ → Option ℕ) (port k : ℕ)
-    → list_any (λ link. (link.port == port) && (kind link.to && is_at (far link.to) k)) row ≡ true
+    → list_any (λ link. (link.port == port) && (kind link.to && is_exactly (far link.to) k)) row ≡ true
     → Out row kind far port k
 out_of [] kind far port k h = absurd (false≢true h)
 out_of (link ∷ row) kind far port k h =
-    elim (or_cases ((link.port == port) && (kind link.to && is_at (far link.to) k)) _ h) [
+    elim (or_cases ((link.port == port) && (kind link.to && is_exactly (far link.to) k)) _ h) [
       | inl here ↦
           let one = and_parts (link.port == port) _ here in
-          let two = and_parts (kind link.to) (is_at (far link.to) k) one.1 in
-          record { to = link.to; there = or_left (goes port link.to link) _ (and_from (link.port == port) (link.to == link.to) one.0 (eq-eqb link.to link.to refl)); fits = two.0; at = at_is (far link.to) k two.1 }
+          let two = and_parts (kind link.to) (is_exactly (far link.to) k) one.1 in
+          record { to = link.to; there = or_left (goes port link.to link) _ (and_from (link.port == port) (link.to == link.to) one.0 (eq-eqb link.to link.to refl)); fits = two.0; at = exactly (far link.to) k two.1 }
       | inr later ↦ let more = out_of row kind far port k later in
           record { to = more.to; there = or_right (goes port more.to link) _ more.there; fits = more.fits; at = more.at }
     ]
@@ -102,10 +93,10 @@ out_of (link ∷ row) kind far port k h =
 best_of : (rows : List (List Link)) (kind : ℕ → Bool) (far : ℕ → Option ℕ) (s port k : ℕ)
     → is_best (links_of rows s) kind far port k ≡ true → IsBest rows kind far s port k
 best_of rows kind far s port k h =
-    let parts = and_parts (list_any (λ link. (link.port == port) && (kind link.to && is_at (far link.to) k)) (links_of rows s)) _ h in
+    let parts = and_parts (list_any (λ link. (link.port == port) && (kind link.to && is_exactly (far link.to) k)) (links_of rows s)) _ h in
     let out = out_of (links_of rows s) kind far port k parts.0 in
     let worse : (q t : ℕ) → leads rows s q t ≡ true → kind t ≡ true → is_no_better (far t) k port q ≡ true =
-    λ q t way fits. is_so (kind t) _ (at_link (λ q t. not (kind t) || is_no_better (far t) k port q) (links_of rows s) q t parts.1 way) fits in
+    λ q t way fits. implied (kind t) _ (at_link (λ q t. not (kind t) || is_no_better (far t) k port q) (links_of rows s) q t parts.1 way) fits in
     record {
       to = out.to;
       out = out.there;
@@ -118,7 +109,7 @@ best_of rows kind far s port k h =
 none_at : (rows : List (List Link)) (kind : ℕ → Bool) (far : ℕ → Option ℕ) (s : ℕ)
     → is_none_at (links_of rows s) kind far ≡ true → NoneAt rows kind far s
 none_at rows kind far s h q t way fits =
-    none_is (far t) (is_so (kind t) _ (at_link (λ q t. not (kind t) || is_none (far t)) (links_of rows s) q t h way) fits)
+    none_is (far t) (implied (kind t) _ (at_link (λ q t. not (kind t) || is_none (far t)) (links_of rows s) q t h way) fits)
 
 entry_is : (rows : List (List Link)) (before : ℕ → ℕ → Bool) (down own next : ℕ → Option ℕ) (s : ℕ) (o r p : Option ℕ)
     → down s ≡ o → own s ≡ r → next s ≡ p
@@ -138,20 +129,20 @@ pub table_tested : (rows : List (List Link)) (before : ℕ → ℕ → Bool) (d 
     → is_cabling rows ≡ true → is_table rows before d down own next ≡ true
     → AllChosen rows before (entry_of next) d
 table_tested rows before d down own next cabling tested =
-    table_chosen rows before d cabling (entry_of down) (entry_of own) (entry_of next) (at_is (entry_of down d) 0 home.0) (at_is (entry_of own d) 0 home.1)
+    table_chosen rows before d cabling (entry_of down) (entry_of own) (entry_of next) (exactly (entry_of down d) 0 home.0) (exactly (entry_of own d) 0 home.1)
     (λ s less away. entry_is rows before (entry_of down) (entry_of own) (entry_of next) s (entry_of down s) (entry_of own s) (entry_of next s) refl refl refl
-    (is_so (not (s == d)) _ (two_nots (s == d) _ (at_each test 0 (length rows) s parts.1 (omega arith) (omega (arith, less)))) (not_is (s == d) (ne_eqb s d away))))
+    (implied (not (s == d)) _ (two_nots (s == d) _ (at_each test 0 (length rows) s parts.1 (omega arith) (omega (arith, less)))) (not_is (s == d) (ne_eqb s d away))))
   where
     test : ℕ → Bool
     test s =
         (s == d) || is_entry rows before (entry_of down) (entry_of own) s (entry_of down s) (entry_of own s) (entry_of next s)
 
-    parts : ((is_at (entry_of down d) 0 && is_at (entry_of own d) 0) ≡ true) × (list_all test (range_with_len 0 (length rows)) ≡ true)
+    parts : ((is_exactly (entry_of down d) 0 && is_exactly (entry_of own d) 0) ≡ true) × (list_all test (range_with_len 0 (length rows)) ≡ true)
     parts =
-        and_parts (is_at (entry_of down d) 0 && is_at (entry_of own d) 0) (list_all test (range_with_len 0 (length rows))) tested
+        and_parts (is_exactly (entry_of down d) 0 && is_exactly (entry_of own d) 0) (list_all test (range_with_len 0 (length rows))) tested
 
-    home : (is_at (entry_of down d) 0 ≡ true) × (is_at (entry_of own d) 0 ≡ true)
-    home = and_parts (is_at (entry_of down d) 0) (is_at (entry_of own d) 0) parts.0
+    home : (is_exactly (entry_of down d) 0 ≡ true) × (is_exactly (entry_of own d) 0 ≡ true)
+    home = and_parts (is_exactly (entry_of down d) 0) (is_exactly (entry_of own d) 0) parts.0
 
     two_nots : (b c : Bool) → (b || c) ≡ true → (not (not b) || c) ≡ true
     two_nots true c h = refl

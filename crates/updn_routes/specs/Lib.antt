@@ -14,3 +14,6 @@ pub mod Tables
 pub mod Routes
 pub mod Fault
 pub mod Subnet
+pub mod Alike
+pub mod NextHops
+pub mod OrderLaws

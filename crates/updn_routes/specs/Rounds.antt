@@ -1,6 +1,7 @@
 -- Distances, found in rounds: a round finds the switches that are one cable further than those of the round before.
-use Rattle.std.specs.Prelude.{ℕ, ◌≡◌, ◌≤◌, ◌<◌, ◌+◌, ◌==◌, Bool, true, false, if◌then◌else◌, List, map, length, get_or, Option, Some, None}
+use Rattle.std.specs.Prelude.{ℕ, ◌≡◌, ◌≤◌, ◌<◌, ◌+◌, Bool, true, false, if◌then◌else◌, List, map, length, get_or, Option, Some, None}
 use Rattle.std.specs.List.{list_any, range_with_len}
+use Rattle.sweep.specs.Rounds.{is_exactly}
 use Rattle.updn_routes.specs.declared.link.Link.{Link}
 use Rattle.updn_routes.specs.Cabling.{is_walk, links_of}
 use Rattle.updn_routes.specs.Order.{IsDistance}
@@ -16,10 +17,6 @@ at_first is = if is then Some 0 else None
 -- the distance of a switch, if it is found
 abbrev pub found_at : List (Option ℕ) → ℕ → Option ℕ
 found_at found s = get_or found s None
-
-abbrev pub is_exactly : Option ℕ → ℕ → Bool
-is_exactly None k = false
-is_exactly (Some j) k = j == k
 
 -- what a round makes of a switch: one that is not found yet is so if some link leads to a switch at that distance
 abbrev pub or_further : Option ℕ → Bool → ℕ → Option ℕ

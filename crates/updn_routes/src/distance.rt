@@ -3,9 +3,10 @@
 ghost use Rattle.std.specs.Prelude.{◌≡◌, ◌<◌, true, map, length, IfOk};
 ghost use Rattle.std.specs.List.{list_any};
 ghost use Rattle.std.specs.Option.{unwrap_or};
+ghost use Rattle.sweep.specs.Rounds.{is_exactly};
 ghost use Rattle.updn_routes.specs.Cabling.{AllJoined, is_cabling, links_of};
 ghost use Rattle.updn_routes.specs.Order.{AreDistances};
-ghost use Rattle.updn_routes.specs.Rounds.{at_first, found_at, further, is_exactly, is_marked, spread};
+ghost use Rattle.updn_routes.specs.Rounds.{at_first, found_at, further, is_marked, spread};
 
 use crate::link::Link;
 use crate::row::{Row, links_of};

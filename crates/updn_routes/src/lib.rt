@@ -11,6 +11,12 @@
 //! another, `specs/Tree.antt` by which port it is joined to the spanning tree of multicast, `specs/Sides.antt` what
 //! lies on which side of it there, and `specs/Routes.antt` what routes answer. Laws over these definitions stand in
 //! `src/laws.rt`.
+//!
+//! Routes do not depend on the order in which a sweep found the switches (`src/order_laws.rt`). `specs/Alike.antt` says when two
+//! cablings differ in the order of their switches alone. Then switches have the same ranks in both, up/down paths (up, and then
+//! down) lead between the same switches, a switch chooses the same port towards another, and the first pair that none joins is
+//! the same by its LIDs. Two layouts of one fabric are so, and then each switch, by its GUID, has the same next hops. Sweeps and
+//! routes are those of the IBA volume 1, chapter 14.
 #![tactic(auto)]
 
 mod answer;
@@ -19,6 +25,7 @@ mod distance;
 mod fault;
 mod laws;
 mod link;
+mod order_laws;
 mod place;
 mod root;
 mod routing;
@@ -37,6 +44,11 @@ pub use crate::laws::{
     ways_down_come_first,
 };
 pub use crate::link::Link;
+pub use crate::order_laws::{
+    choices_are_alike, graphs_of_one_fabric_are_alike, legal_paths_are_alike,
+    next_hops_are_the_fabrics, none_is_reached_and_refused, one_pair_is_refused, ranks_are_alike,
+    trees_are_alike,
+};
 pub use crate::routing::{routes, routes_over};
 pub use crate::row::Row;
 pub use crate::subnet_routes::Routes;

@@ -1,5 +1,5 @@
 use Rattle.std.proofs.Common.{◌+◌, arith}
-use Rattle.text_parts.proofs.RowLemmas.{text_of_one_more}
+use Rattle.text_words.proofs.RowLemmas.{text_of_one_more}
 use Rattle.fabric_graph.specs.Graph.{edge_at}
 use Rattle.fabric_graph.specs.Rows.{picture_of}
 use Rattle.fabric_graph.proofs.drawing.push_cables.Goals as goal

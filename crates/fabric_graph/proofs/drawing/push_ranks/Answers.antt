@@ -1,5 +1,5 @@
 use Rattle.std.proofs.Common.{◌+◌, arith}
-use Rattle.text_parts.proofs.RowLemmas.{text_of_one_more}
+use Rattle.text_words.proofs.RowLemmas.{text_of_one_more}
 use Rattle.fabric_graph.specs.Graph.{rank_text}
 use Rattle.fabric_graph.proofs.drawing.push_ranks.Goals as goal
 

@@ -1,5 +1,5 @@
 use Rattle.std.proofs.Common.{◌+◌, arith}
-use Rattle.text_parts.proofs.RowLemmas.{text_of_one_more}
+use Rattle.text_words.proofs.RowLemmas.{text_of_one_more}
 use Rattle.fabric_tables.specs.Multicast.{ones_mark}
 use Rattle.fabric_tables.proofs.multicast.push_ones_marks.Goals as goal
 

@@ -1,6 +1,6 @@
 use Rattle.std.proofs.Common.{◌+◌, ◌-◌, [], if◌then◌else◌, arith}
 use Rattle.fabric_parts.specs.declared.lid.TheConstants.{FIRST_MULTICAST_LID}
-use Rattle.text_parts.proofs.RowLemmas.{text_of_one_more}
+use Rattle.text_words.proofs.RowLemmas.{text_of_one_more}
 use Rattle.fabric_tables.specs.Multicast.{is_used, mlid_line}
 use Rattle.fabric_tables.proofs.UsedLemmas.{all_used}
 use Rattle.fabric_tables.proofs.multicast.push_used_lines.Goals as goal

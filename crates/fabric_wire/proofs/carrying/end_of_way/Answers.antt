@@ -1,5 +1,5 @@
 use Rattle.std.proofs.Common.{◌<◌, ◌*◌, ◌∙◌, length, sym, arith}
-use Rattle.delivery_laws.proofs.WayLemmas.{begins, goes_on, goes_round}
+use Rattle.smp_wire.proofs.WayLemmas.{begins, goes_on, goes_round}
 use Rattle.fabric_wire.proofs.carrying.end_of_way.Goals as goal
 
 pub loop-hops-init : goal.loop-hops-init

@@ -1,4 +1,4 @@
-use Rattle.delivery_laws.proofs.WayLemmas.{IsOnWay}
+use Rattle.smp_wire.proofs.WayLemmas.{IsOnWay}
 use Rattle.fabric_wire.proofs.carrying.end_of_way.Given as goal
 
 abbrev pub invariant-loop-hops : goal.invariant-loop-hops

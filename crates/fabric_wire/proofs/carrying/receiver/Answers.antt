@@ -3,7 +3,7 @@ use Rattle.std.proofs.lemmas.Bool.{false≢true}
 use Rattle.std.proofs.lemmas.Option.{none-some, same_Some}
 use Rattle.port_model.specs.AdapterState.{AdapterState}
 use Rattle.port_model.specs.Packets.{accepts_packet}
-use Rattle.delivery_laws.proofs.WayLemmas.{at_end, way_ends}
+use Rattle.smp_wire.proofs.WayLemmas.{at_end, way_ends}
 use Rattle.fabric_wire.proofs.carrying.receiver.Goals as goal
 
 pub returns-in_err-last-clause-none : goal.returns-in_err-last-clause-none

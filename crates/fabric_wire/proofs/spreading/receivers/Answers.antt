@@ -1,5 +1,5 @@
 use Rattle.std.proofs.Common.{◌∙◌, sym, arith}
-use Rattle.delivery_laws.proofs.DeliveryLemmas.{nobody}
+use Rattle.smp_wire.proofs.DeliveryLemmas.{nobody}
 use Rattle.fabric_wire.proofs.ReceiverLemmas.{gets, nobody_gets}
 use Rattle.fabric_wire.proofs.spreading.receivers.Goals as goal
 

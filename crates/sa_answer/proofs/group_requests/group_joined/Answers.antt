@@ -2,14 +2,14 @@ use Rattle.std.proofs.Common.{◌≡◌, ◌∙◌, List, None, Some, ap, is_som
 use Rattle.std.proofs.lemmas.Bool.{false≢true}
 use Rattle.pkey_rules.specs.PKey.{base_of}
 use Rattle.subnet_model.specs.Delivery.{port_with_guid}
-use Rattle.sa_groups.specs.Changes.{Change, partition_of}
-use Rattle.sa_groups.specs.Groups.{PartitionGroups}
-use Rattle.sa_groups.specs.Joining.{Join, joined}
-use Rattle.sa_groups.specs.Members.{is_in}
-use Rattle.sa_groups.proofs.ChangeLemmas.{partitions_stay}
+use Rattle.sa_model.specs.Changes.{Change, partition_of}
+use Rattle.sa_model.specs.Groups.{PartitionGroups}
+use Rattle.sa_model.specs.Joining.{Join, joined}
+use Rattle.sa_model.specs.Members.{is_in}
+use Rattle.sa_model.proofs.ChangeLemmas.{partitions_stay}
 use Rattle.sa_replies.specs.Joins.{group_named, join_asked, join_questions, member_bytes}
 use Rattle.sa_replies.proofs.AlikeLemmas.{join_is_in}
-use Rattle.sa_queries.specs.Refusals.{first_refusal}
+use Rattle.sa_model.specs.Refusals.{first_refusal}
 use Rattle.sa_store.specs.Members.{CanJoin, place_with_base}
 use Rattle.sa_store.specs.Registry.{RegistryState, with_partitions}
 use Rattle.sa_answer.specs.Replying.{padded}

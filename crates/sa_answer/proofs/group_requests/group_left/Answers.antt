@@ -1,6 +1,6 @@
 use Rattle.std.proofs.Common.{◌≡◌, ◌∙◌, ap, refl, sym}
-use Rattle.sa_groups.specs.Leaving.{Leave, left}
-use Rattle.sa_queries.specs.Refusals.{first_refusal}
+use Rattle.sa_model.specs.Leaving.{Leave, left}
+use Rattle.sa_model.specs.Refusals.{first_refusal}
 use Rattle.sa_replies.specs.Joins.{leave_questions, leaving_by, takes_some}
 use Rattle.sa_store.specs.Registry.{with_partitions}
 use Rattle.sa_answer.proofs.AnswerLemmas.{guid_of_found}

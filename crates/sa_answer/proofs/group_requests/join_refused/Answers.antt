@@ -1,9 +1,9 @@
 use Rattle.std.proofs.Common.{◌∙◌, ap, get_or, sym}
 use Rattle.std.proofs.lemmas.Bool.{eqb-true}
 use Rattle.pkey_rules.specs.PKey.{base_of}
-use Rattle.sa_groups.specs.Groups.{PartitionGroups}
-use Rattle.sa_groups.specs.Joining.{may_create}
-use Rattle.sa_queries.specs.Refusals.{first_refusal}
+use Rattle.sa_model.specs.Groups.{PartitionGroups}
+use Rattle.sa_model.specs.Joining.{may_create}
+use Rattle.sa_model.specs.Refusals.{first_refusal}
 use Rattle.sa_answer.specs.JoinQuestions.{questions_in}
 use Rattle.sa_store.proofs.MemberLemmas.{one_of_base, own_bases_of}
 use Rattle.sa_answer.proofs.JoinLemmas.{refusal_in}

@@ -1,5 +1,5 @@
 use Rattle.std.proofs.Common.{rules, ◌≡◌, true, sym, subst, arith, Fits as SFits, w8, w32}
-use Rattle.sa_groups.specs.Groups.{GroupParameters}
+use Rattle.sa_model.specs.Groups.{GroupParameters}
 use Rattle.sa_replies.specs.State.{is_fit_group}
 use Rattle.sa_store.specs.MlidRange.{parameters_of}
 use Rattle.sa_answer.proofs.GroupLemmas.{narrow}

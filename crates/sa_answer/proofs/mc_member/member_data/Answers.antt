@@ -1,7 +1,7 @@
 use Rattle.std.proofs.Common.{◌≡◌, ◌∙◌, ap, find, get_or, sym}
 use Rattle.std.proofs.lemmas.Bool.{eqb-true}
-use Rattle.sa_groups.specs.Groups.{PartitionGroups}
-use Rattle.sa_groups.specs.Joining.{has_mgid}
+use Rattle.sa_model.specs.Groups.{PartitionGroups}
+use Rattle.sa_model.specs.Joining.{has_mgid}
 use Rattle.sa_replies.specs.Joins.{member_bytes}
 use Rattle.sa_answer.specs.Replying.{padded}
 use Rattle.sa_store.proofs.MemberLemmas.{named_in, one_of_base, own_bases_of}

@@ -1,7 +1,7 @@
 use Rattle.std.proofs.Common.{List, map, refl, subst, sym, ℕ}
-use Rattle.sa_queries.specs.Selected.{groups_selected, Query}
-use Rattle.sa_queries.specs.Shown.{group_entry}
-use Rattle.sa_queries.specs.Visible.{visible_groups}
+use Rattle.sa_model.specs.Selected.{groups_selected, Query}
+use Rattle.sa_model.specs.Shown.{group_entry}
+use Rattle.sa_model.specs.Visible.{visible_groups}
 use Rattle.sa_answer.proofs.GroupLemmas.{groups_are}
 use Rattle.sa_answer.proofs.BroughtLemmas.{table_refused, table_taken}
 use Rattle.sa_answer.specs.Taken.{Walks, bytes_of}

@@ -1,7 +1,7 @@
 use Rattle.std.proofs.Common.{◌≡◌, ◌+◌, ◌∷◌, [], ◌∙◌, ap, map, sym, arith, ℕ}
 use Rattle.std.proofs.lemmas.Result.{err_from_is_err_and}
 use Rattle.std.proofs.lemmas.List.{drop_all}
-use Rattle.sa_groups.specs.Groups.{first_mlid}
+use Rattle.sa_model.specs.Groups.{first_mlid}
 use Rattle.sa_answer.specs.Groups.{group_bytes, groups_agreeing, groups_reported}
 use Rattle.sa_answer.proofs.GroupLemmas.{not_named, not_searched, nothing_reported, searched, slot_next}
 use Rattle.sa_answer.proofs.TakenLemmas.{all_taken, at_first, leads_as, leads_on, none_taken, stops_here}

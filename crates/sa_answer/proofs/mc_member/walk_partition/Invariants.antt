@@ -1,5 +1,5 @@
 use Rattle.std.proofs.Common.{◌+◌, drop, map}
-use Rattle.sa_groups.specs.Groups.{first_mlid}
+use Rattle.sa_model.specs.Groups.{first_mlid}
 use Rattle.sa_answer.specs.Groups.{group_bytes, groups_agreeing, groups_reported}
 use Rattle.sa_answer.proofs.TakenLemmas.{LeadsTo}
 use Rattle.sa_answer.proofs.mc_member.walk_partition.Given as goal

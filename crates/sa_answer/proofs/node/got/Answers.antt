@@ -1,7 +1,7 @@
 use Rattle.std.proofs.Common.{List, None, map, refl, subst, ℕ}
-use Rattle.sa_queries.specs.Selected.{nodes_selected, Query}
-use Rattle.sa_queries.specs.Shown.{node_entry}
-use Rattle.sa_queries.specs.Visible.{visible_nodes}
+use Rattle.sa_model.specs.Selected.{nodes_selected, Query}
+use Rattle.sa_model.specs.Shown.{node_entry}
+use Rattle.sa_model.specs.Visible.{visible_nodes}
 use Rattle.sa_answer.proofs.BroughtLemmas.{get_taken, nodes_shown}
 use Rattle.sa_answer.specs.Taken.{Walks}
 use Rattle.sa_answer.specs.declared.taken.Taken.TheVariants.{One}

@@ -1,7 +1,7 @@
 use Rattle.std.proofs.Common.{List, map, subst, ℕ}
-use Rattle.sa_queries.specs.Selected.{nodes_selected}
-use Rattle.sa_queries.specs.Shown.{node_entry}
-use Rattle.sa_queries.specs.Visible.{visible_nodes}
+use Rattle.sa_model.specs.Selected.{nodes_selected}
+use Rattle.sa_model.specs.Shown.{node_entry}
+use Rattle.sa_model.specs.Visible.{visible_nodes}
 use Rattle.sa_answer.proofs.BroughtLemmas.{nodes_shown}
 use Rattle.sa_answer.specs.Taken.{Walks, bytes_of}
 use Rattle.sa_answer.specs.declared.taken.Taken.TheVariants.{All}

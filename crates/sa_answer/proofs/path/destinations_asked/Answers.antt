@@ -1,7 +1,7 @@
 use Rattle.std.proofs.Common.{◌≡◌, ◌==◌, List, Some, sym, ◌∙◌, ap}
 use Rattle.std.specs.List.{flat_map}
 use Rattle.subnet_model.specs.declared.subnet_port.SubnetPort.{SubnetPort}
-use Rattle.sa_queries.specs.Selected.{few_paths}
+use Rattle.sa_model.specs.Selected.{few_paths}
 use Rattle.sa_answer.specs.Asked.{guid_in}
 use Rattle.sa_answer.proofs.OutLemmas.{guid_out, lid_out}
 use Rattle.sa_answer.proofs.SelectLemmas.{flat_of_some}

@@ -1,7 +1,7 @@
 use Rattle.std.proofs.Common.{List, None, Some, map, subst, sym, ℕ}
 use Rattle.std.specs.List.{flat_map}
-use Rattle.sa_queries.specs.Selected.{few_paths, Query}
-use Rattle.sa_queries.specs.Shown.{path_entry}
+use Rattle.sa_model.specs.Selected.{few_paths, Query}
+use Rattle.sa_model.specs.Shown.{path_entry}
 use Rattle.sa_answer.proofs.BroughtLemmas.{get_refused, get_taken, paths_shown}
 use Rattle.sa_answer.specs.Taken.{Walks}
 use Rattle.sa_answer.specs.declared.taken.Taken.TheVariants.{One}

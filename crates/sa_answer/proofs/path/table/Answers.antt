@@ -1,7 +1,7 @@
 use Rattle.std.proofs.Common.{List, map, refl, subst, sym, ℕ}
 use Rattle.std.specs.List.{flat_map}
-use Rattle.sa_queries.specs.Selected.{few_paths, paths_wanted, Query}
-use Rattle.sa_queries.specs.Shown.{path_entry}
+use Rattle.sa_model.specs.Selected.{few_paths, paths_wanted, Query}
+use Rattle.sa_model.specs.Shown.{path_entry}
 use Rattle.sa_answer.proofs.BroughtLemmas.{paths_shown, table_refused, table_taken}
 use Rattle.sa_answer.specs.Taken.{Walks, bytes_of}
 use Rattle.sa_answer.specs.declared.taken.Taken.TheVariants.{All}

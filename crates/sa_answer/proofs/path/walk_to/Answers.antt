@@ -5,10 +5,10 @@ use Rattle.std.proofs.Math.Seq.{take-nil}
 use Rattle.pkey_rules.specs.KeyTable.{accepts}
 use Rattle.sa_records.specs.declared.path_record.PathRecord.{PathRecord}
 use Rattle.sa_records.specs.PathRecord.{path_record_bytes, path_record_selected}
-use Rattle.sa_services.specs.KeyOrder.{by_base}
-use Rattle.sa_queries.specs.Selected.{few_paths}
-use Rattle.sa_queries.specs.Shown.{path_record_of}
-use Rattle.sa_queries.specs.Visible.{Path}
+use Rattle.sa_model.specs.KeyOrder.{by_base}
+use Rattle.sa_model.specs.Selected.{few_paths}
+use Rattle.sa_model.specs.Shown.{path_record_of}
+use Rattle.sa_model.specs.Visible.{Path}
 use Rattle.sa_answer.specs.Replying.{path_bytes}
 use Rattle.sa_answer.proofs.PathLemmas.{agreeing, agreeing_closed, agreeing_no, agreeing_yes, all_wanted, nothing_left, one_wanted, under}
 use Rattle.sa_answer.proofs.TakenLemmas.{all_taken, at_first, leads_as, leads_on, stops_here}

@@ -1,5 +1,5 @@
 use Rattle.std.proofs.Common.{drop, map, take}
-use Rattle.sa_queries.specs.Selected.{few_paths}
+use Rattle.sa_model.specs.Selected.{few_paths}
 use Rattle.sa_answer.specs.Replying.{path_bytes}
 use Rattle.sa_answer.proofs.PathLemmas.{agreeing}
 use Rattle.sa_answer.proofs.TakenLemmas.{LeadsTo}

@@ -1,7 +1,7 @@
 use Rattle.std.proofs.Common.{List, None, map, refl, subst, ℕ}
-use Rattle.sa_queries.specs.Selected.{services_selected, Query}
-use Rattle.sa_queries.specs.Shown.{service_entry}
-use Rattle.sa_queries.specs.Visible.{visible_services}
+use Rattle.sa_model.specs.Selected.{services_selected, Query}
+use Rattle.sa_model.specs.Shown.{service_entry}
+use Rattle.sa_model.specs.Visible.{visible_services}
 use Rattle.sa_answer.proofs.OfferLemmas.{services_are}
 use Rattle.sa_answer.proofs.BroughtLemmas.{get_taken}
 use Rattle.sa_answer.specs.Taken.{Walks}

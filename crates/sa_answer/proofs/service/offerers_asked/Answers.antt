@@ -2,8 +2,8 @@ use Rattle.std.proofs.Common.{◌≡◌, Some, sym, ◌∙◌}
 use Rattle.std.specs.List.{IsDistinct}
 use Rattle.subnet_model.specs.Configured.{same_guid}
 use Rattle.subnet_model.specs.Delivery.{port_with_guid}
-use Rattle.sa_queries.specs.Selected.{services_selected}
-use Rattle.sa_queries.specs.Visible.{visible_services}
+use Rattle.sa_model.specs.Selected.{services_selected}
+use Rattle.sa_model.specs.Visible.{visible_services}
 use Rattle.sa_answer.specs.Asked.{guid_in}
 use Rattle.sa_store.specs.Kept.{ports_of, services_of}
 use Rattle.sa_answer.proofs.OfferLemmas.{offered_by, offered_is}

@@ -1,7 +1,7 @@
 use Rattle.std.proofs.Common.{List, map, subst, ℕ}
-use Rattle.sa_queries.specs.Selected.{services_selected}
-use Rattle.sa_queries.specs.Shown.{service_entry}
-use Rattle.sa_queries.specs.Visible.{visible_services}
+use Rattle.sa_model.specs.Selected.{services_selected}
+use Rattle.sa_model.specs.Shown.{service_entry}
+use Rattle.sa_model.specs.Visible.{visible_services}
 use Rattle.sa_answer.proofs.OfferLemmas.{services_are}
 use Rattle.sa_answer.specs.Taken.{Walks, bytes_of}
 use Rattle.sa_answer.specs.declared.taken.Taken.TheVariants.{All}

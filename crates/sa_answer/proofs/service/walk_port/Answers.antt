@@ -1,6 +1,6 @@
 use Rattle.std.proofs.Common.{◌≡◌, ◌∙◌, ap, map, refl, sym, arith}
 use Rattle.std.proofs.lemmas.Result.{err_from_is_err_and}
-use Rattle.sa_services.specs.KeyOrder.{by_base}
+use Rattle.sa_model.specs.KeyOrder.{by_base}
 use Rattle.sa_store.specs.Kept.{ServicesOfBase}
 use Rattle.sa_answer.specs.Offers.{offers_of, offers_shown, service_bytes}
 use Rattle.sa_answer.proofs.FoundLemmas.{base_low, nothing_shown, something_shown}

@@ -1,7 +1,7 @@
 use Rattle.std.proofs.Common.{◌≡◌, true, false, sym, ◌∙◌, ap, refl}
 use Rattle.std.specs.List.{list_any}
-use Rattle.sa_groups.specs.Members.{is_in}
-use Rattle.sa_services.specs.ServiceChange.{Deed, ServiceChange, has_id}
+use Rattle.sa_model.specs.Members.{is_in}
+use Rattle.sa_model.specs.ServiceChange.{Deed, ServiceChange, has_id}
 use Rattle.sa_replies.specs.ServiceRequests.{after_change, change_asked, services_at}
 use Rattle.sa_store.specs.Registry.{deleted_by}
 use Rattle.sa_answer.proofs.AnswerLemmas.{guid_of_found}

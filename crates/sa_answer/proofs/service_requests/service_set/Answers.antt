@@ -1,6 +1,6 @@
 use Rattle.std.proofs.Common.{◌≡◌, true, false, sym, ◌∙◌, ap, refl}
-use Rattle.sa_groups.specs.Members.{is_in}
-use Rattle.sa_services.specs.ServiceChange.{Deed, has_room}
+use Rattle.sa_model.specs.Members.{is_in}
+use Rattle.sa_model.specs.ServiceChange.{Deed, has_room}
 use Rattle.sa_replies.specs.ServiceRequests.{after_change, change_asked, service_asked, services_at, shown_bytes}
 use Rattle.sa_store.specs.Registry.{set_by}
 use Rattle.sa_answer.specs.Replying.{padded}

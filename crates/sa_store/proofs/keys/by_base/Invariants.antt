@@ -1,5 +1,5 @@
 use Rattle.std.proofs.Common.{◌≡◌, drop}
-use Rattle.sa_services.specs.KeyOrder.{by_base}
+use Rattle.sa_model.specs.KeyOrder.{by_base}
 use Rattle.sa_store.proofs.keys.by_base.Given as goal
 
 abbrev pub invariant-loop-place : goal.invariant-loop-place

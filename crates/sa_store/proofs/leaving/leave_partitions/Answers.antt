@@ -1,7 +1,7 @@
 use Rattle.std.proofs.Common.{◌≡◌, ℕ, ◌+◌, ◌<◌, ◌∙◌, ◌++◌, ◌∷◌, List, [], ap, append-nil, arith, drop, get_or, length, map, set, sym, take, take_all}
 use Rattle.std.proofs.lemmas.List.{drop_all, length-append}
-use Rattle.sa_groups.specs.Groups.{PartitionGroups}
-use Rattle.sa_groups.specs.Leaving.{left_in}
+use Rattle.sa_model.specs.Groups.{PartitionGroups}
+use Rattle.sa_model.specs.Leaving.{left_in}
 use Rattle.sa_store.specs.Kept.{ports_of}
 use Rattle.sa_store.specs.Receiving.{has_changed, numbers_changed}
 use Rattle.sa_store.proofs.LeaveLemmas.{one_unwritten, one_written}

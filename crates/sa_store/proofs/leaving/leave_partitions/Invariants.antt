@@ -1,5 +1,5 @@
 use Rattle.std.proofs.Common.{◌≡◌, ◌≤◌, ◌++◌, drop, length, map, take}
-use Rattle.sa_groups.specs.Leaving.{left_in}
+use Rattle.sa_model.specs.Leaving.{left_in}
 use Rattle.sa_store.specs.Kept.{ports_of}
 use Rattle.sa_store.specs.Receiving.{numbers_changed}
 use Rattle.sa_store.proofs.leaving.leave_partitions.Given as goal

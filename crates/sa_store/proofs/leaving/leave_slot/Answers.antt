@@ -1,6 +1,6 @@
 use Rattle.std.proofs.Common.{◌≡◌, ◌∙◌, ◌&&◌, ◌||◌, Bool, Some, ap, false, refl, rules, sym, true}
 use Rattle.std.specs.List.{list_any}
-use Rattle.sa_groups.specs.Leaving.{Leave}
+use Rattle.sa_model.specs.Leaving.{Leave}
 use Rattle.sa_store.specs.Left.{is_kept, left_by}
 use Rattle.sa_store.specs.Receiving.{is_adapter, is_receiving, loses}
 use Rattle.sa_store.specs.MlidRange.{SlotGroup}

@@ -1,7 +1,7 @@
 use Rattle.std.proofs.Common.{ℕ, ◌≡◌, false, List, take}
 use Rattle.std.specs.List.{list_any}
 use Rattle.subnet_model.specs.declared.subnet_port.SubnetPort.{SubnetPort}
-use Rattle.sa_groups.specs.Anchor.{anchors}
+use Rattle.sa_model.specs.Anchor.{anchors}
 use Rattle.sa_store.specs.Left.{ReportsFull}
 use Rattle.sa_store.proofs.leaving.some_anchors.Given as goal
 

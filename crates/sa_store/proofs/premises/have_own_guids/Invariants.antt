@@ -1,5 +1,5 @@
 use Rattle.std.proofs.Common.{◌≡◌, drop}
-use Rattle.sa_groups.specs.Sound.{pairwise}
+use Rattle.sa_model.specs.Sound.{pairwise}
 use Rattle.sa_store.specs.Premises.{other_guid}
 use Rattle.sa_store.proofs.premises.have_own_guids.Given as goal
 

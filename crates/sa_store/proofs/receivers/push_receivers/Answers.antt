@@ -1,9 +1,9 @@
 use Rattle.std.proofs.Common.{◌≡◌, ℕ, ◌+◌, ◌∙◌, ◌++◌, List, Option, ap, sym, take, take_all, true}
 use Rattle.std.specs.List.{list_all}
 use Rattle.subnet_model.specs.declared.group_receiver.GroupReceiver.{GroupReceiver}
-use Rattle.sa_groups.specs.Groups.{MulticastGroup, PartitionGroups, first_mlid, lower_port}
-use Rattle.sa_groups.specs.Receivers.{group_receivers, receivers_in}
-use Rattle.sa_groups.specs.Sound.{pairwise}
+use Rattle.sa_model.specs.Groups.{MulticastGroup, PartitionGroups, first_mlid, lower_port}
+use Rattle.sa_model.specs.Receivers.{group_receivers, receivers_in}
+use Rattle.sa_model.specs.Sound.{pairwise}
 use Rattle.sa_store.specs.Joined.{is_in_order}
 use Rattle.sa_store.specs.Kept.{ports_of}
 use Rattle.sa_store.specs.MlidRange.{SlotGroup, groups_in, with_mlid}

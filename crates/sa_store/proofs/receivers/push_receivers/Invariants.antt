@@ -1,5 +1,5 @@
 use Rattle.std.proofs.Common.{◌≡◌, ◌++◌, take}
-use Rattle.sa_groups.specs.Groups.{first_mlid}
+use Rattle.sa_model.specs.Groups.{first_mlid}
 use Rattle.sa_store.specs.Kept.{ports_of}
 use Rattle.sa_store.proofs.PushedLemmas.{received_of}
 use Rattle.sa_store.proofs.receivers.push_receivers.Given as goal

@@ -1,7 +1,7 @@
 use Rattle.std.proofs.Common.{◌≡◌, ◌∙◌, ◌+◌, ◌++◌, ◌∷◌, List, [], ap, sym, take}
 use Rattle.subnet_model.specs.declared.group_receiver.GroupReceiver.{GroupReceiver}
 use Rattle.subnet_model.specs.declared.subnet_port.SubnetPort.{SubnetPort}
-use Rattle.sa_groups.specs.Receivers.{group_receivers, receives_group}
+use Rattle.sa_model.specs.Receivers.{group_receivers, receives_group}
 use Rattle.sa_store.specs.Kept.{ports_of}
 use Rattle.sa_store.specs.MlidRange.{with_mlid}
 use Rattle.sa_store.proofs.PushedLemmas.{port_receives, port_is_deaf, pushed}

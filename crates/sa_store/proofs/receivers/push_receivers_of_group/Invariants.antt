@@ -1,5 +1,5 @@
 use Rattle.std.proofs.Common.{◌≡◌, ◌++◌, take}
-use Rattle.sa_groups.specs.Receivers.{group_receivers}
+use Rattle.sa_model.specs.Receivers.{group_receivers}
 use Rattle.sa_store.specs.Kept.{ports_of}
 use Rattle.sa_store.specs.MlidRange.{with_mlid}
 use Rattle.sa_store.proofs.receivers.push_receivers_of_group.Given as goal

@@ -1,7 +1,7 @@
 use Rattle.std.proofs.Common.{◌≡◌, ◌∙◌, false, nat_lt, rules, sym, true}
 use Rattle.std.specs.List.Sorted.{IsPartitionPoint}
 use Rattle.std.proofs.lemmas.List.Sorted.{IsPartitionPoint-from_clause}
-use Rattle.sa_groups.specs.Groups.{Membership}
+use Rattle.sa_model.specs.Groups.{Membership}
 use Rattle.sa_store.proofs.PushedLemmas.{are_parted, found_at, nowhere}
 use Rattle.sa_store.proofs.receivers.some_receives.Goals as goal
 

@@ -1,5 +1,5 @@
 use Rattle.std.proofs.Common.{◌≡◌, ◌++◌, drop}
-use Rattle.sa_groups.specs.Groups.{start_from}
+use Rattle.sa_model.specs.Groups.{start_from}
 use Rattle.sa_store.proofs.store.partitions_at_start.Given as goal
 
 abbrev pub invariant-loop-number : goal.invariant-loop-number

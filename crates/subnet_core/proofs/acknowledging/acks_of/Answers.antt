@@ -1,6 +1,6 @@
 use Rattle.std.proofs.Common.{◌+◌, ◌≡◌, ◌∙◌, sym, arith}
 use Rattle.std.proofs.lemmas.List.FromFn.{map-range_with_len_more}
-use Rattle.sa_runs.specs.Asking.{ack_mad}
+use Rattle.sa_replies.specs.Asking.{ack_mad}
 use Rattle.subnet_core.proofs.acknowledging.acks_of.Goals as goal
 
 pub loop-done-preserved : goal.loop-done-preserved

@@ -1,6 +1,6 @@
 use Rattle.std.proofs.Common.{◌≡◌, map}
 use Rattle.std.specs.List.{range_with_len}
-use Rattle.sa_runs.specs.Asking.{ack_mad}
+use Rattle.sa_replies.specs.Asking.{ack_mad}
 use Rattle.subnet_core.proofs.acknowledging.acks_of.Given as goal
 
 abbrev pub invariant-loop-done : goal.invariant-loop-done

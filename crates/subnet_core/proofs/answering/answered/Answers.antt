@@ -1,9 +1,9 @@
 use Rattle.std.proofs.Common.{◌≡◌, ◌∙◌, ap, refl, subst, sym, List, [], ◌∷◌, Vec, Global}
-use Rattle.delivery_laws.specs.Deliveries.{DeliveryState}
+use Rattle.smp_wire.specs.Deliveries.{DeliveryState}
 use Rattle.smp_wire.specs.FabricState.{FabricState}
 use Rattle.subnet_core.proofs.AnswerLemmas.{first_none, first_some, is_answered, nothing_came, nothing_matches, stands_after}
 use Rattle.subnet_core.specs.Senders.{AreSentBack}
-use Rattle.subnet_sends.specs.declared.event.Event.{Event}
+use Rattle.subnet_fabric.specs.declared.event.Event.{Event}
 use Rattle.subnet_core.proofs.answering.answered.Goals as goal
 
 pub returns-in_default-clause-answers : goal.returns-in_default-clause-answers

@@ -1,8 +1,8 @@
 use Rattle.std.proofs.Common.{ℕ, ◌≡◌, ◌+◌, ◌<◌, ◌∙◌, ap, arith, length, refl, suc, sym, subst, List, [], ◌∷◌, drop, drop-cons, get_or}
 use Rattle.std.proofs.lemmas.List.{drop_all}
-use Rattle.sa_runs.specs.Asking.{acknowledgements}
+use Rattle.sa_replies.specs.Asking.{acknowledgements}
 use Rattle.subnet_core.proofs.AskLemmas.{Acknowledges, OnTheWay, acknowledges_more, ends, starts_acknowledging}
-use Rattle.subnet_sends.specs.declared.event.Event.{Event}
+use Rattle.subnet_fabric.specs.declared.event.Event.{Event}
 use Rattle.subnet_core.proofs.answering.asked.Goals as goal
 
 drop_next : (acks : List (List ℕ)) (i : ℕ) → i < length acks → drop i acks ≡ get_or acks i [] ∷ drop (i + 1) acks

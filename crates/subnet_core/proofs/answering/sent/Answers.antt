@@ -1,5 +1,5 @@
 use Rattle.std.proofs.Common.{subst, List}
-use Rattle.delivery_laws.specs.Deliveries.{DeliveryState}
+use Rattle.smp_wire.specs.Deliveries.{DeliveryState}
 use Rattle.subnet_core.specs.Answering.{AnswersRequests}
 use Rattle.subnet_core.specs.Senders.{AreSentBack}
 use Rattle.subnet_core.proofs.OnceLemmas.{steps_by_events, steps_by_request}

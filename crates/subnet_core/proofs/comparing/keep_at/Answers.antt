@@ -2,7 +2,7 @@ use Rattle.std.proofs.Common.{◌∙◌, ap, map, rules}
 use Rattle.std.proofs.lemmas.Fn.{filter_same}
 use Rattle.subnet_core.proofs.SameLemmas.{events_filtered}
 use Rattle.subnet_core.proofs.comparing.keep_at.Goals as goal
-use Rattle.subnet_sends.specs.Sends.{event_of}
+use Rattle.subnet_fabric.specs.Sends.{event_of}
 
 pub returns : goal.returns
 returns c =

@@ -1,5 +1,5 @@
 use Rattle.std.proofs.Common.{◌≡◌, map, take}
-use Rattle.subnet_sends.specs.Sends.{event_of}
+use Rattle.subnet_fabric.specs.Sends.{event_of}
 use Rattle.subnet_core.specs.EventLines.{report_text}
 use Rattle.subnet_core.proofs.event_lines.report_text.Given as goal
 

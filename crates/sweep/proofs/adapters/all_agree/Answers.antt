@@ -1,9 +1,10 @@
 use Rattle.std.proofs.Common.{rules, sym, ap, ◌∙◌, ◌==◌, ◌&&◌, Bool, [], List, get_or, take}
 use Rattle.std.proofs.lemmas.List.{drop_all, take_more}
+use Rattle.std.proofs.lemmas.Bool.{and_right}
 use Rattle.indexmap.specs.IndexMap.{get}
 use Rattle.sweep.specs.Adapters.{is_count}
 use Rattle.sweep.specs.declared.graph.GraphPort.{GraphPort}
-use Rattle.sweep.proofs.AdapterLemmas.{agree_on, agree_whole, ends, goes_on, has, has_more, kept_agrees, no_port, not_new, report, report_more}
+use Rattle.sweep.proofs.AdapterLemmas.{agree_on, agree_whole, ends, goes_on, has, has_more, kept_agrees, no_port, report, report_more}
 use Rattle.sweep.proofs.adapters.all_agree.Goals as goal
 
 pub loop-port-init : goal.loop-port-init
@@ -21,7 +22,7 @@ returns-then-not-is_new c =
     ends ports i no_port c.loop-port-test.true c.loop-port.invariant.agree
     (kept_agrees (take i ports) port _ _ _ (c.loop-port.invariant.reported port.node_guid port.num_ports)
     (c.loop-port.invariant.kept (record { guid = port.node_guid; number = port.number })) c.in_ok-is_new.ensures.added
-    ∙ not_new _ _ c.if-not-is_new.true)
+    ∙ and_right _ _ c.if-not-is_new.true)
 
 pub returns-then-not-is_count : goal.returns-then-not-is_count
 returns-then-not-is_count c =

@@ -1,6 +1,6 @@
 use Rattle.std.proofs.Common.{◌≡◌, ◌∙◌, nat_eq, subst, sym, Some}
 use Rattle.indexmap.specs.IndexMap.{get}
-use Rattle.delivery_laws.specs.Deliveries.{guid_at}
+use Rattle.smp_wire.specs.Deliveries.{guid_at}
 use Rattle.smp_wire.specs.FabricState.{FabricState}
 use Rattle.fabric_wire.specs.Cabling.{fabric_over}
 use Rattle.fabric_wire.proofs.KeptPortLemmas.{is_delivered, reaches_nobody}

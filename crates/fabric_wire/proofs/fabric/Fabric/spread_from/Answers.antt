@@ -1,8 +1,8 @@
 use Rattle.std.proofs.Common.{◌≡◌, ◌∙◌, ap, map, nat_eq, subst, sym, Some}
 use Rattle.std.proofs.lemmas.Result.{IfOk-weaker}
 use Rattle.indexmap.specs.IndexMap.{get}
-use Rattle.delivery_laws.specs.Deliveries.{DeliveryState, guid_at}
-use Rattle.delivery_laws.specs.declared.numbers.Numbers.{Numbers}
+use Rattle.smp_wire.specs.Deliveries.{DeliveryState, guid_at}
+use Rattle.smp_wire.specs.declared.numbers.Numbers.{Numbers}
 use Rattle.smp_wire.specs.FabricState.{FabricState}
 use Rattle.fabric_wire.specs.Cabling.{fabric_over}
 use Rattle.fabric_wire.proofs.ReceiverLemmas.{are_deliveries}

@@ -1,5 +1,5 @@
 use Rattle.std.proofs.Common.{◌∙◌, ap}
-use Rattle.sa_groups.specs.Groups.{Membership}
+use Rattle.sa_model.specs.Groups.{Membership}
 use Rattle.sa_replies.specs.Joins.{bits_of_join_state, bits_of_member}
 use Rattle.sa_store.proofs.MemberLemmas.{all_bits}
 use Rattle.sa_store.proofs.group.Group.bits_of.Goals as goal

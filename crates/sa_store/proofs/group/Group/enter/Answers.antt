@@ -1,7 +1,7 @@
 use Rattle.std.proofs.Common.{◌≡◌, get_or, insert, set, ap, sym, ◌∙◌}
-use Rattle.sa_groups.specs.Groups.{Membership}
-use Rattle.sa_groups.specs.JoinState.{JoinState, with_bits}
-use Rattle.sa_groups.specs.Joining.{Join, new_membership, with_member}
+use Rattle.sa_model.specs.Groups.{Membership}
+use Rattle.sa_model.specs.JoinState.{JoinState, with_bits}
+use Rattle.sa_model.specs.Joining.{Join, new_membership, with_member}
 use Rattle.sa_store.specs.MlidRange.{SlotGroup}
 use Rattle.sa_store.proofs.JoinLemmas.{entered_there, grown, inserted_there, is_at, place_for}
 use Rattle.sa_store.proofs.group.Group.enter.Goals as goal

@@ -1,6 +1,6 @@
 use Rattle.std.proofs.Common.{◌≡◌, ◌∙◌, ◌&&◌, ap, arith, false, get_or, length, not, remove, set, sym, true}
-use Rattle.sa_groups.specs.JoinState.{JoinState, is_receiver, without_bits}
-use Rattle.sa_groups.specs.Leaving.{Leave}
+use Rattle.sa_model.specs.JoinState.{JoinState, is_receiver, without_bits}
+use Rattle.sa_model.specs.Leaving.{Leave}
 use Rattle.sa_replies.specs.Joins.{join_state_of}
 use Rattle.sa_store.specs.Left.{takes_part}
 use Rattle.sa_store.specs.MlidRange.{SlotGroup}

@@ -1,5 +1,5 @@
 use Rattle.std.proofs.Common.{◌≡◌, ap, refl}
-use Rattle.sa_groups.specs.Groups.{Membership}
+use Rattle.sa_model.specs.Groups.{Membership}
 use Rattle.sa_replies.specs.Joins.{join_state_of}
 use Rattle.sa_store.proofs.JoinLemmas.{more_bits}
 use Rattle.sa_store.proofs.group.Membership.add.Goals as goal

@@ -1,6 +1,6 @@
 use Rattle.std.proofs.Common.{◌≡◌, ◌==◌, ◌∙◌, eq-eqb, true, ap, sym}
-use Rattle.sa_groups.specs.Groups.{Membership}
-use Rattle.sa_groups.specs.Leaving.{Leave}
+use Rattle.sa_model.specs.Groups.{Membership}
+use Rattle.sa_model.specs.Leaving.{Leave}
 use Rattle.sa_replies.specs.Joins.{has_bit_of, join_state_of}
 use Rattle.sa_store.proofs.LeaveLemmas.{common_bits}
 use Rattle.sa_store.proofs.group.Membership.loses_some.Goals as goal

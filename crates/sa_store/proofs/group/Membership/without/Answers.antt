@@ -1,6 +1,6 @@
 use Rattle.std.proofs.Common.{◌≡◌, ◌∙◌, Fits, ap, rules, w8}
-use Rattle.sa_groups.specs.Groups.{Membership}
-use Rattle.sa_groups.specs.JoinState.{JoinState, without_bits}
+use Rattle.sa_model.specs.Groups.{Membership}
+use Rattle.sa_model.specs.JoinState.{JoinState, without_bits}
 use Rattle.sa_replies.specs.Joins.{join_state_of}
 use Rattle.sa_store.proofs.LeaveLemmas.{fewer_bits}
 use Rattle.sa_store.proofs.group.Membership.without.Goals as goal

@@ -1,7 +1,7 @@
 use Rattle.std.proofs.Common.{◌≡◌, ◌<◌, length, arith, List, Some, None, get_or, ap, refl, sym, ◌∙◌}
 use Rattle.std.specs.List.{list_any, position}
-use Rattle.sa_services.specs.ServiceChange.{Deed, after_deed, has_id}
-use Rattle.sa_services.specs.Services.{Service}
+use Rattle.sa_model.specs.ServiceChange.{Deed, after_deed, has_id}
+use Rattle.sa_model.specs.Services.{Service}
 use Rattle.sa_store.specs.Deeds.{is_of_base}
 use Rattle.sa_store.specs.Kept.{KeptPort, ServicesOfBase}
 use Rattle.sa_store.proofs.BaseLemmas.{IsAtBase, at_base, bases_stay, has_place, in_at, never_none, same_places, set_at}

@@ -2,8 +2,8 @@ use Rattle.std.proofs.Common.{◌≡◌, ◌<◌, length, arith, Some, None, get
 use Rattle.std.proofs.lemmas.Result.{IfOk-weaker, on_ok_weaker}
 use Rattle.std.proofs.Common.{Bool, List, Ok, Err, Result, OnOk, OnErr}
 use Rattle.std.specs.List.{position}
-use Rattle.sa_services.specs.ServiceChange.{Deed, after_deed}
-use Rattle.sa_services.specs.Services.{Service}
+use Rattle.sa_model.specs.ServiceChange.{Deed, after_deed}
+use Rattle.sa_model.specs.Services.{Service}
 use Rattle.sa_store.specs.Deeds.{is_of_base, services_in}
 use Rattle.sa_store.specs.Kept.{KeptPort, ServicesOfBase}
 use Rattle.sa_store.proofs.BaseLemmas.{IsAtBase, at_base, bases_stay, has_place, in_at, never_none, same_places, set_at}

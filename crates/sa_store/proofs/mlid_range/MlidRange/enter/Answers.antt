@@ -1,7 +1,7 @@
 use Rattle.std.proofs.Common.{◌≡◌, ◌∙◌, ap, false, sym, true}
 use Rattle.std.specs.List.{list_any}
 use Rattle.std.proofs.lemmas.Result.{on_ok_weaker}
-use Rattle.sa_groups.specs.Joining.{Join, has_mgid}
+use Rattle.sa_model.specs.Joining.{Join, has_mgid}
 use Rattle.sa_store.specs.MlidRange.{with_mlid}
 use Rattle.sa_store.proofs.MemberLemmas.{entered_anew, entered_there, some_named}
 use Rattle.sa_store.proofs.mlid_range.MlidRange.enter.Goals as goal

@@ -1,11 +1,11 @@
 use Rattle.std.proofs.Common.{◌≡◌, ◌∙◌, None, Some, ap, get_or, is_some, length-set, position, sym}
 use Rattle.std.proofs.lemmas.Result.{on_ok_weaker}
 use Rattle.std.proofs.lemmas.List.Quantifiers.{position-Some}
-use Rattle.sa_groups.specs.Groups.{PartitionGroups}
-use Rattle.sa_groups.specs.Joining.{Join}
+use Rattle.sa_model.specs.Groups.{PartitionGroups}
+use Rattle.sa_model.specs.Joining.{Join}
 use Rattle.sa_store.specs.Joined.{holds_mgid, joined_slot}
 use Rattle.sa_store.proofs.SlotLemmas.{free_stays, partition_joined, partition_left_alone, slot_in_order}
-use Rattle.sa_groups.specs.Groups.{first_mlid}
+use Rattle.sa_model.specs.Groups.{first_mlid}
 use Rattle.sa_store.proofs.mlid_range.MlidRange.join.Goals as goal
 
 pub enter_slot-requires : goal.enter_slot-requires

@@ -1,7 +1,7 @@
 use Rattle.std.proofs.Common.{◌≡◌, ◌∙◌, ℕ, None, Some, ap, false, get_or, is_some, length-set, not, position, sym, true}
 use Rattle.std.proofs.lemmas.List.Quantifiers.{position-Some}
-use Rattle.sa_groups.specs.Groups.{PartitionGroups, first_mlid}
-use Rattle.sa_groups.specs.Leaving.{Leave, names_base}
+use Rattle.sa_model.specs.Groups.{PartitionGroups, first_mlid}
+use Rattle.sa_model.specs.Leaving.{Leave, names_base}
 use Rattle.sa_store.specs.Joined.{holds_mgid}
 use Rattle.sa_store.specs.Left.{left_slot}
 use Rattle.sa_store.specs.Receiving.{slot_changes}

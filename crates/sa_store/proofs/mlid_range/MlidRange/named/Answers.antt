@@ -1,8 +1,8 @@
 use Rattle.std.proofs.Common.{◌≡◌, ◌+◌, ◌∙◌, None, Some, ap, find, get_or, option_map, position, refl, sym, true}
 use Rattle.std.proofs.lemmas.Bool.{false≢true}
 use Rattle.std.proofs.lemmas.List.Quantifiers.{position-Some}
-use Rattle.sa_groups.specs.Groups.{PartitionGroups, first_mlid}
-use Rattle.sa_groups.specs.Joining.{has_mgid}
+use Rattle.sa_model.specs.Groups.{PartitionGroups, first_mlid}
+use Rattle.sa_model.specs.Joining.{has_mgid}
 use Rattle.sa_store.specs.Joined.{holds_mgid}
 use Rattle.sa_store.specs.MlidRange.{groups_in, with_mlid}
 use Rattle.sa_store.proofs.MemberLemmas.{found_in_none, found_in_slot}

@@ -1,7 +1,7 @@
 use Rattle.std.proofs.Common.{◌≡◌, ◌∙◌, List, ap, false, sym, true}
 use Rattle.std.specs.List.{list_any}
-use Rattle.sa_groups.specs.Groups.{MulticastGroup, PartitionGroups, first_mlid}
-use Rattle.sa_groups.specs.Leaving.{names_base}
+use Rattle.sa_model.specs.Groups.{MulticastGroup, PartitionGroups, first_mlid}
+use Rattle.sa_model.specs.Leaving.{names_base}
 use Rattle.sa_replies.specs.Joins.{is_taken_from}
 use Rattle.sa_store.specs.Left.{takes_from}
 use Rattle.sa_store.proofs.LeaveLemmas.{any_taken, nothing_taken}

@@ -1,6 +1,6 @@
 use Rattle.std.proofs.Common.{◌≡◌, ◌<◌, ◌≤◌, length, ap, refl, sym, ◌∙◌, arith}
-use Rattle.sa_services.specs.ServiceChange.{most_services}
-use Rattle.sa_services.specs.Services.{Service}
+use Rattle.sa_model.specs.ServiceChange.{most_services}
+use Rattle.sa_model.specs.Services.{Service}
 use Rattle.sa_store.specs.Kept.{ServicesOfBase}
 use Rattle.sa_store.proofs.DeedLemmas.{found_there, inserted_there, is_at, no_room, none_there, place_for, room_behind, room_of_its_own, set_there}
 use Rattle.sa_store.proofs.services.ServicesOfBase.set.Goals as goal

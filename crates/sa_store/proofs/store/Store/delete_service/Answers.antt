@@ -2,8 +2,8 @@ use Rattle.std.proofs.Common.{◌≡◌, true, List, Some, get_or, sym, subst, �
 use Rattle.std.specs.List.{list_any}
 use Rattle.pkey_rules.specs.KeyTable.{has_base}
 use Rattle.subnet_model.specs.Delivery.{port_with_guid}
-use Rattle.sa_services.specs.ServiceChange.{Deed, has_id}
-use Rattle.sa_services.specs.Services.{Service}
+use Rattle.sa_model.specs.ServiceChange.{Deed, has_id}
+use Rattle.sa_model.specs.Services.{Service}
 use Rattle.sa_replies.specs.ServiceRequests.{services_at}
 use Rattle.sa_store.specs.Deeds.{CanChange, services_in, with_deed}
 use Rattle.sa_store.specs.Kept.{KeptPort, ports_of, services_of}

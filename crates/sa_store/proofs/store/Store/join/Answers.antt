@@ -1,6 +1,6 @@
 use Rattle.std.proofs.Common.{◌≡◌, ◌∙◌, ◌∷◌, ◌&&◌, if◌then◌else◌, ap, get_or, set, subst, sym, []}
-use Rattle.sa_groups.specs.Groups.{PartitionGroups}
-use Rattle.sa_groups.specs.Receivers.{changed_numbers}
+use Rattle.sa_model.specs.Groups.{PartitionGroups}
+use Rattle.sa_model.specs.Receivers.{changed_numbers}
 use Rattle.sa_store.specs.Joined.{entered}
 use Rattle.sa_store.specs.Kept.{ports_of}
 use Rattle.sa_store.specs.Members.{CanJoin, receives_anew}

@@ -1,7 +1,7 @@
 use Rattle.std.proofs.Common.{◌≡◌, ◌∙◌, ◌++◌, ap, drop, length, subst, sym, take}
 use Rattle.std.proofs.lemmas.List.{length-map}
-use Rattle.sa_groups.specs.Leaving.{left, left_in}
-use Rattle.sa_groups.specs.Receivers.{changed_numbers}
+use Rattle.sa_model.specs.Leaving.{left, left_in}
+use Rattle.sa_model.specs.Receivers.{changed_numbers}
 use Rattle.sa_store.specs.Kept.{ports_of}
 use Rattle.sa_store.specs.Receiving.{numbers_changed}
 use Rattle.sa_store.specs.Registry.{RegistryState}

@@ -2,8 +2,8 @@ use Rattle.std.proofs.Common.{◌≡◌, ◌==◌, ◌∙◌, ◌++◌, List, ap
 use Rattle.std.proofs.lemmas.Bool.{ne_eqb}
 use Rattle.subnet_model.specs.declared.group_receiver.GroupReceiver.{GroupReceiver}
 use Rattle.subnet_model.specs.declared.subnet_port.SubnetPort.{SubnetPort}
-use Rattle.sa_groups.specs.Receivers.{receivers_in, receivers_of}
-use Rattle.sa_groups.specs.Sound.{is_sound, is_sound_partition}
+use Rattle.sa_model.specs.Receivers.{receivers_in, receivers_of}
+use Rattle.sa_model.specs.Sound.{is_sound, is_sound_partition}
 use Rattle.sa_store.specs.Kept.{ports_of}
 use Rattle.sa_store.specs.Registry.{RegistryState}
 use Rattle.sa_store.proofs.StartLemmas.{passed_at}

@@ -1,5 +1,5 @@
 use Rattle.std.proofs.Common.{◌≡◌, take}
-use Rattle.sa_groups.specs.Receivers.{receivers_of}
+use Rattle.sa_model.specs.Receivers.{receivers_of}
 use Rattle.sa_store.specs.Kept.{ports_of}
 use Rattle.sa_store.proofs.store.Store.receivers.Given as goal
 

@@ -3,9 +3,9 @@ use Rattle.std.proofs.lemmas.Result.{IfOk-weaker, on_ok_weaker}
 use Rattle.partition_file.specs.declared.heading.Heading.{Heading}
 use Rattle.pkey_rules.specs.KeyTable.{has_base}
 use Rattle.subnet_model.specs.Delivery.{port_with_guid}
-use Rattle.sa_groups.specs.Groups.{PartitionGroups}
-use Rattle.sa_services.specs.ServiceChange.{Deed}
-use Rattle.sa_services.specs.Services.{Service}
+use Rattle.sa_model.specs.Groups.{PartitionGroups}
+use Rattle.sa_model.specs.ServiceChange.{Deed}
+use Rattle.sa_model.specs.Services.{Service}
 use Rattle.sa_replies.specs.ServiceRequests.{services_at}
 use Rattle.sa_replies.specs.State.{is_fit_service}
 use Rattle.sa_store.specs.Deeds.{CanChange, services_in, with_deed}

@@ -1,5 +1,5 @@
 use Rattle.std.proofs.Common.{◌∙◌, ap, map, refl, Ok}
-use Rattle.subnet_sends.specs.Sends.{event_of}
+use Rattle.subnet_fabric.specs.Sends.{event_of}
 use Rattle.std.proofs.lemmas.Result.{err_from_is_err_and}
 use Rattle.subnet_core.proofs.LineLemmas.{quiet_takes, said_takes, unparsed_takes}
 use Rattle.subnet_core.proofs.PutLemmas.{loses_reported}

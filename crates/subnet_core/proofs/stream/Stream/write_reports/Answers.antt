@@ -1,6 +1,6 @@
 use Rattle.std.proofs.Common.{◌∙◌, ◌++◌, ◌+◌, ap, sym, append_assoc, drop, map}
 use Rattle.std.proofs.lemmas.Result.{err_from_is_err_and}
-use Rattle.subnet_sends.specs.Sends.{event_of}
+use Rattle.subnet_fabric.specs.Sends.{event_of}
 use Rattle.subnet_core.specs.EventLines.{line_text, report_text}
 use Rattle.subnet_core.proofs.PutLemmas.{puts_on}
 use Rattle.subnet_core.proofs.ReportLemmas.{more_reported, reports_stop}

@@ -1,6 +1,6 @@
 -- The events so far are reported, and the others are left.
 use Rattle.std.proofs.Common.{ℕ, List, ◌≡◌, ◌++◌, true, map, drop}
-use Rattle.subnet_sends.specs.Sends.{event_of}
+use Rattle.subnet_fabric.specs.Sends.{event_of}
 use Rattle.subnet_core.specs.EventLines.{report_text}
 use Rattle.subnet_core.specs.StreamSteps.{Puts}
 use Rattle.subnet_core.proofs.stream.Stream.write_reports.Given as goal

@@ -1,8 +1,8 @@
 use Rattle.std.proofs.Common.{◌≡◌, ◌++◌, drop, map}
 use Rattle.subnet_core.proofs.subnet.Subnet.carry_out.Given as goal
-use Rattle.sa_runs.specs.Administration.{subnet_administration}
+use Rattle.sa_replies.specs.Administration.{subnet_administration}
 use Rattle.subnet_model.specs.Report.{events_from, step_by}
-use Rattle.subnet_sends.specs.Sends.{event_of}
+use Rattle.subnet_fabric.specs.Sends.{event_of}
 
 abbrev pub invariant-loop-command : goal.invariant-loop-command
 invariant-loop-command l =

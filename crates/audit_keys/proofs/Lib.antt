@@ -1,0 +1,10 @@
+mod LawLemmas
+mod VerdictLemmas
+mod BaseLemmas
+mod PairLemmas
+mod WrongLemmas
+mod ExampleLemmas
+mod PrintLemmas
+mod WrongPrintLemmas
+mod RankLemmas
+mod WrongRankLemmas

@@ -1,0 +1,5 @@
+use Rattle.std.proofs.Common.{◌∙◌}
+use Rattle.audit_lanes.proofs.lines.lacks_row.Goals as goal
+
+pub returns : goal.returns
+returns c = c.contains.ensures ∙ c.requires c.args.here

@@ -1,0 +1,5 @@
+use Rattle.audit_loads.proofs.TextLemmas.{all_pairs_are_counted}
+use Rattle.audit_loads.proofs.laws.all_pairs_are_counted.Goals as goal
+
+pub returns : goal.returns
+returns c = all_pairs_are_counted

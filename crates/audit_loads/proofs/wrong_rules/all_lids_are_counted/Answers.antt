@@ -1,0 +1,5 @@
+use Rattle.audit_loads.proofs.WrongTextLemmas.{all_lids_are_counted}
+use Rattle.audit_loads.proofs.wrong_rules.all_lids_are_counted.Goals as goal
+
+pub returns : goal.returns
+returns c = all_lids_are_counted

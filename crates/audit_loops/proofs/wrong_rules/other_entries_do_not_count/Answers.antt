@@ -1,0 +1,5 @@
+use Rattle.audit_loops.proofs.WrongLemmas.{other_entries_do_not_count}
+use Rattle.audit_loops.proofs.wrong_rules.other_entries_do_not_count.Goals as goal
+
+pub returns : goal.returns
+returns c = other_entries_do_not_count

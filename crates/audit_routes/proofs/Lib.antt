@@ -1,0 +1,16 @@
+pub mod LineLemmas
+pub mod CarriesLemmas
+pub mod LoopLemmas
+pub mod TroubleLemmas
+pub mod ClosingLemmas
+pub mod WrongLemmas
+pub mod SafeLemmas
+pub mod ReportedLemmas
+pub mod ExampleLemmas
+pub mod CountLemmas
+pub mod ReasonLemmas
+pub mod PrintedLemmas
+pub mod DecidingLemmas
+pub mod EachReasonLemmas
+pub mod UnknownLemmas
+pub mod WrongLineLemmas

@@ -1,0 +1,5 @@
+use Rattle.audit_routes.proofs.WrongLemmas.{nobodys_loops_have_a_line}
+use Rattle.audit_routes.proofs.wrong_rules.nobodys_loops_have_a_line.Goals as goal
+
+pub returns : goal.returns
+returns c = nobodys_loops_have_a_line

@@ -1,0 +1,5 @@
+use Rattle.audit_routes.proofs.PrintedLemmas.{other_tables_have_a_line}
+use Rattle.audit_routes.proofs.wrong_rules.other_tables_have_a_line.Goals as goal
+
+pub returns : goal.returns
+returns c = other_tables_have_a_line

@@ -1,7 +1,0 @@
-use Rattle.std.proofs.Common.{◌≡◌, ◌++◌, take}
-use Rattle.std.specs.List.{flat_map}
-use Rattle.audited_ports.specs.Ends.{line_end}
-use Rattle.audited_ports.proofs.ends.push_lines.Given as goal
-
-abbrev pub invariant-loop-line : goal.invariant-loop-line
-invariant-loop-line l = l.ends.items ≡ l.fn.ends.items ++ flat_map (line_end l.fn.nodes) (take l.line-index l.fn.lines)

@@ -1,5 +1,0 @@
-use Rattle.audited_ports.proofs.AuditedLemmas.{each_port_is_audited}
-use Rattle.audited_ports.proofs.laws.each_port_is_audited.Goals as goal
-
-pub returns : goal.returns
-returns c = each_port_is_audited

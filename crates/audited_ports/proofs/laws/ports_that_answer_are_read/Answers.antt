@@ -1,5 +1,0 @@
-use Rattle.audited_ports.proofs.AuditedLemmas.{ports_that_answer_are_read}
-use Rattle.audited_ports.proofs.laws.ports_that_answer_are_read.Goals as goal
-
-pub returns : goal.returns
-returns c = ports_that_answer_are_read

@@ -1,5 +1,0 @@
-use Rattle.audited_ports.proofs.WrongLemmas.{later_ports_are_audited}
-use Rattle.audited_ports.proofs.wrong_rules.later_ports_are_audited.Goals as goal
-
-pub returns : goal.returns
-returns c = later_ports_are_audited

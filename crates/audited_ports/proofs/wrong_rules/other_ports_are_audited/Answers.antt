@@ -1,5 +1,0 @@
-use Rattle.audited_ports.proofs.WrongLemmas.{other_ports_are_audited}
-use Rattle.audited_ports.proofs.wrong_rules.other_ports_are_audited.Goals as goal
-
-pub returns : goal.returns
-returns c = other_ports_are_audited

@@ -1,5 +1,0 @@
-use Rattle.audited_ports.proofs.WrongLemmas.{ports_are_audited_once}
-use Rattle.audited_ports.proofs.wrong_rules.ports_are_audited_once.Goals as goal
-
-pub returns : goal.returns
-returns c = ports_are_audited_once

@@ -1,5 +1,0 @@
-use Rattle.cable_load.proofs.ExampleLemmas.{fractions_are_rounded_down}
-use Rattle.cable_load.proofs.examples.fractions_are_rounded_down.Goals as goal
-
-pub returns : goal.returns
-returns c = fractions_are_rounded_down

@@ -1,5 +1,0 @@
-use Rattle.cable_load.proofs.ExampleLemmas.{ports_send_to_others}
-use Rattle.cable_load.proofs.examples.ports_send_to_others.Goals as goal
-
-pub returns : goal.returns
-returns c = ports_send_to_others

@@ -1,5 +1,0 @@
-use Rattle.cable_load.proofs.TextLemmas.{all_pairs_are_counted}
-use Rattle.cable_load.proofs.laws.all_pairs_are_counted.Goals as goal
-
-pub returns : goal.returns
-returns c = all_pairs_are_counted

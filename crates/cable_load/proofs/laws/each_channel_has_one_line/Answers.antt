@@ -1,5 +1,0 @@
-use Rattle.cable_load.proofs.LineLemmas.{each_channel_has_one_line}
-use Rattle.cable_load.proofs.laws.each_channel_has_one_line.Goals as goal
-
-pub returns : goal.returns
-returns c = each_channel_has_one_line

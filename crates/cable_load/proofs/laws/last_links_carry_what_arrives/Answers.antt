@@ -1,5 +1,0 @@
-use Rattle.cable_load.proofs.ArrivalLemmas.{last_links_carry_what_arrives}
-use Rattle.cable_load.proofs.laws.last_links_carry_what_arrives.Goals as goal
-
-pub returns : goal.returns
-returns c = last_links_carry_what_arrives

@@ -1,6 +1,0 @@
-use Rattle.std.proofs.Common.{◌≡◌, ◌++◌, flat_map, take}
-use Rattle.cable_load.specs.Text.{load_line}
-use Rattle.cable_load.proofs.texts.push_loads.Given as goal
-
-abbrev pub invariant-loop-one : goal.invariant-loop-one
-invariant-loop-one l = l.text.items ≡ l.fn.text.items ++ flat_map (load_line l.net) (take l.one-index l.all)

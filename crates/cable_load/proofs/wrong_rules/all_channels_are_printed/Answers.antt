@@ -1,5 +1,0 @@
-use Rattle.cable_load.proofs.WrongTextLemmas.{all_channels_are_printed}
-use Rattle.cable_load.proofs.wrong_rules.all_channels_are_printed.Goals as goal
-
-pub returns : goal.returns
-returns c = all_channels_are_printed

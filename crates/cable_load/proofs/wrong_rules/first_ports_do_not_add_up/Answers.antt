@@ -1,5 +1,0 @@
-use Rattle.cable_load.proofs.WrongLemmas.{first_ports_do_not_add_up}
-use Rattle.cable_load.proofs.wrong_rules.first_ports_do_not_add_up.Goals as goal
-
-pub returns : goal.returns
-returns c = first_ports_do_not_add_up

@@ -1,5 +1,0 @@
-use Rattle.cable_load.proofs.WrongLemmas.{last_links_count_too}
-use Rattle.cable_load.proofs.wrong_rules.last_links_count_too.Goals as goal
-
-pub returns : goal.returns
-returns c = last_links_count_too

@@ -1,5 +1,0 @@
-use Rattle.cable_load.proofs.WrongLemmas.{other_lids_count_too}
-use Rattle.cable_load.proofs.wrong_rules.other_lids_count_too.Goals as goal
-
-pub returns : goal.returns
-returns c = other_lids_count_too

@@ -1,5 +1,0 @@
-use Rattle.cable_load.proofs.WrongLemmas.{pairs_count_once}
-use Rattle.cable_load.proofs.wrong_rules.pairs_count_once.Goals as goal
-
-pub returns : goal.returns
-returns c = pairs_count_once

@@ -1,5 +1,0 @@
-use Rattle.cable_load.proofs.WrongLemmas.{silent_ports_do_not_count}
-use Rattle.cable_load.proofs.wrong_rules.silent_ports_do_not_count.Goals as goal
-
-pub returns : goal.returns
-returns c = silent_ports_do_not_count

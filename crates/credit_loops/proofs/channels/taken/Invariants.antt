@@ -1,5 +1,0 @@
-use Rattle.credit_loops.proofs.WaitLemmas.{AreTaken}
-use Rattle.credit_loops.proofs.channels.taken.Given as goal
-
-abbrev pub invariant-loop-course : goal.invariant-loop-course
-invariant-loop-course l = AreTaken l.net l.courses l.place l.course-index l.marks.items

@@ -1,5 +1,0 @@
-use Rattle.credit_loops.specs.Marks.{KeepsCycles}
-use Rattle.credit_loops.proofs.cycle.in_place.Given as goal
-
-abbrev pub invariant-loop : goal.invariant-loop
-invariant-loop l = KeepsCycles l.graph l.marks.items

@@ -1,5 +1,0 @@
-use Rattle.credit_loops.proofs.ChannelLawLemmas.{channels_are_reported}
-use Rattle.credit_loops.proofs.laws.channels_are_reported.Goals as goal
-
-pub returns : goal.returns
-returns c = channels_are_reported

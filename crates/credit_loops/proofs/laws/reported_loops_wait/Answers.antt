@@ -1,5 +1,0 @@
-use Rattle.credit_loops.proofs.CycleLawLemmas.{reported_loops_wait}
-use Rattle.credit_loops.proofs.laws.reported_loops_wait.Goals as goal
-
-pub returns : goal.returns
-returns c = reported_loops_wait

@@ -1,5 +1,0 @@
-use Rattle.credit_loops.proofs.WrongLemmas.{marked_entries_count}
-use Rattle.credit_loops.proofs.wrong_rules.marked_entries_count.Goals as goal
-
-pub returns : goal.returns
-returns c = marked_entries_count

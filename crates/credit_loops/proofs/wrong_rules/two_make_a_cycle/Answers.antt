@@ -1,5 +1,0 @@
-use Rattle.credit_loops.proofs.WrongLemmas.{two_make_a_cycle}
-use Rattle.credit_loops.proofs.wrong_rules.two_make_a_cycle.Goals as goal
-
-pub returns : goal.returns
-returns c = two_make_a_cycle

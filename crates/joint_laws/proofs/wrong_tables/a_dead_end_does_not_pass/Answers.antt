@@ -1,0 +1,5 @@
+use Rattle.joint_laws.proofs.WrongTableLemmas.{a_dead_end_does_not_pass}
+use Rattle.joint_laws.proofs.wrong_tables.a_dead_end_does_not_pass.Goals as goal
+
+pub returns : goal.returns
+returns c = a_dead_end_does_not_pass

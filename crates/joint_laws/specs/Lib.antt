@@ -1,0 +1,13 @@
+pub mod Shown
+pub mod OwnTables
+pub mod RouteLaws
+pub mod WrongTables
+pub mod Alike
+pub mod Held
+pub mod LoadLaws
+pub mod LoadWrongRules
+pub mod Steps
+pub mod TraceLaws
+pub mod TraceWrongRules
+pub mod LineLaws
+pub mod LineWrongRules

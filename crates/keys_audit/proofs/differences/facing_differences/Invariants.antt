@@ -1,7 +1,0 @@
-use Rattle.std.proofs.Common.{◌≡◌, take}
-use Rattle.std.specs.List.{flat_map}
-use Rattle.keys_audit.specs.Differences.{facing_differences}
-use Rattle.keys_audit.proofs.differences.facing_differences.Given as goal
-
-abbrev pub invariant-loop-port : goal.invariant-loop-port
-invariant-loop-port l = l.list.items ≡ flat_map facing_differences (take l.port-index l.fn.ports)

@@ -1,5 +1,0 @@
-use Rattle.keys_audit.proofs.PairLemmas.{pairs_of_the_file_are_its}
-use Rattle.keys_audit.proofs.laws.pairs_of_the_file_are_its.Goals as goal
-
-pub returns : goal.returns
-returns c = pairs_of_the_file_are_its

@@ -1,5 +1,0 @@
-use Rattle.keys_audit.proofs.LawLemmas.{the_right_ports_pass}
-use Rattle.keys_audit.proofs.laws.the_right_ports_pass.Goals as goal
-
-pub returns : goal.returns
-returns c = the_right_ports_pass

@@ -1,5 +1,0 @@
-use Rattle.keys_audit.proofs.LawLemmas.{the_status_is_that_of_each_port}
-use Rattle.keys_audit.proofs.laws.the_status_is_that_of_each_port.Goals as goal
-
-pub returns : goal.returns
-returns c = the_status_is_that_of_each_port

@@ -1,5 +1,0 @@
-use Rattle.keys_audit.proofs.VerdictLemmas.{the_verdict_is_true}
-use Rattle.keys_audit.proofs.laws.the_verdict_is_true.Goals as goal
-
-pub returns : goal.returns
-returns c = the_verdict_is_true

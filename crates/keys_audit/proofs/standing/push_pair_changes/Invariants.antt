@@ -1,7 +1,0 @@
-use Rattle.std.proofs.Common.{◌≡◌, ◌++◌, take}
-use Rattle.std.specs.List.{flat_map}
-use Rattle.keys_audit.specs.Standing.{pairs_at}
-use Rattle.keys_audit.proofs.standing.push_pair_changes.Given as goal
-
-abbrev pub invariant-loop-base : goal.invariant-loop-base
-invariant-loop-base l = l.text.items ≡ l.fn.text.items ++ flat_map (pairs_at l.fn.listing.nodes.now l.fn.listing.all l.fn.ports) (take l.base-index l.fn.bases)

@@ -1,7 +1,0 @@
-use Rattle.std.proofs.Common.{◌≡◌, ◌++◌, take}
-use Rattle.std.specs.List.{flat_map}
-use Rattle.keys_audit.specs.Text.{difference_line}
-use Rattle.keys_audit.proofs.text.push_differences.Given as goal
-
-abbrev pub invariant-loop-difference : goal.invariant-loop-difference
-invariant-loop-difference l = l.text.items ≡ l.fn.text.items ++ flat_map (difference_line l.fn.nodes) (take l.difference-index l.fn.list)

@@ -1,5 +1,0 @@
-use Rattle.keys_audit.proofs.WrongLemmas.{gaps_do_not_end_the_table}
-use Rattle.keys_audit.proofs.wrong_rules.gaps_do_not_end_the_table.Goals as goal
-
-pub returns : goal.returns
-returns c = gaps_do_not_end_the_table

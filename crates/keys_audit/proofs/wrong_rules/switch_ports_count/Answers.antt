@@ -1,5 +1,0 @@
-use Rattle.keys_audit.proofs.WrongLemmas.{switch_ports_count}
-use Rattle.keys_audit.proofs.wrong_rules.switch_ports_count.Goals as goal
-
-pub returns : goal.returns
-returns c = switch_ports_count

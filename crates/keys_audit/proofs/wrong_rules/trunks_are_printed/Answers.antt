@@ -1,5 +1,0 @@
-use Rattle.keys_audit.proofs.WrongPrintLemmas.{trunks_are_printed}
-use Rattle.keys_audit.proofs.wrong_rules.trunks_are_printed.Goals as goal
-
-pub returns : goal.returns
-returns c = trunks_are_printed

@@ -1,5 +1,0 @@
-use Rattle.keys_audit.proofs.WrongPrintLemmas.{unread_ports_are_printed}
-use Rattle.keys_audit.proofs.wrong_rules.unread_ports_are_printed.Goals as goal
-
-pub returns : goal.returns
-returns c = unread_ports_are_printed

@@ -1,5 +1,0 @@
-use Rattle.keys_audit.proofs.WrongLemmas.{unread_switch_ports_do_not_pass}
-use Rattle.keys_audit.proofs.wrong_rules.unread_switch_ports_do_not_pass.Goals as goal
-
-pub returns : goal.returns
-returns c = unread_switch_ports_do_not_pass

@@ -1,7 +1,0 @@
-use Rattle.std.proofs.Common.{◌≡◌, ◌++◌, map}
-use Rattle.std.specs.List.{range_with_len}
-use Rattle.lane_audit.specs.Lanes.{lane}
-use Rattle.lane_audit.proofs.lane.push_lanes.Given as goal
-
-abbrev pub invariant-loop-vl : goal.invariant-loop-vl
-invariant-loop-vl l = l.lanes.items ≡ l.fn.lanes.items ++ map (lane l.at) (range_with_len 0 l.vl)

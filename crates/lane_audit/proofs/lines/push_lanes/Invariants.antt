@@ -1,6 +1,0 @@
-use Rattle.std.proofs.Common.{◌≡◌, ◌++◌, flat_map, take}
-use Rattle.lane_audit.specs.Lines.{lane_word}
-use Rattle.lane_audit.proofs.lines.push_lanes.Given as goal
-
-abbrev pub invariant-loop-lane : goal.invariant-loop-lane
-invariant-loop-lane l = l.text.items ≡ l.fn.text.items ++ flat_map (lane_word l.net) (take l.lane-index l.ring)

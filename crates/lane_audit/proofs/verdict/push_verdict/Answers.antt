@@ -1,7 +1,0 @@
-use Rattle.std.proofs.Common.{append_assoc}
-use Rattle.lane_audit.specs.Verdict.{all_verdict_line}
-use Rattle.lane_audit.proofs.verdict.push_verdict.Goals as goal
-
-pub returns : goal.returns
-unfolding all_verdict_line
-returns c = rw (c.in_ok-extend_from_slice-2.ensures.items, c.in_ok-push_words.ensures, c.in_ok-extend_from_slice.ensures.items, append_assoc, append_assoc)

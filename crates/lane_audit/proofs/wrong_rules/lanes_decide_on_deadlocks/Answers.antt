@@ -1,5 +1,0 @@
-use Rattle.lane_audit.proofs.WrongLemmas.{lanes_decide_on_deadlocks}
-use Rattle.lane_audit.proofs.wrong_rules.lanes_decide_on_deadlocks.Goals as goal
-
-pub returns : goal.returns
-returns c = lanes_decide_on_deadlocks

@@ -1,5 +1,0 @@
-use Rattle.lane_audit.proofs.WrongLemmas.{missing_rows_are_unknown}
-use Rattle.lane_audit.proofs.wrong_rules.missing_rows_are_unknown.Goals as goal
-
-pub returns : goal.returns
-returns c = missing_rows_are_unknown

@@ -1,5 +1,0 @@
-use Rattle.lane_audit.proofs.WrongLemmas.{one_round_is_not_enough}
-use Rattle.lane_audit.proofs.wrong_rules.one_round_is_not_enough.Goals as goal
-
-pub returns : goal.returns
-returns c = one_round_is_not_enough

@@ -1,5 +1,0 @@
-use Rattle.lane_audit.proofs.PrintedLemmas.{routes_are_printed_too}
-use Rattle.lane_audit.proofs.wrong_rules.routes_are_printed_too.Goals as goal
-
-pub returns : goal.returns
-returns c = routes_are_printed_too

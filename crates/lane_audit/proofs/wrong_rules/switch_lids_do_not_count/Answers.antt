@@ -1,5 +1,0 @@
-use Rattle.lane_audit.proofs.WrongLemmas.{switch_lids_do_not_count}
-use Rattle.lane_audit.proofs.wrong_rules.switch_lids_do_not_count.Goals as goal
-
-pub returns : goal.returns
-returns c = switch_lids_do_not_count

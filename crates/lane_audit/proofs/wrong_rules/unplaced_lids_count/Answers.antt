@@ -1,5 +1,0 @@
-use Rattle.lane_audit.proofs.WrongLemmas.{unplaced_lids_count}
-use Rattle.lane_audit.proofs.wrong_rules.unplaced_lids_count.Goals as goal
-
-pub returns : goal.returns
-returns c = unplaced_lids_count

@@ -1,5 +1,0 @@
-use Rattle.lid_owners.proofs.KindLemmas.{AreOthersBy}
-use Rattle.lid_owners.proofs.kinds.other_kinds.Given as goal
-
-abbrev pub invariant-loop-place : goal.invariant-loop-place
-invariant-loop-place l = AreOthersBy l.net l.of_switch l.place-index l.marks.items

@@ -1,6 +1,0 @@
-use Rattle.lid_owners.specs.Lids.{is_known_lid}
-use Rattle.lid_owners.proofs.LidLemmas.{aims_more}
-use Rattle.lid_owners.proofs.lid_index.LidIndex.aims_below.Goals as goal
-
-pub loop-lid-preserved : goal.loop-lid-preserved
-loop-lid-preserved c = aims_more c.args.self.now (is_known_lid c.args.self.now) c.loop-lid.lid c.loop-lid.aims.items c.push_aim.new.aims.items c.loop-lid.invariant c.in_ok-push_aim.ensures

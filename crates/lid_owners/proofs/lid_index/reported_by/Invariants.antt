@@ -1,7 +1,0 @@
-use Rattle.std.proofs.Common.{drop}
-use Rattle.dump_file.specs.Table.{rows_of}
-use Rattle.lid_owners.specs.LidIndex.{KnowsReported}
-use Rattle.lid_owners.proofs.lid_index.reported_by.Given as goal
-
-abbrev pub invariant-loop-index : goal.invariant-loop-index
-invariant-loop-index l = KnowsReported l.reported (rows_of l.dump.tables) (drop l.index l.lids)

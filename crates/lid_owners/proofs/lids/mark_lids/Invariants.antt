@@ -1,5 +1,0 @@
-use Rattle.lid_owners.proofs.LidLemmas.{AreMarked}
-use Rattle.lid_owners.proofs.lids.mark_lids.Given as goal
-
-abbrev pub invariant-loop-row : goal.invariant-loop-row
-invariant-loop-row l = AreMarked l.fn.marks l.rows l.row-index l.marks

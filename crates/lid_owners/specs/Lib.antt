@@ -1,6 +1,0 @@
-pub mod Lids
-pub mod Kinds
-pub mod LidIndex
-pub mod Laws
-pub mod WrongRules
-pub mod Examples

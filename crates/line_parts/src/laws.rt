@@ -1,8 +1,0 @@
-//! What lines look like, whole. The function does nothing: its clause says so.
-
-ghost use Rattle.line_parts.specs.Whole.{LinesAreWhole};
-
-/// Each form of a line, once as a whole text.
-pub fn lines_are_whole()
-    ensures { LinesAreWhole }
-{}

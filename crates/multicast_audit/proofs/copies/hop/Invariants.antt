@@ -1,6 +1,0 @@
-use Rattle.std.proofs.Common.{◌≡◌, flat_map, take}
-use Rattle.multicast_audit.specs.Copies.{next_outs}
-use Rattle.multicast_audit.proofs.copies.hop.Given as goal
-
-abbrev pub invariant-loop-at : goal.invariant-loop-at
-invariant-loop-at l = l.next.items ≡ flat_map (next_outs l.net l.masks) (take l.at-index l.front)

@@ -1,5 +1,0 @@
-use Rattle.audit_net.proofs.MarkLemmas.{marked_more}
-use Rattle.multicast_audit.proofs.copies.meet.Goals as goal
-
-pub returns-clause-marked : goal.returns-clause-marked
-returns-clause-marked c other = marked_more c.args.met.now c.args.place other c.requires

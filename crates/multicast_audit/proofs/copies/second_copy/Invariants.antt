@@ -1,5 +1,0 @@
-use Rattle.multicast_audit.proofs.MeetLemmas.{IsFollowed}
-use Rattle.multicast_audit.proofs.copies.second_copy.Given as goal
-
-abbrev pub invariant-loop : goal.invariant-loop
-invariant-loop l = IsFollowed l.net l.masks l.place l.counter l.met.items l.front.items

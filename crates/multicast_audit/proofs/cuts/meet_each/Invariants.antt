@@ -1,6 +1,0 @@
-use Rattle.std.proofs.Common.{◌==◌}
-use Rattle.multicast_audit.proofs.MarkLemmas.{AreMarkedOf}
-use Rattle.multicast_audit.proofs.cuts.meet_each.Given as goal
-
-abbrev pub invariant-loop-place : goal.invariant-loop-place
-invariant-loop-place l = AreMarkedOf (λ place other. place == other) l.fn.met l.places l.place-index l.met

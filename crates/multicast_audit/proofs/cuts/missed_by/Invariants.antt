@@ -1,6 +1,0 @@
-use Rattle.std.proofs.Common.{◌≡◌, flat_map, take}
-use Rattle.multicast_audit.specs.Spreading.{unless_met}
-use Rattle.multicast_audit.proofs.cuts.missed_by.Given as goal
-
-abbrev pub invariant-loop-there : goal.invariant-loop-there
-invariant-loop-there l = l.missed.items ≡ flat_map (unless_met l.net l.masks l.met) (take l.there-index l.places)

@@ -1,5 +1,0 @@
-use Rattle.multicast_audit.proofs.MulticastExampleLemmas.{multicast_lines_are_reported}
-use Rattle.multicast_audit.proofs.examples.multicast_lines_are_reported.Goals as goal
-
-pub returns : goal.returns
-returns c = multicast_lines_are_reported

@@ -1,5 +1,0 @@
-use Rattle.multicast_audit.proofs.AllReasonLemmas.{all_reasons_are_named}
-use Rattle.multicast_audit.proofs.laws.all_reasons_are_named.Goals as goal
-
-pub returns : goal.returns
-returns c = all_reasons_are_named

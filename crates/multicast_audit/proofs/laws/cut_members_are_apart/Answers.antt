@@ -1,5 +1,0 @@
-use Rattle.multicast_audit.proofs.CutLawLemmas.{cut_members_are_apart}
-use Rattle.multicast_audit.proofs.laws.cut_members_are_apart.Goals as goal
-
-pub returns : goal.returns
-returns c = cut_members_are_apart

@@ -1,5 +1,0 @@
-use Rattle.multicast_audit.proofs.LoopLawLemmas.{mask_loops_go_round}
-use Rattle.multicast_audit.proofs.laws.mask_loops_go_round.Goals as goal
-
-pub returns : goal.returns
-returns c = mask_loops_go_round

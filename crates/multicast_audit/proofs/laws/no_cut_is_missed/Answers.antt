@@ -1,5 +1,0 @@
-use Rattle.multicast_audit.proofs.CutLawLemmas.{no_cut_is_missed}
-use Rattle.multicast_audit.proofs.laws.no_cut_is_missed.Goals as goal
-
-pub returns : goal.returns
-returns c = no_cut_is_missed

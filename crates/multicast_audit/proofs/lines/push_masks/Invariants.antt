@@ -1,7 +1,0 @@
-use Rattle.std.proofs.Common.{◌≡◌, ◌++◌, flat_map, take}
-use Rattle.topo_file.specs.Connectivity.{switches}
-use Rattle.multicast_audit.specs.Lines.{mask_lines_at}
-use Rattle.multicast_audit.proofs.lines.push_masks.Given as goal
-
-abbrev pub invariant-loop-place : goal.invariant-loop-place
-invariant-loop-place l = l.text.items ≡ l.fn.text.items ++ flat_map (mask_lines_at l.net l.mfts.tables) (take l.place-index (switches l.net.plan.nodes))

@@ -1,7 +1,0 @@
-use Rattle.std.proofs.Common.{append_assoc}
-use Rattle.multicast_audit.specs.Lines.{mlids_words}
-use Rattle.multicast_audit.proofs.lines.push_mlids_words.Goals as goal
-
-pub returns : goal.returns
-unfolding mlids_words
-returns c = rw (c.in_ok-extend_from_slice-2.ensures.items, c.in_ok-push_decimal.ensures, c.in_ok-extend_from_slice.ensures.items, append_assoc, append_assoc)

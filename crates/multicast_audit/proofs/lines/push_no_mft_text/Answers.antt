@@ -1,7 +1,0 @@
-use Rattle.std.proofs.Common.{append_assoc}
-use Rattle.multicast_audit.specs.Lines.{no_mft_text}
-use Rattle.multicast_audit.proofs.lines.push_no_mft_text.Goals as goal
-
-pub returns : goal.returns
-unfolding no_mft_text
-returns c = rw (c.in_ok-push.ensures.items, c.in_ok-push_name.ensures, c.in_ok-extend_from_slice.ensures.items, append_assoc, append_assoc)

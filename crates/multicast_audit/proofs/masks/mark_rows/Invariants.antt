@@ -1,6 +1,0 @@
-use Rattle.std.proofs.Common.{◌==◌}
-use Rattle.multicast_audit.proofs.MarkLemmas.{AreMarkedOf}
-use Rattle.multicast_audit.proofs.masks.mark_rows.Given as goal
-
-abbrev pub invariant-loop-row : goal.invariant-loop-row
-invariant-loop-row l = AreMarkedOf (λ row mlid. row.mlid == mlid) l.fn.marks l.table.rows l.row-index l.marks

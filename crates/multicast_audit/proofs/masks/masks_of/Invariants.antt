@@ -1,6 +1,0 @@
-use Rattle.std.proofs.Common.{◌≡◌, map, take}
-use Rattle.multicast_audit.specs.Masks.{mask_of}
-use Rattle.multicast_audit.proofs.masks.masks_of.Given as goal
-
-abbrev pub invariant-loop-node : goal.invariant-loop-node
-invariant-loop-node l = l.masks.items ≡ map (mask_of l.mfts.tables l.mlid) (take l.node-index l.net.plan.nodes)

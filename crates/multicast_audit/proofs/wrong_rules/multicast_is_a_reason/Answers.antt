@@ -1,5 +1,0 @@
-use Rattle.multicast_audit.proofs.WrongMaskLemmas.{multicast_is_a_reason}
-use Rattle.multicast_audit.proofs.wrong_rules.multicast_is_a_reason.Goals as goal
-
-pub returns : goal.returns
-returns c = multicast_is_a_reason

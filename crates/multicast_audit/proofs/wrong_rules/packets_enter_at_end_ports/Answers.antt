@@ -1,5 +1,0 @@
-use Rattle.multicast_audit.proofs.WrongMaskLemmas.{packets_enter_at_end_ports}
-use Rattle.multicast_audit.proofs.wrong_rules.packets_enter_at_end_ports.Goals as goal
-
-pub returns : goal.returns
-returns c = packets_enter_at_end_ports

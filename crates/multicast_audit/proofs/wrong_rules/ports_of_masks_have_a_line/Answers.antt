@@ -1,5 +1,0 @@
-use Rattle.multicast_audit.proofs.PrintedLemmas.{ports_of_masks_have_a_line}
-use Rattle.multicast_audit.proofs.wrong_rules.ports_of_masks_have_a_line.Goals as goal
-
-pub returns : goal.returns
-returns c = ports_of_masks_have_a_line

@@ -1,5 +1,0 @@
-use Rattle.own_route_laws.proofs.DumpLemmas.{a_dump_shows_what_is_held}
-use Rattle.own_route_laws.proofs.laws.a_dump_shows_what_is_held.Goals as goal
-
-pub returns : goal.returns
-returns c = a_dump_shows_what_is_held

@@ -1,5 +1,0 @@
-use Rattle.own_route_laws.proofs.SafeLemmas.{routes_are_safe_with_cables_down}
-use Rattle.own_route_laws.proofs.laws.routes_are_safe_with_cables_down.Goals as goal
-
-pub returns : goal.returns
-returns c = routes_are_safe_with_cables_down

@@ -1,5 +1,0 @@
-use Rattle.own_route_laws.proofs.WrongLemmas.{a_dead_end_does_not_pass}
-use Rattle.own_route_laws.proofs.wrong_tables.a_dead_end_does_not_pass.Goals as goal
-
-pub returns : goal.returns
-returns c = a_dead_end_does_not_pass

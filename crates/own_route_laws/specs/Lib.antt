@@ -1,4 +1,0 @@
-pub mod Shown
-pub mod OwnTables
-pub mod Laws
-pub mod WrongTables

@@ -1,4 +1,0 @@
-pub mod TwoLemmas
-mod CountLemmas
-pub mod LawLemmas
-pub mod WrongLemmas

@@ -1,8 +1,0 @@
-use Rattle.partition_changes.proofs.ChangeLemmas.{one_more}
-use Rattle.partition_changes.specs.Found.{partition_text}
-use Rattle.partition_changes.proofs.headings.push_partitions.Goals as goal
-
-pub loop-base-preserved : goal.loop-base-preserved
-loop-base-preserved c =
-    rw (c.in_ok-push_partition.ensures, c.loop-base.invariant)
-    (one_more (partition_text c.args.before.now c.args.after.now) c.args.bases.now c.loop-base.base-index 0 c.args.text.now.items c.loop-base-test.true)

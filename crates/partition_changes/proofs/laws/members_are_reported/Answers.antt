@@ -1,5 +1,0 @@
-use Rattle.partition_changes.proofs.MemberLemmas.{members_are_reported}
-use Rattle.partition_changes.proofs.laws.members_are_reported.Goals as goal
-
-pub returns : goal.returns
-returns c = members_are_reported

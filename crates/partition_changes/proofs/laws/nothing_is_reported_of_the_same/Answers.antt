@@ -1,5 +1,0 @@
-use Rattle.partition_changes.proofs.SameLemmas.{nothing_is_reported_of_the_same}
-use Rattle.partition_changes.proofs.laws.nothing_is_reported_of_the_same.Goals as goal
-
-pub returns : goal.returns
-returns c = nothing_is_reported_of_the_same

@@ -1,5 +1,0 @@
-use Rattle.partition_changes.proofs.ShownLemmas.{same_is_what_is_compared}
-use Rattle.partition_changes.proofs.laws.same_is_what_is_compared.Goals as goal
-
-pub returns : goal.returns
-returns c = same_is_what_is_compared

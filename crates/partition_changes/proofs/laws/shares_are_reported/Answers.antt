@@ -1,5 +1,0 @@
-use Rattle.partition_changes.proofs.ShareReportedLemmas.{shares_are_reported}
-use Rattle.partition_changes.proofs.laws.shares_are_reported.Goals as goal
-
-pub returns : goal.returns
-returns c = shares_are_reported

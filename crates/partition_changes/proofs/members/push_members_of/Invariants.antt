@@ -1,7 +1,0 @@
-use Rattle.std.proofs.Common.{◌≡◌, ◌++◌, take}
-use Rattle.std.specs.List.{flat_map}
-use Rattle.partition_changes.specs.Found.{member_text}
-use Rattle.partition_changes.proofs.members.push_members_of.Given as goal
-
-abbrev pub invariant-loop-port : goal.invariant-loop-port
-invariant-loop-port l = l.text.items ≡ l.fn.text.items ++ flat_map (member_text l.fn.base) (take l.port-index l.fn.ports)

@@ -1,7 +1,0 @@
-use Rattle.std.proofs.Common.{◌≡◌, ◌++◌, take}
-use Rattle.std.specs.List.{flat_map}
-use Rattle.partition_changes.specs.Found.{pair_text}
-use Rattle.partition_changes.proofs.shares.push_others.Given as goal
-
-abbrev pub invariant-loop-other : goal.invariant-loop-other
-invariant-loop-other l = l.text.items ≡ l.fn.text.items ++ flat_map (pair_text l.fn.port) (take l.other-index l.fn.others)

@@ -1,0 +1,7 @@
+use Rattle.std.proofs.Common.{◌≡◌, ◌++◌, take}
+use Rattle.std.specs.List.{flat_map}
+use Rattle.partition_reports.specs.FoundChanges.{partition_text}
+use Rattle.partition_reports.proofs.headings.push_partitions.Given as goal
+
+abbrev pub invariant-loop-base : goal.invariant-loop-base
+invariant-loop-base l = l.text.items ≡ l.fn.text.items ++ flat_map (partition_text l.fn.before l.fn.after) (take l.base-index l.fn.bases)

@@ -1,4 +1,0 @@
-pub mod BaseLemmas
-pub mod NearLemmas
-pub mod ShareLemmas
-pub mod SumLemmas

@@ -1,8 +1,0 @@
-use Rattle.std.proofs.Common.{◌≡◌, ◌++◌, take}
-use Rattle.std.specs.List.{flat_map}
-use Rattle.port_shares.specs.Found.{asked_text}
-use Rattle.port_shares.proofs.shares.push_others.Given as goal
-
-abbrev pub invariant-loop-other : goal.invariant-loop-other
-invariant-loop-other l =
-    l.text.items ≡ l.fn.text.items ++ flat_map (asked_text l.fn.asked l.fn.port) (take l.other-index l.fn.others)

@@ -1,9 +1,0 @@
-use Rattle.std.proofs.Common.{refl}
-use Rattle.port_shares.proofs.SumLemmas.{no_more_full, pairs_are_counted}
-use Rattle.port_shares.proofs.sums.sum_of.Goals as goal
-
-pub pair_count-requires-clause-full : goal.pair_count-requires-clause-full
-pair_count-requires-clause-full c = rw (c.member_count-members.ensures, c.full_count-full.ensures) (no_more_full c.args.base c.args.ports.now)
-
-pub returns : goal.returns
-returns c = rw (c.pair_count.ensures, c.member_count-members.ensures, c.full_count-full.ensures, pairs_are_counted c.args.base c.args.ports.now c.requires.base) refl

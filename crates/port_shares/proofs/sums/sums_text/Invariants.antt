@@ -1,6 +1,0 @@
-use Rattle.std.proofs.Common.{◌≡◌, take}
-use Rattle.port_shares.specs.Sums.{sums_text}
-use Rattle.port_shares.proofs.sums.sums_text.Given as goal
-
-abbrev pub invariant-loop-heading : goal.invariant-loop-heading
-invariant-loop-heading l = l.text.items ≡ sums_text (take l.heading-index l.headings) l.ports

@@ -1,5 +1,0 @@
-pub mod Shares
-pub mod Found
-pub mod Sums
-pub mod Pairs
-pub mod Laws

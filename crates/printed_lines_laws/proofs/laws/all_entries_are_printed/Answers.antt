@@ -1,5 +1,0 @@
-use Rattle.printed_lines_laws.proofs.CutLemmas.{all_entries_are_printed}
-use Rattle.printed_lines_laws.proofs.laws.all_entries_are_printed.Goals as goal
-
-pub returns : goal.returns
-returns c = all_entries_are_printed

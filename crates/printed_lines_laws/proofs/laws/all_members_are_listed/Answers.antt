@@ -1,5 +1,0 @@
-use Rattle.printed_lines_laws.proofs.ListingLemmas.{all_members_are_listed}
-use Rattle.printed_lines_laws.proofs.laws.all_members_are_listed.Goals as goal
-
-pub returns : goal.returns
-returns c = all_members_are_listed

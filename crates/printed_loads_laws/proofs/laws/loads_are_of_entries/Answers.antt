@@ -1,5 +1,0 @@
-use Rattle.printed_loads_laws.proofs.AlikeLemmas.{loads_are_of_entries}
-use Rattle.printed_loads_laws.proofs.laws.loads_are_of_entries.Goals as goal
-
-pub returns : goal.returns
-returns c = loads_are_of_entries

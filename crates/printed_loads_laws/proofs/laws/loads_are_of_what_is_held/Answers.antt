@@ -1,5 +1,0 @@
-use Rattle.printed_loads_laws.proofs.OwnRowLemmas.{loads_are_of_what_is_held}
-use Rattle.printed_loads_laws.proofs.laws.loads_are_of_what_is_held.Goals as goal
-
-pub returns : goal.returns
-returns c = loads_are_of_what_is_held

@@ -1,5 +1,0 @@
-use Rattle.printed_loads_laws.proofs.FormLemmas.{no_link_is_left_out}
-use Rattle.printed_loads_laws.proofs.laws.no_link_is_left_out.Goals as goal
-
-pub returns : goal.returns
-returns c = no_link_is_left_out

@@ -1,5 +1,0 @@
-use Rattle.printed_loads_laws.proofs.OwnRowLemmas.{own_rows_show_all}
-use Rattle.printed_loads_laws.proofs.laws.own_rows_show_all.Goals as goal
-
-pub returns : goal.returns
-returns c = own_rows_show_all

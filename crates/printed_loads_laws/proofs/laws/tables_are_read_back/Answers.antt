@@ -1,5 +1,0 @@
-use Rattle.printed_loads_laws.proofs.FormLemmas.{tables_are_read_back}
-use Rattle.printed_loads_laws.proofs.laws.tables_are_read_back.Goals as goal
-
-pub returns : goal.returns
-returns c = tables_are_read_back

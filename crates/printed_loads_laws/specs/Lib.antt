@@ -1,4 +1,0 @@
-pub mod Alike
-pub mod Held
-pub mod Laws
-pub mod WrongRules

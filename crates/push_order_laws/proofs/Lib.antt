@@ -1,3 +1,0 @@
-pub mod PortLemmas
-pub mod HopLemmas
-pub mod PushLemmas

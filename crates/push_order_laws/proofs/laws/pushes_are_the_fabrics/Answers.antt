@@ -1,8 +1,0 @@
-use Rattle.push_order_laws.proofs.PushLemmas.{masks_are_the_fabrics, pushes_are_the_fabrics}
-use Rattle.push_order_laws.proofs.laws.pushes_are_the_fabrics.Goals as goal
-
-pub returns-clause-all : goal.returns-clause-all
-returns-clause-all c = pushes_are_the_fabrics
-
-pub returns-clause-masks : goal.returns-clause-masks
-returns-clause-masks c = masks_are_the_fabrics

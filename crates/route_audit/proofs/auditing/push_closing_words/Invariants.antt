@@ -1,7 +1,0 @@
-use Rattle.std.proofs.Common.{◌≡◌, ◌++◌, flat_map}
-use Rattle.std.specs.List.{range_with_len}
-use Rattle.route_audit.specs.Audit.{closing_word}
-use Rattle.route_audit.proofs.auditing.push_closing_words.Given as goal
-
-abbrev pub invariant-loop-index : goal.invariant-loop-index
-invariant-loop-index l = l.text.items ≡ l.fn.text.items ++ flat_map (closing_word l.net l.decides l.aims l.ring) (range_with_len 0 l.index)

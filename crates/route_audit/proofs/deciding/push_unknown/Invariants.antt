@@ -1,6 +1,0 @@
-use Rattle.std.proofs.Common.{◌≡◌, ◌++◌, flat_map, take}
-use Rattle.route_audit.specs.Deciding.{unknown_line}
-use Rattle.route_audit.proofs.deciding.push_unknown.Given as goal
-
-abbrev pub invariant-loop-aim : goal.invariant-loop-aim
-invariant-loop-aim l = l.text.items ≡ l.fn.text.items ++ flat_map (unknown_line l.net) (take l.aim-index l.aims)

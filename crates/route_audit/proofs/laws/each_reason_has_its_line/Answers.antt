@@ -1,5 +1,0 @@
-use Rattle.route_audit.proofs.EachReasonLemmas.{each_reason_has_its_line}
-use Rattle.route_audit.proofs.laws.each_reason_has_its_line.Goals as goal
-
-pub returns : goal.returns
-returns c = each_reason_has_its_line

@@ -1,5 +1,0 @@
-use Rattle.route_audit.proofs.TroubleLemmas.{each_trouble_has_a_line}
-use Rattle.route_audit.proofs.laws.each_trouble_has_a_line.Goals as goal
-
-pub returns : goal.returns
-returns c = each_trouble_has_a_line

@@ -1,5 +1,0 @@
-use Rattle.route_audit.proofs.ClosingLemmas.{loops_are_closed_by_their_lids}
-use Rattle.route_audit.proofs.laws.loops_are_closed_by_their_lids.Goals as goal
-
-pub returns : goal.returns
-returns c = loops_are_closed_by_their_lids

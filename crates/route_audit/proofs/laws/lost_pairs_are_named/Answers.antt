@@ -1,5 +1,0 @@
-use Rattle.route_audit.proofs.DecidingLemmas.{lost_pairs_are_named}
-use Rattle.route_audit.proofs.laws.lost_pairs_are_named.Goals as goal
-
-pub returns : goal.returns
-returns c = lost_pairs_are_named

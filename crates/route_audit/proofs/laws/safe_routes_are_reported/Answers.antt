@@ -1,5 +1,0 @@
-use Rattle.route_audit.proofs.ReportedLemmas.{safe_routes_are_reported}
-use Rattle.route_audit.proofs.laws.safe_routes_are_reported.Goals as goal
-
-pub returns : goal.returns
-returns c = safe_routes_are_reported

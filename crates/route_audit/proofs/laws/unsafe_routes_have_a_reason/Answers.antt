@@ -1,5 +1,0 @@
-use Rattle.route_audit.proofs.ReasonLemmas.{unsafe_routes_have_a_reason}
-use Rattle.route_audit.proofs.laws.unsafe_routes_have_a_reason.Goals as goal
-
-pub returns : goal.returns
-returns c = unsafe_routes_have_a_reason

@@ -1,6 +1,0 @@
-use Rattle.std.proofs.Common.{◌≡◌, ◌++◌, flat_map, take}
-use Rattle.route_audit.specs.Lines.{no_port_line}
-use Rattle.route_audit.proofs.lines.push_no_ports.Given as goal
-
-abbrev pub invariant-loop-aim : goal.invariant-loop-aim
-invariant-loop-aim l = l.text.items ≡ l.fn.text.items ++ flat_map no_port_line (take l.aim-index l.aims)

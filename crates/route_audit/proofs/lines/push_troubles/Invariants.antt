@@ -1,7 +1,0 @@
-use Rattle.std.proofs.Common.{◌≡◌, ◌++◌, flat_map, take}
-use Rattle.topo_file.specs.Connectivity.{switches}
-use Rattle.route_audit.specs.Lines.{troubles_at}
-use Rattle.route_audit.proofs.lines.push_troubles.Given as goal
-
-abbrev pub invariant-loop-place : goal.invariant-loop-place
-invariant-loop-place l = l.text.items ≡ l.fn.text.items ++ flat_map (troubles_at l.net l.aims) (take l.place-index (switches l.net.plan.nodes))

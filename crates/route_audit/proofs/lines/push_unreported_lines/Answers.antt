@@ -1,6 +1,0 @@
-use Rattle.std.proofs.Common.{ℕ, List, ◌++◌, ap, ◌∙◌}
-use Rattle.route_audit.proofs.LineLemmas.{all_unreported}
-use Rattle.route_audit.proofs.lines.push_unreported_lines.Goals as goal
-
-pub returns : goal.returns
-returns c = c.in_ok-push_unreported_below.ensures ∙ ap (λ (more : List ℕ). c.args.text.now.items ++ more) (all_unreported c.args.net.now c.args.aims.now)

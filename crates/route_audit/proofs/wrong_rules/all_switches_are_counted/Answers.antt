@@ -1,5 +1,0 @@
-use Rattle.route_audit.proofs.WrongLineLemmas.{all_switches_are_counted}
-use Rattle.route_audit.proofs.wrong_rules.all_switches_are_counted.Goals as goal
-
-pub returns : goal.returns
-returns c = all_switches_are_counted

@@ -1,5 +1,0 @@
-use Rattle.route_audit.proofs.WrongLemmas.{closing_lids_count_there}
-use Rattle.route_audit.proofs.wrong_rules.closing_lids_count_there.Goals as goal
-
-pub returns : goal.returns
-returns c = closing_lids_count_there

@@ -1,5 +1,0 @@
-use Rattle.route_audit.proofs.WrongLemmas.{credit_loops_are_apart}
-use Rattle.route_audit.proofs.wrong_rules.credit_loops_are_apart.Goals as goal
-
-pub returns : goal.returns
-returns c = credit_loops_are_apart

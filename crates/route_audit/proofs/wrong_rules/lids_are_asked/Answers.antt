@@ -1,5 +1,0 @@
-use Rattle.route_audit.proofs.WrongLemmas.{lids_are_asked}
-use Rattle.route_audit.proofs.wrong_rules.lids_are_asked.Goals as goal
-
-pub returns : goal.returns
-returns c = lids_are_asked

@@ -1,5 +1,0 @@
-use Rattle.route_audit.proofs.WrongLemmas.{lids_go_on_round}
-use Rattle.route_audit.proofs.wrong_rules.lids_go_on_round.Goals as goal
-
-pub returns : goal.returns
-returns c = lids_go_on_round

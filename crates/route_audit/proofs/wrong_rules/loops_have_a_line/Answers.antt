@@ -1,5 +1,0 @@
-use Rattle.route_audit.proofs.WrongLemmas.{loops_have_a_line}
-use Rattle.route_audit.proofs.wrong_rules.loops_have_a_line.Goals as goal
-
-pub returns : goal.returns
-returns c = loops_have_a_line

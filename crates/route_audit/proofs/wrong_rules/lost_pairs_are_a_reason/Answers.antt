@@ -1,5 +1,0 @@
-use Rattle.route_audit.proofs.WrongLemmas.{lost_pairs_are_a_reason}
-use Rattle.route_audit.proofs.wrong_rules.lost_pairs_are_a_reason.Goals as goal
-
-pub returns : goal.returns
-returns c = lost_pairs_are_a_reason

@@ -1,5 +1,0 @@
-use Rattle.route_audit.proofs.WrongLineLemmas.{lost_pairs_have_a_line}
-use Rattle.route_audit.proofs.wrong_rules.lost_pairs_have_a_line.Goals as goal
-
-pub returns : goal.returns
-returns c = lost_pairs_have_a_line

@@ -1,5 +1,0 @@
-use Rattle.route_audit.proofs.WrongLemmas.{other_lids_decide}
-use Rattle.route_audit.proofs.wrong_rules.other_lids_decide.Goals as goal
-
-pub returns : goal.returns
-returns c = other_lids_decide

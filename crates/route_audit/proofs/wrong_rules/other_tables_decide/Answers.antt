@@ -1,5 +1,0 @@
-use Rattle.route_audit.proofs.WrongLemmas.{other_tables_decide}
-use Rattle.route_audit.proofs.wrong_rules.other_tables_decide.Goals as goal
-
-pub returns : goal.returns
-returns c = other_tables_decide

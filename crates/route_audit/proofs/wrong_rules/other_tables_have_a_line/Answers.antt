@@ -1,5 +1,0 @@
-use Rattle.route_audit.proofs.PrintedLemmas.{other_tables_have_a_line}
-use Rattle.route_audit.proofs.wrong_rules.other_tables_have_a_line.Goals as goal
-
-pub returns : goal.returns
-returns c = other_tables_have_a_line

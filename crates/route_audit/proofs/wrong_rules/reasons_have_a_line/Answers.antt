@@ -1,5 +1,0 @@
-use Rattle.route_audit.proofs.WrongLineLemmas.{reasons_have_a_line}
-use Rattle.route_audit.proofs.wrong_rules.reasons_have_a_line.Goals as goal
-
-pub returns : goal.returns
-returns c = reasons_have_a_line

@@ -1,5 +1,0 @@
-use Rattle.route_audit.proofs.WrongLemmas.{rows_left_out_have_a_line}
-use Rattle.route_audit.proofs.wrong_rules.rows_left_out_have_a_line.Goals as goal
-
-pub returns : goal.returns
-returns c = rows_left_out_have_a_line

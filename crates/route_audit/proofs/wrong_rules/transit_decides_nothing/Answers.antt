@@ -1,5 +1,0 @@
-use Rattle.route_audit.proofs.WrongLemmas.{transit_decides_nothing}
-use Rattle.route_audit.proofs.wrong_rules.transit_decides_nothing.Goals as goal
-
-pub returns : goal.returns
-returns c = transit_decides_nothing

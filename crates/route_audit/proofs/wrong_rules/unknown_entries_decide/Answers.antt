@@ -1,5 +1,0 @@
-use Rattle.route_audit.proofs.WrongLemmas.{unknown_entries_decide}
-use Rattle.route_audit.proofs.wrong_rules.unknown_entries_decide.Goals as goal
-
-pub returns : goal.returns
-returns c = unknown_entries_decide

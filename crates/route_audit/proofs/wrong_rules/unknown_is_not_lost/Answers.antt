@@ -1,5 +1,0 @@
-use Rattle.route_audit.proofs.WrongLineLemmas.{unknown_is_not_lost}
-use Rattle.route_audit.proofs.wrong_rules.unknown_is_not_lost.Goals as goal
-
-pub returns : goal.returns
-returns c = unknown_is_not_lost

@@ -1,4 +1,0 @@
-pub mod AlikeLemmas
-pub mod OfFabricLemmas
-pub mod ChoiceLemmas
-pub mod TreeLemmas

@@ -1,3 +1,0 @@
-pub mod Alike
-pub mod NextHops
-pub mod Laws

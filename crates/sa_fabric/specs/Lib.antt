@@ -1,3 +1,0 @@
-pub mod MlidRanges
-pub mod Served
-pub mod Laws

@@ -1,5 +1,0 @@
-use Rattle.sa_groups.proofs.SightLemmas.{far_leave}
-use Rattle.sa_groups.proofs.laws.far_leaves_are_not_seen.Goals as goal
-
-pub returns : goal.returns
-returns c = far_leave

@@ -1,5 +1,0 @@
-use Rattle.sa_groups.proofs.JoinSightLemmas.{near_join}
-use Rattle.sa_groups.proofs.laws.near_joins_are_seen_alike.Goals as goal
-
-pub returns : goal.returns
-returns c = near_join

@@ -1,5 +1,0 @@
-use Rattle.sa_groups.proofs.ReceiverLemmas.{receivers_stand_in_order}
-use Rattle.sa_groups.proofs.laws.receivers_stand_in_order.Goals as goal
-
-pub returns : goal.returns
-returns c = receivers_stand_in_order

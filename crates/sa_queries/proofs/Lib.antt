@@ -1,9 +1,0 @@
-pub mod NearLemmas
-pub mod VisibleLemmas
-pub mod OrderLemmas
-pub mod QueryLemmas
-pub mod SourceLemmas
-pub mod ShareLemmas
-pub mod WrongLemmas
-pub mod WrongPairLemmas
-pub mod ExampleLemmas

@@ -1,5 +1,0 @@
-use Rattle.sa_queries.proofs.QueryLemmas.{answers_from_near}
-use Rattle.sa_queries.proofs.laws.answers_come_from_near.Goals as goal
-
-pub returns : goal.returns
-returns c = answers_from_near

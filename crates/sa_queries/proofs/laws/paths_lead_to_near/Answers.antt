@@ -1,5 +1,0 @@
-use Rattle.sa_queries.proofs.NearLemmas.{paths_lead_to_near}
-use Rattle.sa_queries.proofs.laws.paths_lead_to_near.Goals as goal
-
-pub returns : goal.returns
-returns c = paths_lead_to_near

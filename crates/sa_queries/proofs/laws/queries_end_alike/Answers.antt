@@ -1,5 +1,0 @@
-use Rattle.sa_queries.proofs.QueryLemmas.{queries_end_alike}
-use Rattle.sa_queries.proofs.laws.queries_end_alike.Goals as goal
-
-pub returns : goal.returns
-returns c = queries_end_alike

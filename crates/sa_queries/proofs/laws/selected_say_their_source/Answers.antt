@@ -1,5 +1,0 @@
-use Rattle.sa_queries.proofs.SourceLemmas.{selected_say_their_source}
-use Rattle.sa_queries.proofs.laws.selected_say_their_source.Goals as goal
-
-pub returns : goal.returns
-returns c = selected_say_their_source

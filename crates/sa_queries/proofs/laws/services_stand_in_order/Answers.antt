@@ -1,5 +1,0 @@
-use Rattle.sa_queries.proofs.OrderLemmas.{services_stand_in_order}
-use Rattle.sa_queries.proofs.laws.services_stand_in_order.Goals as goal
-
-pub returns : goal.returns
-returns c = services_stand_in_order

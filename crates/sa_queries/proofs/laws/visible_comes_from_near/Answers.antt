@@ -1,5 +1,0 @@
-use Rattle.sa_queries.proofs.NearLemmas.{visible_from_near}
-use Rattle.sa_queries.proofs.laws.visible_comes_from_near.Goals as goal
-
-pub returns : goal.returns
-returns c = visible_from_near

@@ -1,5 +1,0 @@
-use Rattle.sa_queries.proofs.OrderLemmas.{stands_in_order}
-use Rattle.sa_queries.proofs.laws.visible_stands_in_order.Goals as goal
-
-pub returns : goal.returns
-returns c = stands_in_order

@@ -1,5 +1,0 @@
-use Rattle.sa_request_laws.proofs.WrongRefusalLemmas.{joins_are_compared_by_life_time}
-use Rattle.sa_request_laws.proofs.wrong_rules.joins_are_compared_by_life_time.Goals as goal
-
-pub returns : goal.returns
-returns c = joins_are_compared_by_life_time

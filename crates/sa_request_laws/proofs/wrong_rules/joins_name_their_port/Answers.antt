@@ -1,5 +1,0 @@
-use Rattle.sa_request_laws.proofs.WrongRefusalLemmas.{joins_name_their_port}
-use Rattle.sa_request_laws.proofs.wrong_rules.joins_name_their_port.Goals as goal
-
-pub returns : goal.returns
-returns c = joins_name_their_port

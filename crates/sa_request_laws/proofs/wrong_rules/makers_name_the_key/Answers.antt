@@ -1,5 +1,0 @@
-use Rattle.sa_request_laws.proofs.WrongRefusalLemmas.{makers_name_the_key}
-use Rattle.sa_request_laws.proofs.wrong_rules.makers_name_the_key.Goals as goal
-
-pub returns : goal.returns
-returns c = makers_name_the_key

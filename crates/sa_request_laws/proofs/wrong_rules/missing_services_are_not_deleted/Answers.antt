@@ -1,5 +1,0 @@
-use Rattle.sa_request_laws.proofs.WrongRefusalLemmas.{missing_services_are_not_deleted}
-use Rattle.sa_request_laws.proofs.wrong_rules.missing_services_are_not_deleted.Goals as goal
-
-pub returns : goal.returns
-returns c = missing_services_are_not_deleted

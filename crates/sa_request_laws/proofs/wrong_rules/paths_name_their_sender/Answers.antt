@@ -1,5 +1,0 @@
-use Rattle.sa_request_laws.proofs.WrongRefusalLemmas.{paths_name_their_sender}
-use Rattle.sa_request_laws.proofs.wrong_rules.paths_name_their_sender.Goals as goal
-
-pub returns : goal.returns
-returns c = paths_name_their_sender

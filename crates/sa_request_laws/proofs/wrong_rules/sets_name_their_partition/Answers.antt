@@ -1,5 +1,0 @@
-use Rattle.sa_request_laws.proofs.WrongRefusalLemmas.{sets_name_their_partition}
-use Rattle.sa_request_laws.proofs.wrong_rules.sets_name_their_partition.Goals as goal
-
-pub returns : goal.returns
-returns c = sets_name_their_partition

@@ -1,5 +1,0 @@
-use Rattle.sa_request_laws.proofs.WrongRefusalLemmas.{several_are_too_many}
-use Rattle.sa_request_laws.proofs.wrong_rules.several_are_too_many.Goals as goal
-
-pub returns : goal.returns
-returns c = several_are_too_many

@@ -1,5 +1,0 @@
-use Rattle.sa_request_laws.proofs.WrongNameLemmas.{unnamed_hop_limits_are_zero}
-use Rattle.sa_request_laws.proofs.wrong_rules.unnamed_hop_limits_are_zero.Goals as goal
-
-pub returns : goal.returns
-returns c = unnamed_hop_limits_are_zero

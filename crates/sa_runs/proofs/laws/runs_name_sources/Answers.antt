@@ -1,5 +1,0 @@
-use Rattle.sa_runs.proofs.NamedRunLemmas.{runs_name_sources}
-use Rattle.sa_runs.proofs.laws.runs_name_sources.Goals as goal
-
-pub returns : goal.returns
-returns c = runs_name_sources

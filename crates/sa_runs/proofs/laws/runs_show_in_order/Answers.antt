@@ -1,5 +1,0 @@
-use Rattle.sa_runs.proofs.TableLemmas.{runs_show_in_order}
-use Rattle.sa_runs.proofs.laws.runs_show_in_order.Goals as goal
-
-pub returns : goal.returns
-returns c = runs_show_in_order

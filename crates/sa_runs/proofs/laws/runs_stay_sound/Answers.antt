@@ -1,5 +1,0 @@
-use Rattle.sa_runs.proofs.ApartLemmas.{runs_stay_sound}
-use Rattle.sa_runs.proofs.laws.runs_stay_sound.Goals as goal
-
-pub returns : goal.returns
-returns c = runs_stay_sound

@@ -1,5 +1,0 @@
-use Rattle.sa_runs.proofs.InCommonLemmas.{sight_shows_all}
-use Rattle.sa_runs.proofs.laws.sight_shows_all.Goals as goal
-
-pub returns : goal.returns
-returns c = sight_shows_all

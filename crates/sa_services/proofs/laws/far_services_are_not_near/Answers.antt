@@ -1,5 +1,0 @@
-use Rattle.sa_services.proofs.ServiceLemmas.{far_not_near}
-use Rattle.sa_services.proofs.laws.far_services_are_not_near.Goals as goal
-
-pub returns : goal.returns
-returns c = far_not_near

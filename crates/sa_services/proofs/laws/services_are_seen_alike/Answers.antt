@@ -1,5 +1,0 @@
-use Rattle.sa_services.proofs.ServiceLemmas.{shown_place, stays_alike}
-use Rattle.sa_services.proofs.laws.services_are_seen_alike.Goals as goal
-
-pub returns : goal.returns
-returns c = stays_alike shown_place

@@ -1,5 +1,0 @@
-use Rattle.sa_services.proofs.ServiceLemmas.{services_depend}
-use Rattle.sa_services.proofs.laws.services_depend_on_near.Goals as goal
-
-pub returns : goal.returns
-returns c = services_depend

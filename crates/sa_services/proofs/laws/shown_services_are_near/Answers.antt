@@ -1,5 +1,0 @@
-use Rattle.sa_services.proofs.ServiceLemmas.{shown_of_near}
-use Rattle.sa_services.proofs.laws.shown_services_are_near.Goals as goal
-
-pub returns : goal.returns
-returns c = shown_of_near

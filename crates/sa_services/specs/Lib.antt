@@ -1,9 +1,0 @@
-pub mod KeyOrder
-pub mod Services
-pub mod ServiceChange
-pub mod ServiceSight
-pub mod ServiceSound
-pub mod ServiceLaws
-pub mod WrongRules
-pub mod Examples
-pub mod ExampleLaws

@@ -1,5 +1,0 @@
-use Rattle.subnet_ports.proofs.FabricPortLemmas.{end_ports_are_the_fabrics}
-use Rattle.subnet_ports.proofs.laws.end_ports_are_the_fabrics.Goals as goal
-
-pub returns : goal.returns
-returns c = end_ports_are_the_fabrics

@@ -1,5 +1,0 @@
-use Rattle.subnet_ports.proofs.GraphPortLemmas.{sweeps_find_what_is_listed}
-use Rattle.subnet_ports.proofs.laws.sweeps_find_what_is_listed.Goals as goal
-
-pub returns : goal.returns
-returns c = sweeps_find_what_is_listed

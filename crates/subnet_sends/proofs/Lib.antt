@@ -1,4 +1,0 @@
-pub mod ListLemmas
-pub mod WayLemmas
-pub mod SendLemmas
-pub mod ReplyLemmas

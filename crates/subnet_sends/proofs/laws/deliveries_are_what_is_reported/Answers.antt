@@ -1,5 +1,0 @@
-use Rattle.subnet_sends.proofs.WayLemmas.{deliveries_are_what_is_reported}
-use Rattle.subnet_sends.proofs.laws.deliveries_are_what_is_reported.Goals as goal
-
-pub returns : goal.returns
-returns c = deliveries_are_what_is_reported

@@ -1,5 +1,0 @@
-use Rattle.subnet_sends.proofs.ReplyLemmas.{requests_come_to_the_manager}
-use Rattle.subnet_sends.proofs.laws.requests_come_to_the_manager.Goals as goal
-
-pub returns : goal.returns
-returns c = requests_come_to_the_manager

@@ -1,6 +1,0 @@
-use Rattle.std.proofs.Common.{take}
-use Rattle.subnet_sends.specs.Replies.{ComeOfReplies}
-use Rattle.subnet_sends.proofs.replying.reply.Given as goal
-
-abbrev pub invariant-loop-mad : goal.invariant-loop-mad
-invariant-loop-mad l = ComeOfReplies l.fabric l.request l.key (take l.mad-index l.mads) l.events.items

@@ -1,4 +1,0 @@
-pub mod OfFabric
-pub mod Laws
-pub mod Sends
-pub mod Replies

@@ -1,8 +1,0 @@
-//! What parts look like, whole. The function does nothing: its clause says so.
-
-ghost use Rattle.text_parts.specs.Whole.{PartsAreWhole};
-
-/// Each part of a text, once as a whole.
-pub fn parts_are_whole()
-    ensures { PartsAreWhole }
-{}

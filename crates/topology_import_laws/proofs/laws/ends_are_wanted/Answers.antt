@@ -1,5 +1,0 @@
-use Rattle.topology_import_laws.proofs.WrongLemmas.{ends_are_wanted}
-use Rattle.topology_import_laws.proofs.laws.ends_are_wanted.Goals as goal
-
-pub returns : goal.returns
-returns c = ends_are_wanted

@@ -1,5 +1,0 @@
-use Rattle.topology_import_laws.proofs.WrongLemmas.{lines_are_wanted}
-use Rattle.topology_import_laws.proofs.laws.lines_are_wanted.Goals as goal
-
-pub returns : goal.returns
-returns c = lines_are_wanted

@@ -1,5 +1,0 @@
-use Rattle.topology_import_laws.proofs.WrongLemmas.{no_roots_are_wanted}
-use Rattle.topology_import_laws.proofs.laws.no_roots_are_wanted.Goals as goal
-
-pub returns : goal.returns
-returns c = no_roots_are_wanted

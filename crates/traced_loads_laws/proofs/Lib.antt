@@ -1,3 +1,0 @@
-pub mod FollowingLemmas
-pub mod OwnLemmas
-pub mod WrongLemmas

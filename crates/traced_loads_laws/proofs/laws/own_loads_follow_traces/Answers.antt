@@ -1,5 +1,0 @@
-use Rattle.traced_loads_laws.proofs.OwnLemmas.{own_loads_follow_traces}
-use Rattle.traced_loads_laws.proofs.laws.own_loads_follow_traces.Goals as goal
-
-pub returns : goal.returns
-returns c = own_loads_follow_traces
