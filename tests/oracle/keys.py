@@ -270,12 +270,14 @@ class Audit:
                     yield from (f"trunk {name}/{number} lacks 0x{one:04x}" for one in self.bases if one not in map(base, table))
 
     def wide(self, read):
-        """The partitions in which the file lets at least half of the pairs of ports talk that were read."""
+        """The partitions in which the file lets at least half of the pairs of ports talk that were read, the greatest first: eight."""
         pairs = list(itertools.combinations([self.given[end.guid] for end, _ in read], 2))
-        for wanted in sorted(self.bases):
-            count = sum(talk(wanted, one, other) for one, other in pairs)
-            if count and 2 * count >= len(pairs):
-                yield f"by the file: {count} of {len(pairs)} pairs may talk in 0x{wanted:04x}"
+        counts = {wanted: sum(talk(wanted, one, other) for one, other in pairs) for wanted in self.bases}
+        wide = sorted((wanted for wanted, count in counts.items() if count and 2 * count >= len(pairs)), key=lambda wanted: (-counts[wanted], wanted))
+        for wanted in wide[:8]:
+            yield f"by the file: {counts[wanted]} of {len(pairs)} pairs may talk in 0x{wanted:04x}"
+        if wide[8:]:
+            yield f"# in {len(wide) - 8} more partitions the file lets at least half of all pairs talk"
 
     def diagnosis(self, read, alone):
         lines = []
