@@ -1,5 +1,6 @@
 -- If an error of clap may have the kind of the version, it can have no other.
 use Rattle.std.proofs.Common.{ℕ, ◌≡◌, ◌∙◌, ◌||◌, ◌&&◌, Bool, true, false, not, List, [], ◌∷◌, Option, Some, None, ap, inl, inr, refl, sym, if◌then◌else◌, zero, suc}
+use Rattle.std.proofs.lemmas.Bool.{not-true}
 use Rattle.std.specs.List.{list_any}
 use Rattle.std.specs.Option.{option_map_or}
 use Rattle.std.specs.Prelude.{◌+◌, ◌==◌, codes, drop, encode_utf8, find, is_some, length, min, nat_lt, slice_get}
@@ -34,10 +35,6 @@ pub record IsApart (kinds : Kinds) : Type 0 where
   pub is : is_apart kinds ≡ true
 
 -- ---- then the first of the kinds decides
-is_no : (b : Bool) → not b ≡ true → b ≡ false
-is_no true e = sym e
-is_no false e = refl
-
 left_is_no : (a b : Bool) → a || b ≡ false → a ≡ false
 left_is_no true b e = e
 left_is_no false b e = refl
@@ -56,7 +53,7 @@ pub first_decides : (first : ErrorKind) (kinds : Kinds) (kind : ErrorKind) → I
 first_decides first [] kind apart (inl is) = sym (ap is_version is)
 first_decides first [] kind apart (inr among) = absurd among
 first_decides first (other ∷ kinds) kind apart among =
-    let e = is_no (list_any is_version (first ∷ other ∷ kinds)) apart.is in
+    let e = not-true (list_any is_version (first ∷ other ∷ kinds)) apart.is in
     left_is_no (is_version first) _ e ∙ sym (none_among (first ∷ other ∷ kinds) kind e among)
 
 -- ---- of parts
