@@ -29,7 +29,7 @@ class Bench:
 
     def __init__(self, topology, partitions, program=PROGRAM, script=None, record=None, show=False, repairs=None, messages=None):
         self.folder = pathlib.Path(tempfile.mkdtemp(prefix="live."))
-        self.bridge = None
+        self.bridge, self.is_ready = None, False
         try:
             self.compile()
             call = [sys.executable, "-B", str(HERE / "bridge.py"), str(program), str(topology), str(partitions), str(self.folder)]
@@ -39,6 +39,7 @@ class Bench:
             self.bridge = subprocess.Popen(call + ["--show"] * show, start_new_session=True, **ends)
             if self.bridge.stdout.readline() != b"ready\n":
                 raise Failed("the bridge did not start")
+            self.is_ready = True
         except BaseException:
             self.close()
             raise
@@ -65,6 +66,8 @@ class Bench:
         """Ends the fabric. The last line of the bridge, and whether all went well."""
         last, is_well = "", False
         if self.bridge:
+            if not self.is_ready:
+                self.bridge.kill()
             try:
                 out, _ = self.bridge.communicate(timeout=ENDING)
                 last = (out.decode().splitlines() or [""])[-1]

@@ -15,6 +15,7 @@ It prints `ready`, ends at the end of its standard input, and prints as its last
 """
 import argparse
 import collections
+import contextlib
 import errno
 import fcntl
 import heapq
@@ -23,6 +24,7 @@ import itertools
 import os
 import pathlib
 import selectors
+import shutil
 import socket
 import struct
 import subprocess
@@ -47,7 +49,16 @@ class Failed(Exception):
 
 
 def say(text):
-    print(f"live: {text}", file=sys.stderr, flush=True)
+    with contextlib.suppress(OSError):  # the terminal may be closed
+        print(f"live: {text}", file=sys.stderr, flush=True)
+
+
+def tell(text):
+    """Prints a line for who started the bridge; it may have ended."""
+    try:
+        print(text, flush=True)
+    except BrokenPipeError:
+        os.dup2(os.open(os.devnull, os.O_WRONLY), 1)
 
 
 class Port:
@@ -534,7 +545,7 @@ class Bridge:
             self.turn(0.01)
         if self.is_over or time.monotonic() >= end:
             return False
-        print("ready", flush=True)
+        tell("ready")
         while not asked and not self.is_over:
             self.turn()
         lived = not self.is_over
@@ -559,7 +570,7 @@ class Bridge:
         self.manager.end()
         for file in [self.script] + self.records:
             file.close()
-        print(f"{self.checked} SA responses checked, {self.wrong} wrong", flush=True)
+        tell(f"{self.checked} SA responses checked, {self.wrong} wrong")
         return 0 if is_well and not self.wrong else 1
 
 
@@ -595,14 +606,27 @@ def main():
     parser.add_argument("--show", action="store_true")
     parser.add_argument("--repairs", help="a module that changes MADs on their way, as a test needs it")
     given = parser.parse_args()
-    script = pathlib.Path(given.script).read_bytes() if given.script else b""
-    repairs = module_of(given.repairs) if given.repairs else None
+    starter = os.getppid()
     try:
+        script = pathlib.Path(given.script).read_bytes() if given.script else b""
+        repairs = module_of(given.repairs) if given.repairs else None
         bridge = Bridge(given.PROGRAM, given.TOPO, given.PARTS, pathlib.Path(given.DIR), script, given.record, given.show, repairs)
-    except Failed as failed:
-        say(failed)
+    except (Failed, OSError) as error:
+        say(reason(error, given.DIR))
         return 1
-    return bridge.end(bridge.serve_until_end())
+    status = bridge.end(bridge.serve_until_end())
+    if os.getppid() != starter:
+        shutil.rmtree(given.DIR, ignore_errors=True)  # it was killed
+    return status
+
+
+def reason(error, folder):
+    """Why the bridge does not start, in words."""
+    if "AF_UNIX" in str(error):
+        return f"the names of sockets in {folder} are too long: let TMPDIR be a folder with a shorter name"
+    if isinstance(error, OSError) and error.filename:
+        return f"{error.filename}: {error.strerror}"
+    return error
 
 
 if __name__ == "__main__":

@@ -20,7 +20,7 @@ class Manager:
 
     def __init__(self, call, topology, partitions, script, names):
         self.call, self.files, self.script, self.lids = call, [topology, partitions], str(script), names
-        self.process, self.is_current = None, False
+        self.process, self.tables, self.is_current = None, None, False
         self.cables, self.sm, self.guids = {}, None, {}
         with open(topology, encoding="latin-1") as file:
             for words in (line.split("#")[0].split() for line in file):
@@ -31,20 +31,35 @@ class Manager:
                 elif words[:1] == ["switch"]:
                     self.guids[int(words[2], 0)] = words[1]
 
-    def make_ready(self):
-        """Brings the fabric up, unless it is as the session left it, and waits until it answers an SMP."""
-        if self.is_current and self.process:
-            return
-        self.end()
-        self.process = subprocess.Popen(self.call + ["smp"] + self.files + ["-", "--script", self.script], stdin=subprocess.PIPE, stdout=subprocess.PIPE)
-        self.routes, self.is_current = None, True
-        self.put(SM_NODE_INFO)
+    def make_ready(self, is_by_lid=True):
+        """Brings the fabric up, unless it is as the session left it, and waits until it answers an SMP; and until its LFTs are
+        read, if SMPs are to go by LID. A program that opens the device waits for that, and does not count it as a response's
+        time."""
+        if not (self.is_current and self.process):
+            self.end()
+            self.process = subprocess.Popen(self.call + ["smp"] + self.files + ["-", "--script", self.script], stdin=subprocess.PIPE, stdout=subprocess.PIPE)
+            self.routes, self.is_current = None, True
+            if is_by_lid:
+                self.begin_tables()
+            self.put(SM_NODE_INFO)
+        if is_by_lid and self.routes is None:
+            self.read_routes()
+
+    def begin_tables(self):
+        """Has the LFTs printed, while the fabric for SMPs is brought up."""
+        self.tables = subprocess.Popen(self.call + ["tables"] + self.files + [self.script], stdin=subprocess.DEVNULL, stdout=subprocess.PIPE, stderr=subprocess.DEVNULL)
 
     def read_routes(self):
         """The LFTs: of each switch the port for each LID."""
-        done = subprocess.run(self.call + ["tables"] + self.files + [self.script], capture_output=True, stdin=subprocess.DEVNULL, timeout=SECONDS, check=False)
+        if self.tables is None:
+            self.begin_tables()
+        try:
+            text, _ = self.tables.communicate(timeout=SECONDS)
+        except subprocess.TimeoutExpired:
+            text = b""
+        self.end_tables()
         self.routes, table = {}, {}
-        for words in (line.split() for line in done.stdout.decode().splitlines()):
+        for words in (line.split() for line in text.decode().splitlines()):
             if words[:2] == ["Unicast", "lids"]:
                 table = self.routes.setdefault(self.guids[int(words[-2], 16)], {})
             elif words[:2] == ["Multicast", "mlids"]:
@@ -52,7 +67,15 @@ class Manager:
             elif words[2:3] == [":"]:
                 table[int(words[0], 16)] = int(words[1])
 
+    def end_tables(self):
+        if self.tables:
+            self.tables.kill()
+            self.tables.wait()
+            self.tables.stdout.close()
+            self.tables = None
+
     def end(self):
+        self.end_tables()
         if self.process:
             self.process.kill()
             self.process.wait()
@@ -76,13 +99,11 @@ class Manager:
 
     def exchange(self, mad, lid):
         """The reply to an SMP that the SM port sends to this LID; none if there is none."""
-        self.make_ready()
+        self.make_ready(mad[1] == BY_LID)
         if mad[1] == DIRECTED:
             return self.put(mad)
         if mad[1] != BY_LID:
             return None
-        if self.routes is None:
-            self.read_routes()
         route = self.route(lid)
         if route is None:
             return None

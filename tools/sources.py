@@ -55,8 +55,10 @@ def end_hint(tried):
 
 
 def start_try(crate, words, output, top=TOP):
-    """Starts `rt try` with these words in the folder of the crate; what it prints goes to the file."""
-    tried = subprocess.Popen(["rt", "try", *words], cwd=top / "crates" / crate, stdin=subprocess.DEVNULL, stdout=output, stderr=output)
+    """Starts `rt try` with these words in the folder of the crate; what it prints goes to the file. A test has 300 seconds, not 60: the
+    machine may be slow, and busy with other tests."""
+    tried = subprocess.Popen(["rt", "try", *words], cwd=top / "crates" / crate, stdin=subprocess.DEVNULL, stdout=output, stderr=output,
+                             env={"RT_SECONDS": "300", **os.environ})
     end = time.monotonic() + 10
     while tried.poll() is None and time.monotonic() < end and not end_hint(tried):
         time.sleep(0.1)

@@ -1,7 +1,7 @@
 #!/usr/bin/env python3
 """Works out anew the LFTs of a topology, or its P_Key tables without a partition file:
-    tests/oracle/tables.py tables TOPOLOGY    prints what `fabric tables` does
-    tests/oracle/tables.py keys TOPOLOGY      prints what `fabric keys` does
+    tests/oracle/tables.py tables TOPOLOGY [--balanced]    prints what `fabric tables` does
+    tests/oracle/tables.py keys TOPOLOGY                   prints what `fabric keys` does
 Routes are found by a plain search over all switches for each target. Up is towards the lesser (rank, GUID).
 """
 import math
@@ -12,8 +12,8 @@ from topology import Topology  # noqa: E402
 
 
 class Fabric:
-    def __init__(self, topology):
-        self.topology = topology
+    def __init__(self, topology, balanced=False):
+        self.topology, self.balanced = topology, balanced
         self.guids, self.by_lid, self.far = topology.guids(), topology.by_lid(), topology.far()
         # of each switch the ports that lead to a switch, with that switch
         self.hops = {name: [] for name in topology.switches}
@@ -33,39 +33,48 @@ class Fabric:
             front = {other for name in front for _, other in self.hops[name] if rank[other] > distance}
         return rank
 
-    def routes(self):
-        """The port by which each switch sends to each: down if a path leads down all the way, else up to the neighbour whose own
-        route is shortest; of several ports the least."""
-        rank = self.ranks()
-        order = sorted(self.topology.switches, key=lambda name: (rank[name], self.topology.switches[name]))
-        height = {name: -place for place, name in enumerate(order)}
-        return {target: self.routes_to(target, order, height) for target in order}
+    def order(self, rank):
+        """The switches by rank and GUID."""
+        return sorted(self.topology.switches, key=lambda name: (rank[name], self.topology.switches[name]))
 
-    def routes_to(self, target, order, height):
-        ports, length = {target: 0}, dict.fromkeys(order, math.inf) | {target: 0}
+    def ties_to(self, target, order):
+        """Of each switch the ports, in order, that begin a shortest path to the target: down if one leads down all the way, else up
+        to a neighbour and then as that one sends."""
+        place = {name: number for number, name in enumerate(order)}
+        ties, length = {target: []}, {target: 0}
 
-        def look(name, is_next):
-            for port, other in self.hops[name]:
-                if is_next(other) and length[other] + 1 < length[name]:
-                    length[name], ports[name] = length[other] + 1, port
+        def look(name, nexts):
+            if nexts:
+                length[name] = 1 + min(length[other] for _, other in nexts)
+                ties[name] = [port for port, other in nexts if length[other] + 1 == length[name]]
 
         for name in reversed(order):
-            look(name, lambda other: height[other] < height[name])
-        down = set(ports)
+            if name != target:
+                look(name, [(port, other) for port, other in self.hops[name] if place[other] > place[name] and other in length])
+        down = set(length)
         for name in order:
             if name not in down:
-                look(name, lambda other: height[other] > height[name])
-        return ports
+                look(name, [(port, other) for port, other in self.hops[name] if place[other] < place[name] and other in length])
+        return ties
 
     def entries(self):
-        """The port of each entry that is not 255, by switch and LID."""
-        routes, found = self.routes(), {}
-        for lid, (name, port) in enumerate(self.by_lid, 1):
-            leaf, last = (name, 0) if port == 0 else self.far[name, port]
-            for switch in self.topology.switches:
-                entry = last if switch == leaf else routes[leaf].get(switch)
-                if entry is not None:
-                    found[switch, lid] = entry
+        """The port of each entry that is not 255, by switch and LID: the least tie; or, if routes are balanced, the one that the CA
+        ports before this one, the switch's place and its rank name."""
+        rank = self.ranks()
+        order = self.order(rank)
+        ties, place = {name: self.ties_to(name, order) for name in order}, {name: number for number, name in enumerate(order)}
+        homes = [(name, 0) if port == 0 else self.far[name, port] for name, port in self.by_lid]
+        found = {}
+        for lid, (leaf, last) in enumerate(homes, 1):
+            before = sum(port != 0 and (place[name], port) < (place[leaf], last) for name, port in homes)
+            for switch, ports in ties[leaf].items():
+                if switch == leaf:
+                    found[switch, lid] = last
+                elif self.balanced:
+                    rounds = before // len(ports)
+                    found[switch, lid] = ports[(before + rounds * (rank[switch] % len(ports) + 1) + place[switch]) % len(ports)]
+                else:
+                    found[switch, lid] = ports[0]
         return found
 
     def paths(self):
@@ -105,6 +114,6 @@ class Fabric:
 
 
 if __name__ == "__main__":
-    what, topology = sys.argv[1:]
-    fabric = Fabric(Topology(topology))
+    what, topology, *flags = sys.argv[1:]
+    fabric = Fabric(Topology(topology), flags == ["--balanced"])
     print("\n".join(fabric.keys() if what == "keys" else fabric.tables()))

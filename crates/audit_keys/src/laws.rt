@@ -14,14 +14,14 @@ pub fn the_status_is_that_of_each_port()
     ensures { TheStatusIsThatOfEachPort }
 {}
 
-/// The pairs by the tables alone are those of which both tables were read and have keys that match, and the keys of the file do
-/// not: of each two such ports, one behind the other, there is one pair, and no other.
+/// The pairs by the tables alone in a partition are those of which both tables were read and have keys that match in it, and the
+/// keys of the file do not: of each two such ports, one behind the other, there is one pair, and no other.
 pub fn pairs_of_tables_are_theirs()
     ensures { PairsOfTablesAreTheirs }
 {}
 
-/// The pairs by the file alone are those of which both tables were read and the file gives keys that match, and the keys of the
-/// tables do not: of each two such ports, one behind the other, there is one pair, and no other.
+/// The pairs by the file alone in a partition are those of which both tables were read and the file gives keys that match in it,
+/// and the keys of the tables do not: of each two such ports, one behind the other, there is one pair, and no other.
 pub fn pairs_of_the_file_are_its()
     ensures { PairsOfTheFileAreIts }
 {}

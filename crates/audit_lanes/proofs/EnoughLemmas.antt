@@ -15,7 +15,8 @@ use Rattle.audit_net.specs.declared.entry.Entry.{Entry}
 use Rattle.audit_net.specs.declared.entry.Entry.TheVariants.{Out, Missing, Unreported}
 use Rattle.audit_net.specs.Following.{switch_total}
 use Rattle.audit_net.specs.Net.{NetState, entry}
-use Rattle.audit_net.proofs.EndlessLemmas.{below_at, below_map, is_listed, map_alike, same_at}
+use Rattle.audit_net.proofs.EndlessLemmas.{below_at, below_map, map_alike, same_at}
+use Rattle.audit_plan.proofs.PlaceLemmas.{is_listed}
 use Rattle.audit_net.proofs.RoundLemmas.{AreGrowing, settled}
 use Rattle.audit_lanes.specs.declared.hop.Hop.{Hop}
 use Rattle.audit_lanes.specs.declared.hop.Step.{Step}

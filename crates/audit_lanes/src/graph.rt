@@ -93,7 +93,7 @@ fn groups(net: &Net<'_>, alloc: Global, all: &[Lane]) -> Result<Vec<Group>, Allo
     ensures { IfOk result (λ groups. groups.items ≡ all_groups net.now all.now) }
 {
     let mut groups = Vec::new(alloc);
-    for place in 0..net.nodes().len() {
+    for place in 0..net.plan().nodes().len() {
         let group = numbered_at(alloc, all, place)?;
         groups.push(Group::of(group))?;
     }
@@ -143,7 +143,7 @@ fn nexts(
     requires groups { groups.now ≡ all_groups waits.now.net all.now }
     ensures { IfOk result (λ places. places.items ≡ nexts (waits_by waits.now) all.now first) }
 {
-    let there = waits.net().far_end(first.at);
+    let there = waits.net().links().far_end(first.at);
     let places = nexts_among(waits, alloc, group_behind(groups, numbered, there), first)?;
     Ok(places)
 }

@@ -28,7 +28,7 @@ fn hop_by(tables: &Tables<'_>, sl: u8, at: PortRef, output: u8) -> Hop
 fn goes_on(net: &Net<'_>, hop: Hop, there: PortRef) -> bool
     ensures { result ≡ goes_on net.now hop there }
 {
-    net.is_switch_at(there.node) && !hop.is_dropped()
+    net.plan().is_switch_at(there.node) && !hop.is_dropped()
 }
 
 /// The hop, and where it leads, unless its port has no cable.
@@ -50,7 +50,7 @@ fn step_out(net: &Net<'_>, tables: &Tables<'_>, sl: u8, at: PortRef, number: u8)
     if number == 0 {
         return None;
     }
-    let there = net.far_end(PortRef {
+    let there = net.links().far_end(PortRef {
         node: at.node,
         port: number,
     });
@@ -117,7 +117,7 @@ fn hops_from(
     ensures { IfOk result (λ hops. hops.items ≡ hops_from net.now tables.now path at) }
 {
     match at {
-        Some(at) if net.is_switch_at(at.node) => hops_within(alloc, net, tables, path, at),
+        Some(at) if net.plan().is_switch_at(at.node) => hops_within(alloc, net, tables, path, at),
         _ => Ok(Vec::new(alloc)),
     }
 }
@@ -127,7 +127,7 @@ fn entrance(net: &Net<'_>, tables: &Tables<'_>, source: u16) -> Option<PortRef>
     ensures { result ≡ option_and_then (far_end net.now.plan.cables) (others_end net.now tables.now.aims source) }
 {
     let end = tables.others_end(net, source)?;
-    net.far_end(end)
+    net.links().far_end(end)
 }
 
 fn hops_of(

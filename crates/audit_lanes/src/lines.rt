@@ -2,8 +2,6 @@
 
 ghost use Rattle.std.specs.Prelude.{◌≡◌, ◌++◌, ◌<◌, IfOk, OnOk, count_by, flat_map, option_map};
 ghost use Rattle.std.specs.List.{range_with_len};
-ghost use Rattle.audit_lanes.specs.Hops.{is_dropped_at, is_dropped_by, lacks_row_at, some_hop};
-ghost use Rattle.audit_lanes.specs.Keys.{KnowsDropped, KnowsDroppedSls, KnowsLacking};
 ghost use Rattle.audit_lanes.specs.Lines.{count_line, crossing_lines, crossing_text, crossings, crossings_at, crossings_by, dropped_line, dropped_lines, dropped_text};
 ghost use Rattle.audit_lanes.specs.Lines.{freed_line, judged_line, lane_word, more_words, no_path_by, no_path_line, no_path_lines, no_path_text, no_row_line, no_row_text};
 ghost use Rattle.audit_lanes.specs.Lines.{number_word, number_words, numbers_words, owned_text, pairs_words, recorded_words, ring_line, ring_text};
@@ -12,11 +10,10 @@ use crate::hop::{Crossing, DroppedAt, Trace};
 use crate::lane::Lane;
 use crate::owned::{OwnedLid, known_records, owned};
 use crate::records::lacking_from;
-use crate::troubles::{known_dropped, known_dropped_sls, known_lacking};
+use crate::troubles::Troubles;
 use audit_net::{Aim, Net};
 use audit_plan::ports_at;
 use audit_routes::{push_lid, push_name, push_port};
-use indexmap::IndexSet;
 use sl2vl_file::PathSl;
 use std::alloc::{AllocError, Global};
 use text_words::push_decimal;
@@ -156,7 +153,7 @@ fn push_crossings_by(
     requires { input < 255 }
     ensures { OnOk result (crossings.new.items ≡ crossings.old.items ++ crossings_by net.now place input) }
 {
-    for before in 0..ports_at(net.nodes(), place) {
+    for before in 0..ports_at(net.plan().nodes(), place) {
         crossings.push(Crossing {
             place,
             input: input + 1,
@@ -173,7 +170,7 @@ fn push_crossings_at(
 ) -> Result<(), AllocError>
     ensures { OnOk result (crossings.new.items ≡ crossings.old.items ++ crossings_at net.now place) }
 {
-    for input in 0..ports_at(net.nodes(), place) {
+    for input in 0..ports_at(net.plan().nodes(), place) {
         push_crossings_by(net, crossings, place, input)?;
     }
     Ok(())
@@ -211,42 +208,30 @@ fn push_no_row_text(net: &Net<'_>, text: &mut Vec<u8>, here: Crossing) -> Result
     Ok(())
 }
 
-/// Whether no row is of these ports, though packets go so.
-fn lacks_row(known: &IndexSet<Crossing>, traces: &[Trace], here: Crossing) -> bool
-    requires { KnowsLacking known.now traces.now }
-    ensures { result ≡ some_hop (lacks_row_at here) traces.now }
-{
-    known.contains(&here)
-}
-
 fn push_no_row(
     net: &Net<'_>,
     text: &mut Vec<u8>,
-    known: &IndexSet<Crossing>,
-    traces: &[Trace],
+    troubles: &Troubles<'_>,
     here: Crossing,
 ) -> Result<(), AllocError>
-    requires { KnowsLacking known.now traces.now }
-    ensures { OnOk result (text.new.items ≡ text.old.items ++ no_row_line net.now traces.now here) }
+    ensures { OnOk result (text.new.items ≡ text.old.items ++ no_row_line net.now troubles.now here) }
 {
-    if lacks_row(known, traces, here) {
+    if troubles.lack_row(here) {
         return push_no_row_text(net, text, here);
     }
     Ok(())
 }
 
 fn push_no_rows(
-    alloc: Global,
     net: &Net<'_>,
     text: &mut Vec<u8>,
-    traces: &[Trace],
+    troubles: &Troubles<'_>,
     crossings: &[Crossing],
 ) -> Result<(), AllocError>
-    ensures { OnOk result (text.new.items ≡ text.old.items ++ flat_map (no_row_line net.now traces.now) crossings.now) }
+    ensures { OnOk result (text.new.items ≡ text.old.items ++ flat_map (no_row_line net.now troubles.now) crossings.now) }
 {
-    let known = known_lacking(alloc, traces)?;
     for here in crossings {
-        push_no_row(net, text, &known, traces, *here)?;
+        push_no_row(net, text, troubles, *here)?;
     }
     Ok(())
 }
@@ -268,25 +253,15 @@ fn push_dropped_text(
     Ok(())
 }
 
-/// Whether packets of this SL are dropped between these ports.
-fn drops_sl(known: &IndexSet<DroppedAt>, traces: &[Trace], one: DroppedAt) -> bool
-    requires { KnowsDroppedSls known.now traces.now }
-    ensures { result ≡ some_hop (is_dropped_by one.crossing one.sl) traces.now }
-{
-    known.contains(&one)
-}
-
 fn push_dropped(
     net: &Net<'_>,
     text: &mut Vec<u8>,
-    known: &IndexSet<DroppedAt>,
-    traces: &[Trace],
+    troubles: &Troubles<'_>,
     one: DroppedAt,
 ) -> Result<(), AllocError>
-    requires { KnowsDroppedSls known.now traces.now }
-    ensures { OnOk result (text.new.items ≡ text.old.items ++ dropped_line net.now traces.now one.crossing one.sl) }
+    ensures { OnOk result (text.new.items ≡ text.old.items ++ dropped_line net.now troubles.now one.crossing one.sl) }
 {
-    if drops_sl(known, traces, one) {
+    if troubles.drop_sl(one) {
         return push_dropped_text(net, text, one.crossing, one.sl);
     }
     Ok(())
@@ -295,74 +270,43 @@ fn push_dropped(
 fn push_dropped_sls(
     net: &Net<'_>,
     text: &mut Vec<u8>,
-    known: &IndexSet<DroppedAt>,
-    traces: &[Trace],
+    troubles: &Troubles<'_>,
     here: Crossing,
 ) -> Result<(), AllocError>
-    requires { KnowsDroppedSls known.now traces.now }
-    ensures { OnOk result (text.new.items ≡ text.old.items ++ flat_map (dropped_line net.now traces.now here) (range_with_len 0 16)) }
+    ensures { OnOk result (text.new.items ≡ text.old.items ++ flat_map (dropped_line net.now troubles.now here) (range_with_len 0 16)) }
 {
     for sl in 0..16u8 {
         let one = DroppedAt { crossing: here, sl };
-        push_dropped(net, text, known, traces, one)?;
+        push_dropped(net, text, troubles, one)?;
     }
     Ok(())
-}
-
-/// The hops that are dropped, by ports of switches, and by SLs too.
-#[derive(Drop)]
-struct DropSets {
-    crossings: IndexSet<Crossing>,
-    sls: IndexSet<DroppedAt>,
-}
-
-fn known_drops(alloc: Global, traces: &[Trace]) -> Result<DropSets, AllocError>
-    ensures crossings { IfOk result (λ drops. KnowsDropped drops.crossings traces.now) }
-    ensures sls { IfOk result (λ drops. KnowsDroppedSls drops.sls traces.now) }
-{
-    let crossings = known_dropped(alloc, traces)?;
-    let sls = known_dropped_sls(alloc, traces)?;
-    Ok(DropSets { crossings, sls })
-}
-
-/// Whether packets are dropped between these ports.
-fn drops_some(known: &IndexSet<Crossing>, traces: &[Trace], here: Crossing) -> bool
-    requires { KnowsDropped known.now traces.now }
-    ensures { result ≡ some_hop (is_dropped_at here) traces.now }
-{
-    known.contains(&here)
 }
 
 #[tactic(auto, unfolding(crate::specs::Lines::dropped_lines))]
 fn push_dropped_at(
     net: &Net<'_>,
     text: &mut Vec<u8>,
-    drops: &DropSets,
-    traces: &[Trace],
+    troubles: &Troubles<'_>,
     here: Crossing,
 ) -> Result<(), AllocError>
-    requires crossings { KnowsDropped drops.now.crossings traces.now }
-    requires sls { KnowsDroppedSls drops.now.sls traces.now }
-    ensures { OnOk result (text.new.items ≡ text.old.items ++ dropped_lines net.now traces.now here) }
+    ensures { OnOk result (text.new.items ≡ text.old.items ++ dropped_lines net.now troubles.now here) }
 {
-    if drops_some(&drops.crossings, traces, here) {
-        return push_dropped_sls(net, text, &drops.sls, traces, here);
+    if troubles.drop_some(here) {
+        return push_dropped_sls(net, text, troubles, here);
     }
     Ok(())
 }
 
 fn push_all_dropped(
-    alloc: Global,
     net: &Net<'_>,
     text: &mut Vec<u8>,
-    traces: &[Trace],
+    troubles: &Troubles<'_>,
     crossings: &[Crossing],
 ) -> Result<(), AllocError>
-    ensures { OnOk result (text.new.items ≡ text.old.items ++ flat_map (dropped_lines net.now traces.now) crossings.now) }
+    ensures { OnOk result (text.new.items ≡ text.old.items ++ flat_map (dropped_lines net.now troubles.now) crossings.now) }
 {
-    let drops = known_drops(alloc, traces)?;
     for here in crossings {
-        push_dropped_at(net, text, &drops, traces, *here)?;
+        push_dropped_at(net, text, troubles, *here)?;
     }
     Ok(())
 }
@@ -378,8 +322,9 @@ pub(crate) fn push_crossing_lines(
     ensures { OnOk result (text.new.items ≡ text.old.items ++ crossing_lines net.now traces.now) }
 {
     let crossings = crossings(net, alloc)?;
-    push_no_rows(alloc, net, text, traces, &crossings)?;
-    push_all_dropped(alloc, net, text, traces, &crossings)
+    let troubles = Troubles::of(alloc, traces)?;
+    push_no_rows(net, text, &troubles, &crossings)?;
+    push_all_dropped(net, text, &troubles, &crossings)
 }
 
 fn push_number(text: &mut Vec<u8>, number: u8) -> Result<(), AllocError>

@@ -30,7 +30,7 @@ fn push_owned(net: &Net<'_>, all: &mut Vec<OwnedLid>, aim: &Aim) -> Result<(), A
 {
     let aim = *aim;
     if let Some(end) = aim.end {
-        if !net.is_switch_at(end.node) {
+        if !net.plan().is_switch_at(end.node) {
             all.push(OwnedLid { lid: aim.lid, end })?;
         }
     }

@@ -170,7 +170,7 @@ impl<'a> Tables<'a> {
 fn if_others(net: &Net<'_>, end: PortRef) -> Option<PortRef>
     ensures { result ≡ if_others net.now end }
 {
-    if net.is_switch_at(end.node) {
+    if net.plan().is_switch_at(end.node) {
         None
     } else {
         Some(end)

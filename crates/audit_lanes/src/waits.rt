@@ -59,7 +59,7 @@ fn two_channels(net: &Net<'_>, lid: u16, place: usize) -> Option<ChannelPair>
         node: place,
         port: number,
     };
-    let there = net.far_end(first)?;
+    let there = net.links().far_end(first)?;
     match net.entry(lid, there.node) {
         Entry::Out(next) => Some(ChannelPair {
             first,
@@ -92,7 +92,7 @@ fn note_lid(known: &mut IndexSet<ChannelPair>, net: &Net<'_>, lid: u16) -> Resul
     ensures { OnOk result ((pair : ChannelPair) → contains is_same_channels known.new pair
         ≡ (contains is_same_channels known.old pair || lid_takes net.now pair lid)) }
 {
-    for place in 0..net.nodes().len() {
+    for place in 0..net.plan().nodes().len() {
         note_two(known, net, lid, place)?;
     }
     Ok(())
@@ -179,7 +179,7 @@ impl<'n, 'a> Waits<'n, 'a> {
     fn leads_to(&self, at: PortRef, place: usize) -> bool
         ensures { result ≡ leads_to self.now.net at place }
     {
-        match self.net.far_end(at) {
+        match self.net.links().far_end(at) {
             Some(there) => there.node == place,
             None => false,
         }

@@ -18,19 +18,19 @@ use Rattle.audit_net.specs.declared.entry.Entry.TheVariants.{Out, Missing, Unrep
 use Rattle.audit_net.specs.declared.following.Fate.TheVariants as fates
 use Rattle.audit_net.specs.declared.following.Turn.{Turn}
 use Rattle.audit_net.specs.declared.following.Turn.TheVariants as turns
-use Rattle.audit_net.specs.Attached.{ports_of}
+use Rattle.audit_plan.specs.Attached.{ports_of}
 use Rattle.audit_loops.specs.Channels.{channels, channels_of, is_channel, is_out, leads_to, leaves_by}
 use Rattle.audit_net.specs.Following.{end_within, fate_by, switch_total, then_end, turn, turn_by, turn_to}
 use Rattle.audit_net.specs.Laws.{GoesTo}
 use Rattle.audit_loops.specs.Laws.{IsChannel}
 use Rattle.audit_net.specs.Net.{NetState, entry}
 use Rattle.audit_routes.specs.Pairs.{is_fate}
-use Rattle.audit_plan.specs.Plan.{is_host}
+use Rattle.audit_plan.specs.Plan.{is_host, is_on}
 use Rattle.audit_loops.proofs.ChannelLawLemmas.{channels_are_reported}
 use Rattle.audit_net.proofs.EndlessLemmas.{loops_never_end, turn_goes}
 use Rattle.audit_loads.specs.Laws.{CablesLeadBack, LastLinksCarryWhatArrives, arrives_over, last_channels, pairs_of, ports_used}
 use Rattle.audit_loads.specs.Sources.{Pair, entrance, pair_from, pairs_in, sends}
-use Rattle.audit_net.specs.Ways.{is_on, then_on, way, way_within}
+use Rattle.audit_net.specs.Ways.{then_on, way, way_within}
 use Rattle.audit_loads.specs.Ways.{goes_over}
 use Rattle.audit_loads.proofs.CableLemmas.{same_itself}
 use Rattle.audit_loads.proofs.KeyLemmas.{same_port}
@@ -61,7 +61,7 @@ count_channels : (net : NetState) (p q : PortRef → Bool) → ((at : PortRef) �
     → count_by p (channels net) ≡ count_by q (channels net)
 count_channels net p q same =
     sum_lists (λ at. cond (p at) 1 0) (λ at. cond (q at) 1 0) (channels_of net) (switches net.plan.nodes)
-    (λ place. sum_kept (λ at. cond (p at) 1 0) (λ at. cond (q at) 1 0) (is_channel net) (ports_of net place)
+    (λ place. sum_kept (λ at. cond (p at) 1 0) (λ at. cond (q at) 1 0) (is_channel net) (ports_of net.plan place)
     (λ at is. ap (λ (b : Bool). cond b 1 0) (same at is)))
 
 -- ---- a switch that delivers the LID: by a port, or to itself

@@ -7,7 +7,6 @@ pub mod LineLemmas
 pub mod CableLemmas
 pub mod ArrivalLemmas
 pub mod LevelLemmas
-pub mod TopLemmas
 pub mod WrongLemmas
 pub mod ExampleLemmas
 pub mod EachPairLemmas

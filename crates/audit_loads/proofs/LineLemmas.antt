@@ -8,7 +8,7 @@ use Rattle.fabric_parts.specs.Cable.{is_same_port, port}
 use Rattle.fabric_parts.specs.declared.cable.PortRef.{PortRef}
 use Rattle.topo_file.specs.Connectivity.{switches}
 use Rattle.topo_file.specs.Node.{is_switch_at, ports_at}
-use Rattle.audit_net.specs.Attached.{ports_of}
+use Rattle.audit_plan.specs.Attached.{ports_of}
 use Rattle.audit_loops.specs.Channels.{channels, channels_of, is_channel}
 use Rattle.audit_net.specs.Net.{NetState}
 use Rattle.audit_loads.specs.declared.loaded.Loaded.{Loaded}
@@ -124,7 +124,7 @@ pub channels_once : (net : NetState) (at : PortRef) → count_by (λ channel. is
 channels_once net at =
     let all = count_flat (λ channel. is_same_port channel at) (channels_of net) (λ place. place == at.node) (switches net.plan.nodes)
     (λ place.
-    let kept = count_kept (λ channel. is_same_port channel at) (is_channel net) (ports_of net place) in
+    let kept = count_kept (λ channel. is_same_port channel at) (is_channel net) (ports_of net.plan place) in
     let once = ports_once place (ports_at net.plan.nodes place) at in
     omega (arith, kept, once)) in
     let kept = count_kept (λ place. place == at.node) (is_switch_at net.plan.nodes) (range_with_len 0 (length net.plan.nodes)) in

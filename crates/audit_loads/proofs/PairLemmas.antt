@@ -17,9 +17,11 @@ use Rattle.audit_routes.specs.Pairs.{is_fate}
 use Rattle.audit_loads.specs.Counts.{counted_by, counts_of, plus}
 use Rattle.audit_loads.specs.declared.counting.Counts.{Counts}
 use Rattle.audit_loads.specs.Sources.{Entrance, Pair, pair_from, pairs_in, sends}
-use Rattle.audit_loads.specs.Walk.{of_pairs, on_way, senders, sum_at, AreSums, GrowBy, HasSums}
-use Rattle.audit_net.specs.Ways.{is_on, way}
-use Rattle.audit_loads.specs.Ways.{goes_over, is_lost, is_unknown, loses}
+use Rattle.audit_loads.specs.Walk.{of_pairs, on_way, senders, AreSums, GrowBy, HasSums}
+use Rattle.audit_net.specs.Ways.{way}
+use Rattle.audit_plan.specs.Plan.{is_on}
+use Rattle.audit_routes.specs.Verdict.{is_lost_by}
+use Rattle.audit_loads.specs.Ways.{goes_over, is_lost, is_unknown}
 use Rattle.audit_loads.proofs.SumLemmas.{grow_on, grow_same}
 
 abbrev pair_of : (lid : ℕ) → (end : PortRef) → (place : ℕ) → (source : PortRef) → Pair
@@ -151,13 +153,13 @@ pub counts_from : (net : NetState) (talk : PortRef → PortRef → Bool) (lid : 
 counts_from net talk lid end one count found is found_is =
     let here = fate net lid end one.place in
     let all : count ≡ length (pairs_in talk lid end one) = is ∙ sym (length_pairs talk lid end one.place one.ports) in
-    let lost : cond (loses found) count 0 ≡ count_by (is_lost net) (pairs_in talk lid end one) =
-    ap (λ (f : Fate). cond (loses f) count 0) found_is ∙ ap (λ (n : ℕ). cond (loses here) n 0) is
-    ∙ sym (count_pairs (is_lost net) (loses here) talk lid end one.place one.ports (λ source. refl)) in
+    let lost : cond (is_lost_by found) count 0 ≡ count_by (is_lost net) (pairs_in talk lid end one) =
+    ap (λ (f : Fate). cond (is_lost_by f) count 0) found_is ∙ ap (λ (n : ℕ). cond (is_lost_by here) n 0) is
+    ∙ sym (count_pairs (is_lost net) (is_lost_by here) talk lid end one.place one.ports (λ source. refl)) in
     let unknown : cond (is_fate fates.Unknown found) count 0 ≡ count_by (is_unknown net) (pairs_in talk lid end one) =
     ap (λ (f : Fate). cond (is_fate fates.Unknown f) count 0) found_is ∙ ap (λ (n : ℕ). cond (is_fate fates.Unknown here) n 0) is
     ∙ sym (count_pairs (is_unknown net) (is_fate fates.Unknown here) talk lid end one.place one.ports (λ source. refl)) in
-    ap (λ (n : ℕ). record { pairs = n; lost = cond (loses found) count 0; unknown = cond (is_fate fates.Unknown found) count 0 }) all
+    ap (λ (n : ℕ). record { pairs = n; lost = cond (is_lost_by found) count 0; unknown = cond (is_fate fates.Unknown found) count 0 }) all
     ∙ ap (λ (n : ℕ). record { pairs = length (pairs_in talk lid end one); lost = n; unknown = cond (is_fate fates.Unknown found) count 0 }) lost
     ∙ ap (λ (n : ℕ). record { pairs = length (pairs_in talk lid end one); lost = count_by (is_lost net) (pairs_in talk lid end one); unknown = n }) unknown
 

@@ -14,7 +14,8 @@ use Rattle.audit_net.specs.Following.{switch_total, turn_by}
 use Rattle.audit_net.specs.Laws.{GoesTo}
 use Rattle.audit_net.specs.Net.{NetState, entry}
 use Rattle.audit_loads.specs.Walk.{at_port, is_stamped, on_way, sum_at, GrowBy}
-use Rattle.audit_net.specs.Ways.{is_on, way_within}
+use Rattle.audit_net.specs.Ways.{way_within}
+use Rattle.audit_plan.specs.Plan.{is_on}
 use Rattle.audit_net.proofs.WayLemmas.{ComesTo, Stays, comes_back, comes_on, way_ends, way_more}
 
 -- ---- growing

@@ -1,5 +1,5 @@
 -- What is wrong with the wrong rules.
-use Rattle.std.proofs.Common.{ℕ, ◌≡◌, ap, false, true, refl, sym, ◌≤◌, List, [], ◌∷◌, length, lit<, nat_eq, None, Some, arith}
+use Rattle.std.proofs.Common.{◌≡◌, ap, false, true, refl, sym, ◌≤◌, List, [], ◌∷◌, length, lit<, nat_eq, None, Some, arith}
 use Rattle.std.proofs.lemmas.Bool.{false≢true}
 use Rattle.step_results.proofs.DistinctLemmas.{distinct}
 use Rattle.fabric_parts.specs.Cable.{port}
@@ -7,15 +7,12 @@ use Rattle.netdiscover_file.specs.Sound.{IsSound, shares_guid, shares_port as sh
 use Rattle.topo_file.specs.Sound.{shares_port}
 use Rattle.audit_plan.specs.Plan.{cable_at, joining_cables, plan_found}
 use Rattle.audit_plan.specs.WrongRules.{a_plug}
-use Rattle.audit_loads.specs.Laws.{LeadsToHost}
 use Rattle.audit_loads.specs.Sources.{Pair}
 use Rattle.audit_loads.specs.Talk.{may_talk}
-use Rattle.audit_loads.specs.WrongRules.{FirstLinksCountToo, FirstPortsDoNotAddUp, LastLinksCountToo, LevelsBeginAt0, LostPairsLoad, NotAllAreLeaves}
-use Rattle.audit_loads.specs.WrongRules.{AllTopsCount, LeavesAreNoTops, TopsAreNotOfLevel1, three_levels, two_tops}
+use Rattle.audit_loads.specs.WrongRules.{FirstLinksCountToo, FirstPortsDoNotAddUp, LastLinksCountToo, LostPairsLoad}
 use Rattle.audit_loads.specs.WrongRules.{OtherLidsCountToo, OtherSwitchesCountToo, PairsCountOnce, PortsCountFrom1, SilentPortsDoNotCount, UnusedChannelsHaveALine}
-use Rattle.audit_loads.specs.WrongRules.{four_switches, no_hosts, pairs_to_k, to_k, two_switches}
+use Rattle.audit_loads.specs.WrongRules.{four_switches, pairs_to_k, to_k, two_switches}
 use Rattle.audit_loads.proofs.CableLemmas.{lead_back}
-use Rattle.audit_loads.proofs.TopLemmas.{tops_are_farthest}
 
 -- A sends LID 2 to B, which has no port 9
 pub lost_pairs_load : LostPairsLoad
@@ -68,30 +65,6 @@ pairs_count_once law = let most : 2 ≤ 1 = law (two_switches 2 1) (pairs_to_k (
 -- nothing goes over the cable from B to A
 pub unused_channels_have_a_line : UnusedChannelsHaveALine
 unused_channels_have_a_line law = let none : 0 ≡ 1 = law (two_switches 2 1) (pairs_to_k (two_switches 2 1)) (port 1 2) in absurd (omega (arith, none))
-
--- a host is attached to A, whose level is 0
-pub levels_begin_at_0 : LevelsBeginAt0
-levels_begin_at_0 law = let most : 1 ≤ 0 = law.least (two_switches 1 1) 0 [] refl (lit< tt) in absurd (omega (arith, most))
-
-pub not_all_are_leaves : NotAllAreLeaves
-not_all_are_leaves law = let way = law.there no_hosts 0 (lit< tt) in by way.0 way.1 way.2
-  where
-    by : (over : List ℕ) → length over ≡ 0 → LeadsToHost no_hosts 0 over → ⊥
-    by [] none leads = false≢true leads
-    by (before ∷ rest) none leads = absurd (omega (arith, none))
-
--- C is farther from hosts than B
-pub tops_are_not_of_level_1 : TopsAreNotOfLevel1
-tops_are_not_of_level_1 law =
-    let most : 2 ≤ 1 = (law.only three_levels 1 refl).farthest 4 refl (lit< tt) in absurd (omega (arith, most))
-
--- h is attached to A
-pub leaves_are_no_tops : LeavesAreNoTops
-leaves_are_no_tops law = false≢true (sym (law.only (two_switches 1 1) 0 refl).hostless)
-
--- A/2 and A/3 lead to B and C
-pub all_tops_count : AllTopsCount
-all_tops_count law = false≢true (law.all two_tops 3 (tops_are_farthest.only two_tops 3 refl))
 
 -- k/1 is attached to B, and sends to LID 1, which is h/1's
 pub other_switches_count_too : OtherSwitchesCountToo

@@ -1,5 +1,5 @@
 -- What is so of all fabrics, dumps, LIDs and pairs: the statements of the laws of `src/laws.rt`.
-use Rattle.std.specs.Prelude.{ℕ, ◌+◌, ◌<◌, ◌≤◌, ◌≡◌, ◌==◌, ◌&&◌, Bool, true, false, not, List, [], ◌∷◌, ◌++◌, count_by, filter, length, slice_get, if◌then◌else◌, Option, Some, option_map}
+use Rattle.std.specs.Prelude.{ℕ, ◌+◌, ◌<◌, ◌≤◌, ◌≡◌, ◌==◌, ◌&&◌, Bool, true, false, not, List, ◌++◌, count_by, filter, length, slice_get, if◌then◌else◌, Option, Some, option_map}
 use Rattle.std.specs.List.{list_any, sum_by}
 use Rattle.std.specs.Str.Iter.{HasSubslice}
 use Rattle.fabric_parts.specs.Cable.{far_end, is_same_port, port}
@@ -9,29 +9,24 @@ use Rattle.fabric_parts.specs.declared.limits.Limits.{Limits}
 use Rattle.netdiscover_file.specs.Discovery.{DiscoveryState}
 use Rattle.netdiscover_file.specs.Sound.{IsSound}
 use Rattle.topo_file.specs.Connectivity.{switches}
-use Rattle.topo_file.specs.Node.{is_switch_at, ports_at}
+use Rattle.topo_file.specs.Node.{ports_at}
 use Rattle.topo_file.specs.Sound.{IsSoundWithin, is_port}
 use Rattle.topo_file.specs.Topology.{TopologyState}
-use Rattle.audit_net.specs.declared.entry.Entry.TheVariants.{Out}
 use Rattle.audit_net.specs.declared.following.Fate.TheVariants as fates
 use Rattle.audit_net.specs.declared.following.Turn.TheVariants as turns
 use Rattle.audit_net.specs.declared.lids.Aim.{Aim}
 use Rattle.audit_net.specs.Lids.{aims}
 use Rattle.audit_loops.specs.Channels.{channels, leads_to}
-use Rattle.audit_net.specs.Following.{turn, turn_by}
+use Rattle.audit_net.specs.Following.{turn}
 use Rattle.audit_net.specs.Net.{NetState}
 use Rattle.audit_routes.specs.Pairs.{is_fate}
 use Rattle.audit_plan.specs.Plan.{PlanState, is_host, plan_found, plan_of}
-use Rattle.audit_loads.specs.declared.levels.TheConstants.{LEVELS}
 use Rattle.audit_loads.specs.declared.loaded.Loaded.{Loaded}
-use Rattle.audit_loads.specs.Levels.{carries, level_of}
 use Rattle.audit_loads.specs.Counts.{counts_of}
 use Rattle.audit_loads.specs.Loads.{load, loaded, loads}
 use Rattle.audit_loads.specs.Order.{ordered}
 use Rattle.audit_loads.specs.Sources.{Pair, pairs_by, pairs_to_end}
 use Rattle.audit_loads.specs.Text.{load_line, load_text_of, loads_of, pairs_line}
-use Rattle.audit_loads.specs.Tops.{tops_of}
-use Rattle.audit_net.specs.Ways.{is_on}
 use Rattle.audit_loads.specs.Ways.{fate_of, goes_over}
 
 -- ---- which pairs count
@@ -181,34 +176,3 @@ pub record PrintsAllPairs (text : NetState → (talk : PortRef → PortRef → B
 
 abbrev pub AllPairsArePrinted : Type 0
 AllPairsArePrinted = PrintsAllPairs load_text_of
-
--- ---- levels
--- out of the ports behind these numbers, one after the other, links lead to a switch that carries a host
-abbrev pub LeadsToHost : NetState → ℕ → List ℕ → Type 0
-LeadsToHost net place [] = carries net place ≡ true
-LeadsToHost net place (before ∷ rest) =
-    (next : ℕ) × (before < ports_at net.plan.nodes place) × (turn_by net place (Out (before + 1)) ≡ turns.Goes next) × LeadsToHost net next rest
-
--- the level is the length of the shortest such way, if that is below `LEVELS`
-pub record MeasuresLevels (level : NetState → ℕ → ℕ) : Type 0 where
-  pub least : (net : NetState) (place : ℕ) (over : List ℕ) → LeadsToHost net place over → length over < LEVELS → level net place ≤ length over
-  pub there : (net : NetState) (place : ℕ) → level net place < LEVELS → (over : List ℕ) × (length over ≡ level net place) × LeadsToHost net place over
-
-abbrev pub LevelsAreDistances : Type 0
-LevelsAreDistances = MeasuresLevels level_of
-
--- ---- the top level
--- no host is attached to this switch, it has a level, and no switch that has one is farther from hosts
-pub record IsFarthest (net : NetState) (place : ℕ) : Type 0 where
-  pub switch : is_switch_at net.plan.nodes place ≡ true
-  pub hostless : carries net place ≡ false
-  pub has_level : level_of net place < LEVELS
-  pub farthest : (other : ℕ) → is_switch_at net.plan.nodes other ≡ true → level_of net other < LEVELS → level_of net other ≤ level_of net place
-
--- these are all such switches, and no others
-pub record FindsFarthest (tops : NetState → List ℕ) : Type 0 where
-  pub only : (net : NetState) (place : ℕ) → is_on place (tops net) ≡ true → IsFarthest net place
-  pub all : (net : NetState) (place : ℕ) → IsFarthest net place → is_on place (tops net) ≡ true
-
-abbrev pub TopsAreFarthest : Type 0
-TopsAreFarthest = FindsFarthest tops_of

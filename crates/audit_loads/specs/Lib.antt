@@ -6,7 +6,6 @@ pub mod Loads
 pub mod Counts
 pub mod Order
 pub mod Levels
-pub mod Tops
 pub mod Text
 pub mod Walk
 pub mod Laws

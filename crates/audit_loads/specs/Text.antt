@@ -13,7 +13,7 @@ use Rattle.audit_plan.specs.Plan.{PlanState, plan_found, plan_of}
 use Rattle.audit_loads.specs.declared.loaded.Loaded.{Loaded}
 use Rattle.audit_loads.specs.declared.counting.Counts.{Counts}
 use Rattle.audit_loads.specs.Counts.{counts_of}
-use Rattle.audit_loads.specs.declared.levels.TheConstants.{LEVELS}
+use Rattle.audit_plan.specs.declared.levels.TheConstants.{LEVELS}
 use Rattle.audit_loads.specs.declared.levels.Way.{Way}
 use Rattle.audit_loads.specs.declared.levels.Way.TheVariants.{Across, Down, Up}
 use Rattle.audit_loads.specs.Levels.{of_level}

@@ -9,25 +9,22 @@ use Rattle.fabric_parts.specs.declared.node_type.NodeType.{NodeType}
 use Rattle.fabric_parts.specs.declared.node_type.NodeType.TheVariants.{ChannelAdapter, Switch}
 use Rattle.netdiscover_file.specs.Discovery.{DiscoveryState}
 use Rattle.topo_file.specs.declared.node.Node.{Node}
-use Rattle.topo_file.specs.Connectivity.{switches}
 use Rattle.topo_file.specs.Topology.{TopologyState}
 use Rattle.audit_net.specs.declared.lids.Aim.{Aim}
 use Rattle.audit_net.specs.Lids.{aims}
 use Rattle.audit_loops.specs.Channels.{leaves_by}
 use Rattle.audit_net.specs.Net.{NetState}
-use Rattle.audit_plan.specs.Plan.{PlanState, plan_found, plan_of}
+use Rattle.audit_plan.specs.Plan.{PlanState, is_on, plan_found, plan_of}
 use Rattle.audit_loads.specs.declared.loaded.Loaded.{Loaded}
-use Rattle.audit_loads.specs.Laws.{AddsUp, CarriesWhatArrives, CountsEachPair, CountsTalkers, FindsFarthest, MeasuresLevels, NamesEachOnce, ReportsUnused, StaysWithin}
+use Rattle.audit_loads.specs.Laws.{AddsUp, CarriesWhatArrives, CountsEachPair, CountsTalkers, NamesEachOnce, ReportsUnused, StaysWithin}
 use Rattle.audit_loads.specs.Laws.{CountsAllPairs, PrintsAllPairs, TakesCables, all_talk, lines_of}
 use Rattle.audit_loads.specs.Counts.{counts_of}
-use Rattle.audit_loads.specs.Levels.{level_of}
 use Rattle.audit_loads.specs.Loads.{load, loads}
 use Rattle.audit_loads.specs.Order.{ordered}
 use Rattle.audit_loads.specs.Sources.{Pair, pairs_by}
 use Rattle.audit_loads.specs.Talk.{may_talk}
 use Rattle.audit_loads.specs.Text.{load_line, loads_of, pairs_line, text_by}
-use Rattle.audit_loads.specs.Tops.{top_of, tops_of}
-use Rattle.audit_net.specs.Ways.{is_on, way_within}
+use Rattle.audit_net.specs.Ways.{way_within}
 use Rattle.audit_loads.specs.Ways.{goes_over, is_lost}
 
 -- ---- two switches A and B with a cable from A/2 to B/2, and the hosts h at A/1 and k at B/1
@@ -126,68 +123,6 @@ used_lines net pairs = filter (λ one. not (one.load == 0)) (lines_of net pairs)
 
 abbrev pub UnusedChannelsHaveALine : Type 0
 UnusedChannelsHaveALine = NamesEachOnce used_lines → ⊥
-
--- ---- a level counts the switches of a way, and not its links
-abbrev pub counted_from_1 : NetState → ℕ → ℕ
-counted_from_1 net place = level_of net place + 1
-
-abbrev pub LevelsBeginAt0 : Type 0
-LevelsBeginAt0 = MeasuresLevels counted_from_1 → ⊥
-
--- ---- all switches have one level
-abbrev pub all_leaves : NetState → ℕ → ℕ
-all_leaves net place = 0
-
-abbrev pub NotAllAreLeaves : Type 0
-NotAllAreLeaves = MeasuresLevels all_leaves → ⊥
-
--- no host is attached to any switch of this fabric
-abbrev pub no_hosts : NetState
-no_hosts = record { plan = plan_of (record a_plan { cables = record { first = port 0 2; second = port 1 2 } ∷ [] }); dump = record { tables = [] } }
-
--- ---- the top switches are those of level 1
-abbrev pub of_level_1 : NetState → List ℕ
-of_level_1 net = filter (λ place. level_of net place == 1) (switches net.plan.nodes)
-
-abbrev pub TopsAreNotOfLevel1 : Type 0
-TopsAreNotOfLevel1 = FindsFarthest of_level_1 → ⊥
-
--- ---- or those of the greatest level, also if that is 0
-abbrev pub of_top_level : NetState → List ℕ
-of_top_level net = filter (λ place. level_of net place == top_of (level_of net) (switches net.plan.nodes)) (switches net.plan.nodes)
-
-abbrev pub LeavesAreNoTops : Type 0
-LeavesAreNoTops = FindsFarthest of_top_level → ⊥
-
--- ---- or the first of them alone
-abbrev pub first_top : NetState → List ℕ
-first_top net = take 1 (tops_of net)
-
-abbrev pub AllTopsCount : Type 0
-AllTopsCount = FindsFarthest first_top → ⊥
-
--- h is attached to A/1, and cables lead from A/2 to B/1 and from B/2 to C/1
-abbrev pub three_levels : NetState
-three_levels = record {
-  plan = plan_of (record a_plan {
-    nodes = a_plan.nodes ++ node (codes "C") Switch 48 ∷ [];
-    cables = record { first = port 0 1; second = port 2 1 } ∷ record { first = port 0 2; second = port 1 1 }
-        ∷ record { first = port 1 2; second = port 4 1 } ∷ [];
-  });
-  dump = record { tables = [] };
-}
-
--- h is attached to A/1, and cables lead from A/2 to B/1 and from A/3 to C/1
-abbrev pub two_tops : NetState
-two_tops = record {
-  plan = plan_of (record a_plan {
-    nodes = record (node (codes "A") Switch 16) { ports = 3 } ∷ node (codes "B") Switch 32 ∷ node (codes "h") ChannelAdapter 256
-        ∷ node (codes "C") Switch 48 ∷ [];
-    cables = record { first = port 0 1; second = port 2 1 } ∷ record { first = port 0 2; second = port 1 1 }
-        ∷ record { first = port 0 3; second = port 3 1 } ∷ [];
-  });
-  dump = record { tables = [] };
-}
 
 -- ---- ports that are attached to the first switch alone send
 abbrev pub from_first : NetState → (talk : PortRef → PortRef → Bool) → List Aim → List Pair

@@ -1,25 +1,8 @@
 //! Laws of all loads. The functions do nothing; their clauses are the theorems.
 
-ghost use Rattle.std.specs.Prelude.{◌≡◌};
-ghost use Rattle.audit_loads.specs.declared.levels.TheConstants.{LEVELS};
-ghost use Rattle.audit_loads.specs.Laws.{CablesOfPlansLeadBack, EachChannelHasOneLine, EachPairCounts, LastLinksCarryWhatArrives, LevelsAreDistances};
-ghost use Rattle.audit_loads.specs.Laws.{LoadsAddUp, LoadsAreOfPairs, LoadsStayWithin, TalkersCount, TopsAreFarthest};
+ghost use Rattle.audit_loads.specs.Laws.{CablesOfPlansLeadBack, EachChannelHasOneLine, EachPairCounts, LastLinksCarryWhatArrives};
+ghost use Rattle.audit_loads.specs.Laws.{LoadsAddUp, LoadsAreOfPairs, LoadsStayWithin, TalkersCount};
 ghost use Rattle.audit_loads.specs.Laws.{AllPairsAreCounted, AllPairsArePrinted};
-
-/// The level of a switch is the least number of links from it to a switch to which a host is attached.
-pub fn levels_are_distances()
-    ensures { LevelsAreDistances }
-{}
-
-/// The top switches are all those to which no host is attached, and that are as far from hosts as any switch that has a level.
-pub fn tops_are_farthest()
-    ensures { TopsAreFarthest }
-{}
-
-/// How many levels there are. The number is ours.
-pub fn the_numbers()
-    ensures { LEVELS ≡ 16 }
-{}
 
 /// Of all pairs those count whose ports talk.
 pub fn talkers_count()

@@ -5,8 +5,6 @@
 //! each direction of a cable between two switches they say how many pairs go over it: a host's port that sends, and a LID of
 //! another host's port. `specs/Sources.antt` says which pairs there are, `specs/Talk.antt` which ports may talk, `specs/Ways.antt`
 //! which way a packet goes, `specs/Loads.antt` what is counted, and `specs/Text.antt` what is printed.
-//!
-//! [`top_switches`] finds the switches that are farthest from hosts, as `specs/Tops.antt` says.
 #![tactic(auto)]
 
 mod counting;
@@ -22,19 +20,16 @@ mod sources;
 mod sums;
 mod talk;
 mod texts;
-mod tops;
 mod walk;
 mod wrong_rules;
 
 pub use crate::examples::{fractions_are_rounded_down, ports_send_to_others, texts_are_so};
 pub use crate::laws::{
     all_pairs_are_counted, all_pairs_are_printed, cables_of_plans_lead_back,
-    each_channel_has_one_line, each_pair_counts, last_links_carry_what_arrives,
-    levels_are_distances, loads_add_up, loads_are_of_pairs, loads_stay_within, talkers_count,
-    the_numbers, tops_are_farthest,
+    each_channel_has_one_line, each_pair_counts, last_links_carry_what_arrives, loads_add_up,
+    loads_are_of_pairs, loads_stay_within, talkers_count,
 };
-pub use crate::levels::{LEVELS, Way};
+pub use crate::levels::Way;
 pub use crate::loaded::Loaded;
 pub use crate::talk::{PortKeys, Talk};
 pub use crate::texts::{load_of_plan, load_text, load_text_found, loads_of_plan};
-pub use crate::tops::top_switches;

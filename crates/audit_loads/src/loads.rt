@@ -32,7 +32,7 @@ pub(crate) fn target_of(net: &Net<'_>, aim: &Aim) -> Option<Target>
 {
     let aim = *aim;
     match aim.end {
-        Some(end) if net.is_host(end.node) => Some(Target { lid: aim.lid, end }),
+        Some(end) if net.plan().is_host(end.node) => Some(Target { lid: aim.lid, end }),
         _ => None,
     }
 }
@@ -90,7 +90,7 @@ fn add_from_all(
     ensures counts { IfOk result (λ counts. counts ≡ counts_of net.now (flat_map (pairs_in (may_talk talk.now) target.lid target.end) all.now)) }
 {
     let to = Destination { target, talk };
-    let mut marks = zeros(alloc, net.nodes().len())?;
+    let mut marks = zeros(alloc, net.plan().nodes().len())?;
     let mut counts = no_pairs();
     for (index, one) in all.iter().enumerate() {
         let more = add_from(net, sums, &mut marks, index + 1, one, to)?;
@@ -177,7 +177,7 @@ pub(crate) fn loads(
     ensures loads { IfOk result (λ found. found.0.items ≡ loads net.now (pairs_by net.now (may_talk talk.now) aims.now)) }
     ensures counts { IfOk result (λ found. found.1 ≡ counts_of net.now (pairs_by net.now (may_talk talk.now) aims.now)) }
 {
-    let mut sums = blank_sums(alloc, net.nodes().len())?;
+    let mut sums = blank_sums(alloc, net.plan().nodes().len())?;
     let counts = add_all(net, alloc, &mut sums, all, talk, aims)?;
     let channels = all_channels(net, alloc)?;
     let loads = loaded_all(alloc, &channels, &sums)?;

@@ -69,8 +69,8 @@ fn senders(ports: &[PortRef], talk: &Talk, end: PortRef) -> usize
 fn push_host_at(net: &Net<'_>, ports: &mut Vec<PortRef>, at: PortRef) -> Result<(), AllocError>
     ensures { OnOk result (ports.new.items ≡ ports.old.items ++ host_at net.now at) }
 {
-    match net.far_end(at) {
-        Some(there) if net.is_host(there.node) => {
+    match net.links().far_end(at) {
+        Some(there) if net.plan().is_host(there.node) => {
             ports.push(there)?;
             Ok(())
         }
@@ -103,7 +103,7 @@ pub(crate) fn attached(
     ensures { IfOk result (λ ports. ports.items ≡ attached net.now place) }
 {
     let mut ports = Vec::new(alloc);
-    for before in 0..ports_at(net.nodes(), place) {
+    for before in 0..ports_at(net.plan().nodes(), place) {
         push_host_behind(net, &mut ports, place, before)?;
     }
     Ok(ports)

@@ -3,7 +3,7 @@
 ghost use Rattle.std.specs.Prelude.{◌≡◌, ◌++◌, ◌<◌, ◌/◌, flat_map, length, IfOk, OnOk};
 ghost use Rattle.std.specs.List.{fold};
 ghost use Rattle.audit_plan.specs.Plan.{PlanState};
-ghost use Rattle.audit_loads.specs.Levels.{levels_of};
+ghost use Rattle.audit_plan.specs.Levels.{levels_of};
 ghost use Rattle.audit_loads.specs.Loads.{greater, least_of, lesser, loads, mean_of, most_of, ratio_of, total_of};
 ghost use Rattle.audit_loads.specs.Text.{level_line, level_means, level_text, level_words, levels_text, way_word};
 ghost use Rattle.audit_loads.specs.Counts.{counts_of};
@@ -12,14 +12,14 @@ ghost use Rattle.audit_loads.specs.Talk.{may_talk};
 ghost use Rattle.audit_loads.specs.Text.{end_text, hundredths, least_line, load_line, load_of_plan, load_text, load_text_found, load_text_of, loads_of, loads_of_plan, mean_line, most_line, pairs_line, summary, text_by, text_of};
 
 use crate::counting::Counts;
-use crate::levels::{LEVELS, Way, levels, of_level};
+use crate::levels::{Way, of_level};
 use crate::loaded::Loaded;
 use crate::loads::loads;
 use crate::order::ordered;
 use crate::sources::entrances;
 use crate::talk::Talk;
 use audit_net::{Aim, Net, aims};
-use audit_plan::Plan;
+use audit_plan::{LEVELS, Plan, levels_of};
 use audit_routes::push_port;
 use dump_file::Dump;
 use fabric_parts::PortRef;
@@ -44,7 +44,7 @@ fn push_load(net: &Net<'_>, text: &mut Vec<u8>, one: Loaded) -> Result<(), Alloc
     text.extend_from_slice(b"load ")?;
     push_port(net, text, one.at)?;
     text.extend_from_slice(b" ")?;
-    push_end(net, text, net.far_end(one.at))?;
+    push_end(net, text, net.links().far_end(one.at))?;
     text.extend_from_slice(b" ")?;
     push_decimal(text, one.load)?;
     text.push(b'\n')?;
@@ -238,7 +238,7 @@ fn push_level_of(
     all: &[Loaded],
     level: usize,
 ) -> Result<(), AllocError>
-    requires { levels.now ≡ levels_of net.now }
+    requires { levels.now ≡ levels_of net.now.plan }
     ensures { OnOk result (text.new.items ≡ text.old.items ++ level_text net.now all.now level) }
 {
     let up = of_level(net, alloc, levels, all, level, Way::Up)?;
@@ -257,7 +257,7 @@ fn push_levels(
 ) -> Result<(), AllocError>
     ensures { OnOk result (text.new.items ≡ text.old.items ++ levels_text net.now all.now) }
 {
-    let levels = levels(net, alloc)?;
+    let levels = levels_of(net.links(), alloc)?;
     for level in 0..LEVELS {
         push_level_of(net, alloc, text, &levels, all, level)?;
     }

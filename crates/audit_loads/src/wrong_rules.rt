@@ -1,9 +1,9 @@
 //! Wrong rules for what is reported, and the law that each breaks, so that a reader sees that the laws say something. Each
 //! function does nothing: its contract says that with this rule the law is false.
 
-ghost use Rattle.audit_loads.specs.WrongRules.{FirstLinksCountToo, FirstPortsDoNotAddUp, LastLinksCountToo, LevelsBeginAt0, LostPairsLoad, NotAllAreLeaves, PairsCountOnce, PortsCountFrom1, SilentPortsDoNotCount, UnusedChannelsHaveALine};
+ghost use Rattle.audit_loads.specs.WrongRules.{FirstLinksCountToo, FirstPortsDoNotAddUp, LastLinksCountToo, LostPairsLoad, PairsCountOnce, PortsCountFrom1, SilentPortsDoNotCount, UnusedChannelsHaveALine};
 ghost use Rattle.audit_loads.specs.WrongRules.{AllChannelsArePrinted, AllLidsAreCounted, AllLidsArePrinted};
-ghost use Rattle.audit_loads.specs.WrongRules.{AllTopsCount, LeavesAreNoTops, OtherLidsCountToo, OtherSwitchesCountToo, TopsAreNotOfLevel1};
+ghost use Rattle.audit_loads.specs.WrongRules.{OtherLidsCountToo, OtherSwitchesCountToo};
 
 /// If pairs that are lost were not counted, a channel that one goes over would have no load.
 pub fn lost_pairs_load()
@@ -43,31 +43,6 @@ pub fn pairs_count_once()
 /// If a channel without load had no line, one would be missing.
 pub fn unused_channels_have_a_line()
     ensures { UnusedChannelsHaveALine }
-{}
-
-/// If a level counts the switches of a way, a switch to which a host is attached has the level 1.
-pub fn levels_begin_at_0()
-    ensures { LevelsBeginAt0 }
-{}
-
-/// If all switches have the level 0, a switch far from hosts has it too.
-pub fn not_all_are_leaves()
-    ensures { NotAllAreLeaves }
-{}
-
-/// If the switches of level 1 were the top ones, a fabric of three levels would have a farther switch.
-pub fn tops_are_not_of_level_1()
-    ensures { TopsAreNotOfLevel1 }
-{}
-
-/// If the switches of the greatest level were the top ones also if that is 0, a host would be attached to one.
-pub fn leaves_are_no_tops()
-    ensures { LeavesAreNoTops }
-{}
-
-/// If the first top switch counted alone, another that is as far from hosts would be missing.
-pub fn all_tops_count()
-    ensures { AllTopsCount }
 {}
 
 /// If ports that are attached to the first switch sent alone, those of another would send nothing.

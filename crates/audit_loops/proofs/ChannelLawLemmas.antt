@@ -13,7 +13,7 @@ use Rattle.topo_file.specs.declared.node.Node.{Node}
 use Rattle.audit_loops.specs.Channels.{channels, channels_of, is_channel}
 use Rattle.audit_loops.specs.Laws.{ChannelsAreReported, IsChannel}
 use Rattle.audit_net.specs.Net.{NetState}
-use Rattle.audit_net.proofs.EndlessLemmas.{is_listed}
+use Rattle.audit_plan.proofs.PlaceLemmas.{is_listed}
 use Rattle.audit_net.proofs.HostLemmas.{kept_passes}
 
 -- ---- ports of one switch

@@ -16,7 +16,7 @@ use Rattle.audit_loops.specs.Courses.{CourseState, counts}
 use Rattle.audit_net.specs.Net.{NetState, entry}
 use Rattle.audit_loops.specs.Waits.{all_groups, are_ports, channel_behind, group_at, group_of, if_switch, is_taken, next_if, numbered_at, some_take, takes, then_by, then_out, two_by, two_ports}
 use Rattle.audit_plan.proofs.RangeLemmas.{at_range, flat_onto}
-use Rattle.audit_net.proofs.EndlessLemmas.{within_nodes}
+use Rattle.audit_plan.proofs.PlaceLemmas.{within_nodes}
 
 -- ---- all LIDs
 pub record AreTaken (net : NetState) (courses : List CourseState) (place index : ℕ) (marks : List Bool) : Type 0 where

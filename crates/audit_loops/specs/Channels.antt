@@ -9,7 +9,7 @@ use Rattle.topo_file.specs.Connectivity.{switches}
 use Rattle.topo_file.specs.Node.{is_switch_at}
 use Rattle.audit_net.specs.declared.entry.Entry.{Entry}
 use Rattle.audit_net.specs.declared.entry.Entry.TheVariants.{Out, Missing, Unreported}
-use Rattle.audit_net.specs.Attached.{ports_of}
+use Rattle.audit_plan.specs.Attached.{ports_of}
 use Rattle.audit_loops.specs.Courses.{CourseState, counts, everywhere}
 use Rattle.audit_loops.specs.Cycle.{cycle}
 use Rattle.audit_net.specs.Net.{NetState, entry}
@@ -19,7 +19,7 @@ is_channel net at = option_map_or (λ there. is_switch_at net.plan.nodes there.n
 
 -- in the order of switches, and then of ports
 abbrev pub channels_of : NetState → ℕ → List PortRef
-channels_of net place = filter (is_channel net) (ports_of net place)
+channels_of net place = filter (is_channel net) (ports_of net.plan place)
 
 abbrev pub channels : NetState → List PortRef
 channels net = flat_map (channels_of net) (switches net.plan.nodes)

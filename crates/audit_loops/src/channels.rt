@@ -90,8 +90,8 @@ fn mark_taken(marks: &mut [bool], number: u8, next: u8)
 pub fn is_channel(net: &Net<'_>, at: PortRef) -> bool
     ensures { result ≡ is_channel net.now at }
 {
-    match net.far_end(at) {
-        Some(there) => net.is_switch_at(there.node),
+    match net.links().far_end(at) {
+        Some(there) => net.plan().is_switch_at(there.node),
         None => false,
     }
 }
@@ -103,7 +103,7 @@ fn push_channels_of(
 ) -> Result<(), AllocError>
     ensures { OnOk result (channels.new.items ≡ channels.old.items ++ channels_of net.now place) }
 {
-    for number in 0..ports_at(net.nodes(), place) {
+    for number in 0..ports_at(net.plan().nodes(), place) {
         push_channel(net, channels, place, number)?;
     }
     Ok(())
@@ -144,8 +144,8 @@ pub fn all_channels(net: &Net<'_>, alloc: Global) -> Result<Vec<PortRef>, AllocE
 fn switch_behind(net: &Net<'_>, at: PortRef) -> Option<PortRef>
     ensures { result ≡ if_switch net.now (far_end net.now.plan.cables at) }
 {
-    match net.far_end(at) {
-        Some(there) if net.is_switch_at(there.node) => Some(there),
+    match net.links().far_end(at) {
+        Some(there) if net.plan().is_switch_at(there.node) => Some(there),
         _ => None,
     }
 }
@@ -158,7 +158,7 @@ fn group_at(
 ) -> Result<Vec<(usize, PortRef)>, AllocError>
     ensures { IfOk result (λ group. group.items ≡ group_at net.now all.now place) }
 {
-    if net.is_switch_at(place) {
+    if net.plan().is_switch_at(place) {
         numbered_at(alloc, all, place)
     } else {
         Ok(Vec::new(alloc))
@@ -170,7 +170,7 @@ fn groups(net: &Net<'_>, alloc: Global, all: &[PortRef]) -> Result<Vec<Group>, A
     ensures { IfOk result (λ groups. groups.items ≡ all_groups net.now all.now) }
 {
     let mut groups = Vec::new(alloc);
-    for place in 0..net.nodes().len() {
+    for place in 0..net.plan().nodes().len() {
         let group = group_at(net, alloc, all, place)?;
         groups.push(Group::of(group))?;
     }
@@ -184,7 +184,7 @@ fn two_ports(net: &Net<'_>, lid: u16, place: usize) -> Option<(u8, u8)>
     let Entry::Out(number) = net.entry(lid, place) else {
         return None;
     };
-    let there = net.far_end(PortRef {
+    let there = net.links().far_end(PortRef {
         node: place,
         port: number,
     })?;
@@ -246,7 +246,7 @@ pub fn leaves_by(net: &Net<'_>, at: PortRef, lid: u16) -> bool
 fn leads_to(net: &Net<'_>, at: PortRef, place: usize) -> bool
     ensures { result ≡ leads_to net.now at place }
 {
-    match net.far_end(at) {
+    match net.links().far_end(at) {
         Some(there) => there.node == place,
         None => false,
     }
@@ -315,7 +315,7 @@ fn push_dependencies(
     ensures { OnOk result (graph.new.items ≡ graph.old.items ++ map (nexts net.now courses.now) (channels_of net.now place)) }
 {
     let marks = taken(net, alloc, courses, place)?;
-    for number in 0..ports_at(net.nodes(), place) {
+    for number in 0..ports_at(net.plan().nodes(), place) {
         let at = PortRef {
             node: place,
             port: number + 1,

@@ -13,7 +13,7 @@ use Rattle.step_results.proofs.DistinctLemmas.{all_differ}
 use Rattle.step_results.proofs.BoolLemmas.{not_true}
 use Rattle.topo_file.specs.Connectivity.{switches}
 use Rattle.topo_file.specs.Node.{is_switch_at, ports_at}
-use Rattle.audit_net.specs.Attached.{ports_of}
+use Rattle.audit_plan.specs.Attached.{ports_of}
 use Rattle.audit_loops.specs.Channels.{leads_to}
 use Rattle.audit_net.specs.Net.{NetState}
 use Rattle.audit_routes.proofs.SafeLemmas.{same_port}
@@ -55,8 +55,8 @@ pub record IsOut (net : NetState) (masks : List (List ℕ)) (here out : PortRef)
 pub is_out : (net : NetState) (masks : List (List ℕ)) (here out : PortRef) → list_any (is_same_port out) (outs net masks here) ≡ true → IsOut net masks here out
 is_out net masks here out there =
     let passes = λ (one : PortRef). not (here.port == one.port) && leaves net masks one in
-    let kept = and_parts (not (here.port == out.port)) _ (kept_are passes passes (λ x is. is) out (ports_of net here.node) there) in
-    let mine = range_own net out here.node 1 (ports_at net.plan.nodes here.node) (omega arith) (omega arith) (any_kept passes out (ports_of net here.node) there) in
+    let kept = and_parts (not (here.port == out.port)) _ (kept_are passes passes (λ x is. is) out (ports_of net.plan here.node) there) in
+    let mine = range_own net out here.node 1 (ports_at net.plan.nodes here.node) (omega arith) (omega arith) (any_kept passes out (ports_of net.plan here.node) there) in
     record { node = mine.0; own = mine.1; leaving = kept.1; apart = not_true _ kept.0 }
 
 -- a port that leaves leads to the switch behind it
@@ -167,7 +167,7 @@ kept_differ p (x ∷ xs) differ =
 
 outs_differ : (net : NetState) (masks : List (List ℕ)) (here : PortRef) → all_differ is_same_port (outs net masks here) ≡ true
 outs_differ net masks here =
-    kept_differ (λ out. not (here.port == out.port) && leaves net masks out) (ports_of net here.node) (range_differ here.node 1 (ports_at net.plan.nodes here.node))
+    kept_differ (λ out. not (here.port == out.port) && leaves net masks out) (ports_of net.plan here.node) (range_differ here.node 1 (ports_at net.plan.nodes here.node))
 
 next_differ : (net : NetState) (masks : List (List ℕ)) (at : PortRef) → all_differ is_same_port (next_outs net masks at) ≡ true
 next_differ net masks at = by (far_end net.plan.cables at)

@@ -16,10 +16,10 @@ use Rattle.step_results.proofs.DistinctLemmas.{all_differ, distinct}
 use Rattle.step_results.proofs.ListLemmas.{any_map, list_any_weaker}
 use Rattle.topo_file.specs.Connectivity.{switches}
 use Rattle.topo_file.specs.Node.{is_switch_at}
-use Rattle.audit_net.specs.Attached.{ports_of}
+use Rattle.audit_plan.specs.Attached.{ports_of}
 use Rattle.audit_loops.specs.Channels.{leads_to}
 use Rattle.audit_net.specs.Net.{NetState}
-use Rattle.audit_net.proofs.EndlessLemmas.{in_kept, in_range, is_listed, within_nodes}
+use Rattle.audit_plan.proofs.PlaceLemmas.{in_kept, in_range, is_listed, within_nodes}
 use Rattle.audit_routes.proofs.SafeLemmas.{same_port}
 use Rattle.audit_multicast.specs.Copies.{again, arrivals, copy_from, copy_of, entrances, first_copy, hop, next_outs, node_behind, second_copy, takes_packets}
 use Rattle.audit_multicast.specs.Laws.{NoCopyIsMissed, came_by, is_own_port}
@@ -48,7 +48,7 @@ next_of net masks before last goes own =
         let parts = and_parts (there.node == last.node) _ comes in
         let same : last.node ≡ there.node = grind (arith, nat_tests, parts.0) in
         let other : (there.port == last.port) ≡ false = grind (arith, nat_tests, parts.1) in
-        subst (λ (n : ℕ). list_any (is_same_port last) (filter (λ out. not (there.port == out.port) && leaves net masks out) (ports_of net n)) ≡ true) same
+        subst (λ (n : ℕ). list_any (is_same_port last) (filter (λ out. not (there.port == out.port) && leaves net masks out) (ports_of net.plan n)) ≡ true) same
         (out_listed net masks there.port last own leaving other)
 
 next_in : (net : NetState) (masks : List (List ℕ)) (before last : PortRef) (front : List PortRef) → goes_on net masks before last ≡ true → is_own_port net last ≡ true

@@ -12,15 +12,15 @@ use Rattle.fabric_parts.specs.declared.cable.PortRef.{PortRef}
 use Rattle.step_results.proofs.ListLemmas.{any_map, list_any_weaker}
 use Rattle.topo_file.specs.Connectivity.{switches}
 use Rattle.topo_file.specs.Node.{is_switch_at, ports_at}
-use Rattle.audit_net.specs.Attached.{ports_of}
+use Rattle.audit_plan.specs.Attached.{ports_of}
 use Rattle.audit_net.specs.Net.{NetState}
-use Rattle.audit_net.proofs.EndlessLemmas.{in_kept, is_listed}
+use Rattle.audit_plan.proofs.PlaceLemmas.{in_kept, is_listed}
 use Rattle.audit_net.proofs.RoundLemmas.{are_below, settled}
 use Rattle.audit_loops.specs.Channels.{leads_to}
 use Rattle.audit_routes.proofs.SafeLemmas.{same_port}
 use Rattle.audit_multicast.specs.declared.cuts.Cut.{Cut}
 use Rattle.audit_multicast.specs.Copies.{leads_to_end, node_behind}
-use Rattle.audit_multicast.specs.Cuts.{arrives, cut_by, cut_from, cut_of, first_cut, first_member, has_members, is_member, member_switches, members_at, missed_at, missed_by, reached, spreads}
+use Rattle.audit_multicast.specs.Cuts.{arrives, cut_by, cut_from, cut_of, first_cut, first_member, has_members, is_member, member_switches, members_at, missed_at, missed_by, spreads}
 use Rattle.audit_multicast.specs.Laws.{ComesTo, CutMembersAreApart, IsMember, NoCutIsMissed, came_by, is_own_port}
 use Rattle.audit_multicast.specs.Loops.{all_outs}
 use Rattle.audit_multicast.specs.Spreading.{spread_marks}
@@ -181,9 +181,9 @@ ends_at_end net at leads = by (far_end net.plan.cables at) refl leads
 member_is : (net : NetState) (masks : List (List ℕ)) (place : ℕ) (at : PortRef) → is_switch_at net.plan.nodes place ≡ true
     → list_any (is_same_port at) (members_at net masks place) ≡ true → (at.node ≡ place) × IsMember net masks at
 member_is net masks place at switch there =
-    let listed = any_kept (is_member net masks) at (ports_of net place) there in
+    let listed = any_kept (is_member net masks) at (ports_of net.plan place) there in
     let own = range_own net at place 1 (ports_at net.plan.nodes place) (omega arith) (omega arith) listed in
-    let passes = and_parts (is_set masks at) _ (kept_are (is_member net masks) (is_member net masks) (λ one keeps. keeps) at (ports_of net place) there) in
+    let passes = and_parts (is_set masks at) _ (kept_are (is_member net masks) (is_member net masks) (λ one keeps. keeps) at (ports_of net.plan place) there) in
     let end = ends_at_end net at passes.1 in (
       own.0,
       record {
@@ -202,13 +202,13 @@ passes_member net masks at is =
     (ap (λ (o : Option PortRef). option_map_or (λ end. not (is_switch_at net.plan.nodes end.node)) o false) is.cable ∙ ap not is.end_port)
 
 member_listed : (net : NetState) (masks : List (List ℕ)) (at : PortRef) → IsMember net masks at → list_any (is_same_port at) (members_at net masks at.node) ≡ true
-member_listed net masks at is = kept_listed (is_member net masks) at (ports_of net at.node) (passes_member net masks at is) (own_listed net at is.own)
+member_listed net masks at is = kept_listed (is_member net masks) at (ports_of net.plan at.node) (passes_member net masks at is) (own_listed net at is.own)
 
 switch_listed : (net : NetState) (masks : List (List ℕ)) (at : PortRef) → IsMember net masks at → list_any (λ n. n == at.node) (member_switches net masks) ≡ true
 unfolding member_switches
 switch_listed net masks at is =
     in_kept (has_members net masks) at.node (switches net.plan.nodes)
-    (some_port (is_member net masks) at (ports_of net at.node) (own_listed net at is.own) (passes_member net masks at is))
+    (some_port (is_member net masks) at (ports_of net.plan at.node) (own_listed net at is.own) (passes_member net masks at is))
     (is_listed net.plan.nodes at.node is.switch)
 
 -- ---- switches at which members are
@@ -232,7 +232,7 @@ has_switch_there net masks place there = kept_both (has_members net masks) (is_s
 
 first_listed : (net : NetState) (masks : List (List ℕ)) (place : ℕ) → has_members net masks place ≡ true
     → list_any (is_same_port (first_member net masks place)) (members_at net masks place) ≡ true
-first_listed net masks place some = by (members_at net masks place) (kept_some (is_member net masks) (ports_of net place) some)
+first_listed net masks place some = by (members_at net masks place) (kept_some (is_member net masks) (ports_of net.plan place) some)
   where
     kept_some : (p : PortRef → Bool) (xs : List PortRef) → list_any p xs ≡ true → (length (filter p xs) == 0) ≡ false
     kept_some p [] none = absurd (false≢true none)

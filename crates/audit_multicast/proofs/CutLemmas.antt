@@ -11,7 +11,7 @@ use Rattle.topo_file.specs.Connectivity.{switches}
 use Rattle.audit_net.specs.Net.{NetState}
 use Rattle.topo_file.specs.Node.{is_switch_at}
 use Rattle.topo_file.specs.Rounds.{is_marked}
-use Rattle.audit_net.proofs.EndlessLemmas.{within_nodes}
+use Rattle.audit_plan.proofs.PlaceLemmas.{within_nodes}
 use Rattle.audit_net.proofs.RoundLemmas.{AreGrowing, are_below, same_on}
 use Rattle.audit_loops.specs.Marks.{some_marked}
 use Rattle.audit_multicast.specs.Copies.{node_behind}

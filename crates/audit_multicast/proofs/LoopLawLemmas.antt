@@ -10,12 +10,12 @@ use Rattle.fabric_parts.specs.declared.cable.PortRef.{PortRef}
 use Rattle.step_results.proofs.ListLemmas.{any_flat}
 use Rattle.topo_file.specs.Connectivity.{switches}
 use Rattle.topo_file.specs.Node.{is_switch_at, ports_at}
-use Rattle.audit_net.specs.Attached.{ports_of}
+use Rattle.audit_plan.specs.Attached.{ports_of}
 use Rattle.audit_loops.specs.Laws.{is_cycle, wait_round}
 use Rattle.audit_net.specs.Net.{NetState}
 use Rattle.audit_loops.proofs.CycleLawLemmas.{are_among, no_ring_missed, rings_wait}
 use Rattle.audit_net.proofs.EndlessLemmas.{any_of}
-use Rattle.audit_net.proofs.EndlessLemmas.{is_listed}
+use Rattle.audit_plan.proofs.PlaceLemmas.{is_listed}
 use Rattle.audit_routes.proofs.SafeLemmas.{same_port}
 use Rattle.audit_multicast.specs.Laws.{MaskLoopsGoRound, NoMaskLoopIsMissed, is_own_port}
 use Rattle.audit_multicast.specs.Loops.{all_outs, loop_of}
@@ -36,7 +36,7 @@ port_listed at low (suc many) from to = elim (cases_Bool (at.port == low)) [
       or_right (is_same_port at (port at.node low)) _ (port_listed at (low + 1) many (omega (arith, from, apart)) (omega (arith, to)))
 ]
 
-pub own_listed : (net : NetState) (at : PortRef) → is_own_port net at ≡ true → list_any (is_same_port at) (ports_of net at.node) ≡ true
+pub own_listed : (net : NetState) (at : PortRef) → is_own_port net at ≡ true → list_any (is_same_port at) (ports_of net.plan at.node) ≡ true
 own_listed net at own =
     let parts = and_parts (nat_le 1 at.port) _ own in
     port_listed at 1 (ports_at net.plan.nodes at.node) (grind (arith, nat_tests, parts.0)) (grind (arith, nat_tests, parts.1))
@@ -57,7 +57,7 @@ kept_listed p at (x ∷ xs) passes there = elim (cases_Bool (is_same_port at x))
 pub out_listed : (net : NetState) (masks : List (List ℕ)) (number : ℕ) (at : PortRef) → is_own_port net at ≡ true → leaves net masks at ≡ true → (number == at.port) ≡ false
     → list_any (is_same_port at) (outs net masks (port at.node number)) ≡ true
 out_listed net masks number at own leaving other =
-    kept_listed (λ out. not (number == out.port) && leaves net masks out) at (ports_of net at.node)
+    kept_listed (λ out. not (number == out.port) && leaves net masks out) at (ports_of net.plan at.node)
     (and_from (not (number == at.port)) _ (ap not other) leaving) (own_listed net at own)
 
 pub out_among : (net : NetState) (masks : List (List ℕ)) (at : PortRef) → is_switch_at net.plan.nodes at.node ≡ true → is_own_port net at ≡ true → leaves net masks at ≡ true
@@ -147,7 +147,7 @@ some_leave net masks at [] there = absurd (false≢true there)
 some_leave net masks at (place ∷ places) there =
     let parts = any_flat (is_same_port at) (λ one. outs net masks (port one 0)) (place ∷ places) in
     elim (cases_Bool (list_any (is_same_port at) (outs net masks (port place 0)))) [
-      | inl here ↦ kept_are (leaves net masks) (λ out. not (0 == out.port) && leaves net masks out) (λ out passes. (and_parts (not (0 == out.port)) _ passes).1) at (ports_of net place) here
+      | inl here ↦ kept_are (leaves net masks) (λ out. not (0 == out.port) && leaves net masks out) (λ out passes. (and_parts (not (0 == out.port)) _ passes).1) at (ports_of net.plan place) here
       | inr other ↦ some_leave net masks at places (any_flat (is_same_port at) (λ one. outs net masks (port one 0)) places ∙ (rw other at (sym parts ∙ there)))
     ]
 

@@ -1,7 +1,7 @@
 -- Switches that the copies of a packet come to, and the first that they come to again.
-use Rattle.std.proofs.Common.{◌≡◌, ◌∙◌, inl, inr, ap, refl, sym, ℕ, zero, suc, ◌+◌, ◌-◌, ◌<◌, ◌≤◌, nat_lt, Bool, true, false, ◌==◌, ◌&&◌, ◌||◌, not, List, [], ◌∷◌, ◌++◌, length, map, filter, drop, get_or, Option, Some, None, if◌then◌else◌, option_map, arith}
+use Rattle.std.proofs.Common.{◌≡◌, ◌∙◌, inl, inr, ap, refl, sym, ℕ, zero, suc, ◌+◌, ◌-◌, ◌<◌, ◌≤◌, nat_lt, Bool, true, false, ◌==◌, ◌&&◌, ◌||◌, not, List, [], ◌∷◌, ◌++◌, length, map, filter, drop, get_or, Option, Some, None, if◌then◌else◌, arith}
 use Rattle.std.specs.List.{list_all, list_any, range_with_len}
-use Rattle.std.specs.Option.{option_map_or, option_or}
+use Rattle.std.specs.Option.{option_map_or}
 use Rattle.std.proofs.lemmas.Bool.{and_from, and_parts, cases_Bool, eqb-true, false≢true}
 use Rattle.std.proofs.lemmas.Bool.Decides.{nat_tests}
 use Rattle.fabric_parts.specs.Cable.{far_end, port}
@@ -11,12 +11,11 @@ use Rattle.step_results.proofs.BoolLemmas.{false_more, or_assoc}
 use Rattle.topo_file.specs.Connectivity.{switches}
 use Rattle.topo_file.specs.Node.{is_switch_at}
 use Rattle.topo_file.specs.Rounds.{is_marked}
-use Rattle.audit_net.specs.Attached.{ports_of}
+use Rattle.audit_plan.specs.Attached.{ports_of}
 use Rattle.audit_loops.specs.Channels.{is_channel}
 use Rattle.audit_net.specs.Net.{NetState}
-use Rattle.audit_net.proofs.EndlessLemmas.{within_nodes}
-use Rattle.audit_multicast.specs.Copies.{again, arrivals, entrances, first_copy, hop, next_outs, node_behind, second_copy, takes_packets}
-use Rattle.audit_multicast.specs.Copies.{copy_from}
+use Rattle.audit_plan.proofs.PlaceLemmas.{within_nodes}
+use Rattle.audit_multicast.specs.Copies.{again, arrivals, entrances, hop, next_outs, node_behind, takes_packets}
 use Rattle.audit_multicast.specs.Ways.{is_set, leaves, outs}
 use Rattle.audit_multicast.proofs.MarkLemmas.{AreMarkedOf, all_marked_of, cut_here, marked_next}
 
@@ -106,7 +105,7 @@ outs_inside net masks here =
     (λ out passes.
     let parts = and_parts (not (here.port == out.port)) _ passes in
     let both = and_parts (is_set masks out) _ parts.1 in
-    channel_inside net out both.1) (ports_of net here.node)
+    channel_inside net out both.1) (ports_of net.plan here.node)
 
 next_inside : (net : NetState) (masks : List (List ℕ)) (at : PortRef) → list_all (λ out. nat_lt (node_behind net out) (length net.plan.nodes)) (next_outs net masks at) ≡ true
 next_inside net masks at = by (far_end net.plan.cables at)

@@ -10,7 +10,7 @@ use Rattle.step_results.proofs.BoolLemmas.{none_of as none_found, not_true}
 use Rattle.topo_file.specs.Connectivity.{switches}
 use Rattle.topo_file.specs.Node.{is_switch_at}
 use Rattle.audit_net.specs.Net.{NetState}
-use Rattle.audit_net.proofs.EndlessLemmas.{is_listed}
+use Rattle.audit_plan.proofs.PlaceLemmas.{is_listed}
 use Rattle.audit_loops.proofs.CycleLawLemmas.{are_among, rings_wait}
 use Rattle.audit_net.specs.Lids.{aims}
 use Rattle.audit_routes.specs.Audit.{audit_of, findings_of}

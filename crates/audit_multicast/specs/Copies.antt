@@ -6,7 +6,7 @@ use Rattle.fabric_parts.specs.Cable.{far_end, port}
 use Rattle.fabric_parts.specs.declared.cable.PortRef.{PortRef}
 use Rattle.topo_file.specs.Connectivity.{switches}
 use Rattle.topo_file.specs.Node.{is_switch_at}
-use Rattle.audit_net.specs.Attached.{ports_of}
+use Rattle.audit_plan.specs.Attached.{ports_of}
 use Rattle.audit_net.specs.Net.{NetState}
 use Rattle.audit_multicast.specs.declared.copies.SecondCopy.{SecondCopy}
 use Rattle.audit_multicast.specs.Ways.{outs}
@@ -16,7 +16,7 @@ abbrev pub leads_to_end : NetState → PortRef → Bool
 leads_to_end net at = option_map_or (λ there. not (is_switch_at net.plan.nodes there.node)) (far_end net.plan.cables at) false
 
 abbrev pub takes_packets : NetState → ℕ → Bool
-takes_packets net place = list_any (leads_to_end net) (ports_of net place)
+takes_packets net place = list_any (leads_to_end net) (ports_of net.plan place)
 
 abbrev pub entrances : NetState → List ℕ
 entrances net = filter (takes_packets net) (switches net.plan.nodes)

@@ -1,11 +1,11 @@
 -- Groups that are cut: of two end ports to which masks of the MLID lead, what the one sends does not come to the other.
-use Rattle.std.specs.Prelude.{ℕ, zero, suc, ◌==◌, ◌&&◌, ◌||◌, Bool, not, if◌then◌else◌, List, [], ◌∷◌, filter, flat_map, get_or, length, map, Option, Some, None}
+use Rattle.std.specs.Prelude.{ℕ, zero, suc, ◌==◌, ◌&&◌, ◌||◌, Bool, if◌then◌else◌, List, [], ◌∷◌, filter, flat_map, get_or, length, map, Option, Some, None}
 use Rattle.std.specs.List.{list_any}
 use Rattle.std.specs.Option.{option_or}
 use Rattle.fabric_parts.specs.Cable.{port}
 use Rattle.fabric_parts.specs.declared.cable.PortRef.{PortRef}
 use Rattle.topo_file.specs.Connectivity.{switches}
-use Rattle.audit_net.specs.Attached.{ports_of}
+use Rattle.audit_plan.specs.Attached.{ports_of}
 use Rattle.audit_net.specs.Net.{NetState}
 use Rattle.audit_multicast.specs.declared.cuts.Cut.{Cut}
 use Rattle.audit_multicast.specs.Copies.{leads_to_end, node_behind}
@@ -17,10 +17,10 @@ abbrev pub is_member : NetState → List (List ℕ) → PortRef → Bool
 is_member net masks at = is_set masks at && leads_to_end net at
 
 abbrev pub members_at : NetState → List (List ℕ) → ℕ → List PortRef
-members_at net masks place = filter (is_member net masks) (ports_of net place)
+members_at net masks place = filter (is_member net masks) (ports_of net.plan place)
 
 abbrev pub has_members : NetState → List (List ℕ) → ℕ → Bool
-has_members net masks place = list_any (is_member net masks) (ports_of net place)
+has_members net masks place = list_any (is_member net masks) (ports_of net.plan place)
 
 unfoldable pub member_switches : NetState → List (List ℕ) → List ℕ
 member_switches net masks = filter (has_members net masks) (switches net.plan.nodes)

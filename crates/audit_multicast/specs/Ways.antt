@@ -4,7 +4,7 @@ use Rattle.std.specs.List.{list_any}
 use Rattle.std.specs.Option.{option_map_or}
 use Rattle.fabric_parts.specs.Cable.{far_end}
 use Rattle.fabric_parts.specs.declared.cable.PortRef.{PortRef}
-use Rattle.audit_net.specs.Attached.{ports_of}
+use Rattle.audit_plan.specs.Attached.{ports_of}
 use Rattle.audit_loops.specs.Channels.{is_channel}
 use Rattle.audit_net.specs.Net.{NetState}
 
@@ -22,7 +22,7 @@ turns here out = (here.node == out.node) && not (here.port == out.port)
 
 -- what comes in by this port leaves by these, if they lead to a switch. What comes in by port 0, which leads to none, leaves by all
 abbrev pub outs : NetState → List (List ℕ) → PortRef → List PortRef
-outs net masks here = filter (λ out. not (here.port == out.port) && leaves net masks out) (ports_of net here.node)
+outs net masks here = filter (λ out. not (here.port == out.port) && leaves net masks out) (ports_of net.plan here.node)
 
 -- what leaves by the first port comes to the switch of the second, by another port
 abbrev pub comes_to : NetState → PortRef → PortRef → Bool

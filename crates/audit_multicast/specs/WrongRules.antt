@@ -10,7 +10,7 @@ use Rattle.fabric_parts.specs.declared.node_type.NodeType.TheVariants.{ChannelAd
 use Rattle.topo_file.specs.Connectivity.{switches}
 use Rattle.topo_file.specs.declared.node.Node.{Node}
 use Rattle.audit_loops.specs.Cycle.{cycle}
-use Rattle.audit_net.specs.Attached.{ports_of}
+use Rattle.audit_plan.specs.Attached.{ports_of}
 use Rattle.audit_net.specs.Net.{NetState}
 use Rattle.audit_routes.specs.Verdict.{reasons}
 use Rattle.audit_routes.specs.declared.verdict.Verdict.{Verdict}
@@ -110,7 +110,7 @@ round_the_corner = (1 ∷ 2 ∷ []) ∷ [] ∷ (2 ∷ []) ∷ []
 
 -- ---- each end port counts as a member
 abbrev pub end_ports : NetState → List PortRef
-end_ports net = filter (leads_to_end net) (flat_map (ports_of net) (switches net.plan.nodes))
+end_ports net = filter (leads_to_end net) (flat_map (ports_of net.plan) (switches net.plan.nodes))
 
 abbrev pub first_end : NetState → PortRef
 first_end net = get_or (end_ports net) 0 (port 0 0)

@@ -27,8 +27,8 @@ pub struct SecondCopy {
 pub(crate) fn leads_to_end(net: &Net<'_>, at: PortRef) -> bool
     ensures { result ≡ leads_to_end net.now at }
 {
-    match net.far_end(at) {
-        Some(there) => !net.is_switch_at(there.node),
+    match net.links().far_end(at) {
+        Some(there) => !net.plan().is_switch_at(there.node),
         None => false,
     }
 }
@@ -37,7 +37,7 @@ pub(crate) fn leads_to_end(net: &Net<'_>, at: PortRef) -> bool
 fn takes_packets(net: &Net<'_>, place: usize) -> bool
     ensures { result ≡ takes_packets net.now place }
 {
-    for number in 0..ports_at(net.nodes(), place) {
+    for number in 0..ports_at(net.plan().nodes(), place) {
         let at = PortRef {
             node: place,
             port: number + 1,
@@ -64,7 +64,7 @@ pub(crate) fn entrances(alloc: Global, net: &Net<'_>) -> Result<Vec<usize>, Allo
 pub(crate) fn node_behind(net: &Net<'_>, at: PortRef) -> usize
     ensures { result ≡ node_behind net.now at }
 {
-    match net.far_end(at) {
+    match net.links().far_end(at) {
         Some(there) => there.node,
         None => 0,
     }
@@ -108,7 +108,7 @@ fn push_next_outs(
 ) -> Result<(), AllocError>
     ensures { OnOk result (ports.new.items ≡ ports.old.items ++ next_outs net.now masks.now at) }
 {
-    match net.far_end(at) {
+    match net.links().far_end(at) {
         Some(there) => push_outs(net, masks, there, ports),
         None => Ok(()),
     }
@@ -170,9 +170,9 @@ fn second_copy(
     requires { place < length net.now.plan.nodes }
     ensures { IfOk result (λ found. found ≡ second_copy net.now masks.now place) }
 {
-    let mut met = met_first(alloc, net.nodes().len(), place)?;
+    let mut met = met_first(alloc, net.plan().nodes().len(), place)?;
     let mut front = first_outs(alloc, net, masks, place)?;
-    for _ in 0..net.nodes().len() {
+    for _ in 0..net.plan().nodes().len() {
         if front.as_slice().is_empty() {
             return Ok(None);
         }

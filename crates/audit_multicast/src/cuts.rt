@@ -119,7 +119,7 @@ fn push_members(
 ) -> Result<(), AllocError>
     ensures { OnOk result (members.new.items ≡ members.old.items ++ members_at net.now masks.now place) }
 {
-    for number in 0..ports_at(net.nodes(), place) {
+    for number in 0..ports_at(net.plan().nodes(), place) {
         push_member(net, masks, place, members, number)?;
     }
     Ok(())
@@ -128,7 +128,7 @@ fn push_members(
 fn has_members(net: &Net<'_>, masks: &[Ports], place: usize) -> bool
     ensures { result ≡ has_members net.now masks.now place }
 {
-    for number in 0..ports_at(net.nodes(), place) {
+    for number in 0..ports_at(net.plan().nodes(), place) {
         let at = PortRef {
             node: place,
             port: number + 1,
@@ -278,7 +278,7 @@ fn arrivals(
 {
     let marks = spread(alloc, net, all, before, place)?;
     let places = nodes_behind(alloc, net, all, &marks)?;
-    let met = met_at(alloc, net.nodes().len(), place, &places)?;
+    let met = met_at(alloc, net.plan().nodes().len(), place, &places)?;
     Ok(met)
 }
 

@@ -28,7 +28,7 @@ fn push_mlid(text: &mut Vec<u8>, mlid: u16) -> Result<(), AllocError>
 pub(crate) fn mft_at<'a>(net: &Net<'_>, mfts: &'a Mfts, place: usize) -> Option<&'a MaskTable>
     ensures { option_copied result ≡ mft_at net.now mfts.now.tables place }
 {
-    let node = net.nodes().get(place)?;
+    let node = net.plan().nodes().get(place)?;
     table_of(mfts, node.guid())
 }
 
@@ -68,7 +68,7 @@ fn push_no_mfts(net: &Net<'_>, text: &mut Vec<u8>, mfts: &Mfts) -> Result<(), Al
 fn push_strange_mft(net: &Net<'_>, text: &mut Vec<u8>, table: &MaskTable) -> Result<(), AllocError>
     ensures { OnOk result (text.new.items ≡ text.old.items ++ strange_mft_line net.now table.now) }
 {
-    if !has_switch(table.guid, net.nodes()) {
+    if !has_switch(table.guid, net.plan().nodes()) {
         text.extend_from_slice(b"multicast no-switch ")?;
         push_guid(text, table.guid)?;
         text.push(b'\n')?;
@@ -120,7 +120,7 @@ fn push_mask(
 fn is_past(net: &Net<'_>, place: usize, number: u8) -> bool
     ensures { result ≡ is_past net.now place number }
 {
-    ports_at(net.nodes(), place) < number
+    ports_at(net.plan().nodes(), place) < number
 }
 
 fn is_uncabled(net: &Net<'_>, place: usize, number: u8) -> bool
@@ -130,7 +130,7 @@ fn is_uncabled(net: &Net<'_>, place: usize, number: u8) -> bool
         node: place,
         port: number,
     };
-    net.far_end(at).is_none()
+    net.links().far_end(at).is_none()
 }
 
 fn push_mask_port(net: &Net<'_>, text: &mut Vec<u8>, port: MaskPort) -> Result<(), AllocError>
@@ -273,7 +273,7 @@ fn push_copy(
 fn end_behind(net: &Net<'_>, at: PortRef) -> PortRef
     ensures { result ≡ end_behind net.now at }
 {
-    match net.far_end(at) {
+    match net.links().far_end(at) {
         Some(end) => end,
         None => at,
     }

@@ -66,7 +66,7 @@ pub(crate) fn masks_of(
     ensures { IfOk result (λ masks. masks.items ≡ masks_of net.now mfts.now.tables mlid) }
 {
     let mut masks = Vec::new(alloc);
-    for node in net.nodes() {
+    for node in net.plan().nodes() {
         masks.push(mask_of(alloc, mfts, mlid, node)?)?;
     }
     Ok(masks)

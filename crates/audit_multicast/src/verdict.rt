@@ -31,7 +31,7 @@ pub(crate) struct MulticastVerdict {
 fn is_of_fabric(net: &Net<'_>, table: &MaskTable) -> bool
     ensures { result ≡ is_of_fabric net.now table.now }
 {
-    has_switch(table.guid, net.nodes())
+    has_switch(table.guid, net.plan().nodes())
 }
 
 fn all_are_of_fabric(net: &Net<'_>, tables: &[MaskTable]) -> bool

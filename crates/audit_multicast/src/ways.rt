@@ -44,7 +44,7 @@ fn turns(here: PortRef, out: PortRef) -> bool
 pub(crate) fn comes_to(net: &Net<'_>, first: PortRef, second: PortRef) -> bool
     ensures { result ≡ comes_to net.now first second }
 {
-    match net.far_end(first) {
+    match net.links().far_end(first) {
         Some(there) => turns(there, second),
         None => false,
     }
@@ -80,7 +80,7 @@ pub(crate) fn push_outs(
 ) -> Result<(), AllocError>
     ensures { OnOk result (ports.new.items ≡ ports.old.items ++ outs net.now masks.now here) }
 {
-    for number in 0..ports_at(net.nodes(), here.node) {
+    for number in 0..ports_at(net.plan().nodes(), here.node) {
         push_out(net, masks, here, ports, number)?;
     }
     Ok(())

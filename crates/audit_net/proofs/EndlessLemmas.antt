@@ -1,16 +1,14 @@
 -- What never ends, and ways that do.
-use Rattle.std.proofs.Common.{◌≡◌, ◌∙◌, inl, inr, ap, refl, subst, sym, ℕ, zero, suc, ◌+◌, ◌<◌, ◌≤◌, Bool, true, false, not, ◌==◌, ◌||◌, List, [], ◌∷◌, length, map, filter, arith, Option, Some, None, is_some, option_map}
-use Rattle.std.specs.List.{list_any, range_with_len}
-use Rattle.std.specs.Option.{option_map_or}
-use Rattle.std.proofs.lemmas.Bool.{and_parts, cases_Bool, cases_lt, eq-eqb, false≢true, or_right}
+use Rattle.std.proofs.Common.{◌≡◌, ◌∙◌, inl, inr, ap, refl, subst, sym, ℕ, zero, suc, Bool, true, not, ◌==◌, ◌||◌, List, [], ◌∷◌, length, map, arith, Option, Some, None, is_some, option_map}
+use Rattle.std.specs.List.{list_any}
+use Rattle.std.proofs.lemmas.Bool.{and_parts, cases_Bool, eq-eqb, false≢true, or_right}
 use Rattle.std.proofs.lemmas.Bool.Decides.{nat_tests}
 use Rattle.std.proofs.lemmas.List.{length-map}
-use Rattle.std.proofs.lemmas.Option.{same_Some, slice_get_past}
+use Rattle.std.proofs.lemmas.Option.{same_Some}
 use Rattle.fabric_parts.specs.Cable.{far_end, port}
 use Rattle.fabric_parts.specs.declared.cable.PortRef.{PortRef}
 use Rattle.topo_file.specs.Connectivity.{switches}
-use Rattle.topo_file.specs.Node.{is_switch, is_switch_at}
-use Rattle.topo_file.specs.declared.node.Node.{Node}
+use Rattle.topo_file.specs.Node.{is_switch_at}
 use Rattle.audit_net.specs.declared.entry.Entry.{Entry}
 use Rattle.audit_net.specs.declared.entry.Entry.TheVariants.{Out, Missing, Unreported}
 use Rattle.audit_net.specs.declared.following.Turn.{Turn}
@@ -20,6 +18,7 @@ use Rattle.audit_net.specs.Laws.{EndsBy, GoRound, IsWay, LoopsNeverEnd, Reported
 use Rattle.audit_net.specs.Net.{NetState, entry}
 use Rattle.audit_net.proofs.FollowingLemmas.{ends_here}
 use Rattle.audit_net.proofs.RoundLemmas.{AreGrowing, are_below, settled}
+use Rattle.audit_plan.proofs.PlaceLemmas.{is_listed}
 
 -- ---- what goes on goes on at a switch
 goes_to_switch : (net : NetState) (number next : ℕ) (there : Option PortRef) → turn_to net number there ≡ turns.Goes next → is_switch_at net.plan.nodes next ≡ true
@@ -41,24 +40,6 @@ pub turn_goes : (net : NetState) (lid place next : ℕ) → turn net lid place �
 turn_goes net lid place next goes = goes_on_at net place next (entry net lid place) goes
 
 -- ---- all switches
-pub in_range : (k low many : ℕ) → low ≤ k → k < low + many → list_any (λ n. n == k) (range_with_len low many) ≡ true
-in_range k low zero from to = absurd (omega (arith, from, to))
-in_range k low (suc many) from to = elim (cases_Bool (low == k)) [
-  | inl here ↦ rw here refl
-  | inr other ↦ let apart : low ≡ k → ⊥ = (λ same. let is : (low == k) ≡ true = eq-eqb low k same in false≢true (sym other ∙ is)) in
-      rw other (in_range k (low + 1) many (omega (arith, from, apart)) (omega (arith, to)))
-]
-
-pub in_kept : (p : ℕ → Bool) (k : ℕ) (xs : List ℕ) → p k ≡ true → list_any (λ n. n == k) xs ≡ true → list_any (λ n. n == k) (filter p xs) ≡ true
-in_kept p k [] passes there = absurd (false≢true there)
-in_kept p k (x ∷ xs) passes there = elim (cases_Bool (x == k)) [
-  | inl here ↦ let same : k ≡ x = grind (arith, nat_tests, here) in let kept : p x ≡ true = ap p (sym same) ∙ passes in rw (kept, here) refl
-  | inr other ↦ let later = in_kept p k xs passes (rw other at there) in elim (cases_Bool (p x)) [
-    | inl keeps ↦ rw keeps (or_right (x == k) _ later)
-    | inr drops ↦ rw drops later
-  ]
-]
-
 pub some_of : (p : ℕ → Bool) (xs : List ℕ) → list_any p xs ≡ true → (x : ℕ) × (p x ≡ true) × (list_any (λ y. y == x) xs ≡ true)
 some_of p [] some = absurd (false≢true some)
 some_of p (x ∷ xs) some = elim (cases_Bool (p x)) [
@@ -72,15 +53,6 @@ any_of p (y ∷ ys) x there passes = elim (cases_Bool (y == x)) [
   | inl here ↦ let same : x ≡ y = grind (arith, nat_tests, here) in let now : p y ≡ true = ap p (sym same) ∙ passes in rw now refl
   | inr other ↦ or_right (p y) _ (any_of p ys x (rw other at there) passes)
 ]
-
-pub within_nodes : (nodes : List Node) (place : ℕ) → is_switch_at nodes place ≡ true → place < length nodes
-within_nodes nodes place is = elim (cases_lt place (length nodes)) [
-  | inl less ↦ less
-  | inr past ↦ absurd (false≢true (sym (ap (λ (o : Option Node). option_map_or is_switch o false) (slice_get_past nodes place past)) ∙ is))
-]
-
-pub is_listed : (nodes : List Node) (place : ℕ) → is_switch_at nodes place ≡ true → list_any (λ n. n == place) (switches nodes) ≡ true
-is_listed nodes place is = in_kept (is_switch_at nodes) place (range_with_len 0 (length nodes)) is (in_range place 0 (length nodes) (omega arith) (let less = within_nodes nodes place is in omega (arith, less)))
 
 -- ---- marks of the switches from which it ends within so many
 pub same_at : (f g : ℕ → Bool) (k : ℕ) (xs : List ℕ) → map f xs ≡ map g xs → list_any (λ n. n == k) xs ≡ true → f k ≡ g k

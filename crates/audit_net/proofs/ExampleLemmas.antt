@@ -1,6 +1,6 @@
 -- Entries, and what comes of packets, computed.
 use Rattle.std.proofs.Common.{refl}
-use Rattle.audit_net.specs.Examples.{AttachedAreReported, EntriesAreReported, FatesAreReported, LoopsAreReported, TurnsAreReported, WaysAreReported}
+use Rattle.audit_net.specs.Examples.{EntriesAreReported, FatesAreReported, LoopsAreReported, TurnsAreReported, WaysAreReported}
 
 pub entries_are_reported : EntriesAreReported
 entries_are_reported = record {
@@ -14,9 +14,6 @@ entries_are_reported = record {
   below_the_top = refl;
   without_table = refl;
 }
-
-pub attached_are_reported : AttachedAreReported
-attached_are_reported = record { first = refl; second = refl }
 
 pub turns_are_reported : TurnsAreReported
 turns_are_reported = record { there = refl; on = refl; at_the_switch = refl; closed = refl; without_cable = refl; not_shown = refl }

@@ -1,9 +1,9 @@
 -- The switches that packets of hosts come to.
-use Rattle.std.proofs.Common.{◌≡◌, ◌∙◌, inl, inr, ap, refl, subst, sym, ℕ, zero, suc, ◌+◌, ◌-◌, ◌<◌, ◌≤◌, Bool, true, false, ◌==◌, ◌&&◌, ◌||◌, List, [], ◌∷◌, add-one, drop, drop-cons, filter, get_or, length, map, arith}
+use Rattle.std.proofs.Common.{◌≡◌, ◌∙◌, inl, inr, ap, refl, sym, ℕ, zero, suc, ◌+◌, ◌-◌, ◌<◌, ◌≤◌, Bool, true, false, ◌==◌, ◌||◌, List, [], ◌∷◌, drop, filter, get_or, length, map, arith}
 use Rattle.std.specs.Cmp.{both_ways}
 use Rattle.std.specs.List.{list_all, list_any, range_with_len}
 use Rattle.std.proofs.Math.ListN.{drop_of_length-le}
-use Rattle.std.proofs.lemmas.Bool.{and_from, and_parts, cases_Bool, cases_lt, false≢true}
+use Rattle.std.proofs.lemmas.Bool.{and_from, and_parts, cases_Bool, false≢true}
 use Rattle.std.proofs.lemmas.Bool.Decides.{nat_tests}
 use Rattle.step_results.proofs.ListLemmas.{all_at}
 use Rattle.step_results.proofs.BoolLemmas.{or_assoc, or_false}
@@ -12,16 +12,17 @@ use Rattle.topo_file.specs.Node.{is_switch_at}
 use Rattle.topo_file.specs.declared.node.Node.{Node}
 use Rattle.topo_file.specs.Rounds.{is_marked}
 use Rattle.audit_net.specs.declared.following.Turn.{Turn}
-use Rattle.audit_net.specs.declared.following.Turn.TheVariants as turns
-use Rattle.audit_net.specs.Attached.{carries_host}
+use Rattle.audit_plan.specs.Attached.{carries_host}
 use Rattle.audit_net.specs.Following.{switch_total, turn}
 use Rattle.audit_net.specs.Hosts.{host_comes, hosts_come, hosts_marks}
-use Rattle.audit_net.specs.Laws.{ComesBy, GoesTo, HostsAreFollowed, HostsCome}
+use Rattle.audit_net.specs.Laws.{GoesTo, HostsAreFollowed, HostsCome}
 use Rattle.audit_net.specs.Net.{NetState}
-use Rattle.audit_net.specs.Ways.{is_on, then_on, way, way_within}
-use Rattle.audit_net.proofs.EndlessLemmas.{any_of, is_listed, some_of, turn_goes, within_nodes}
+use Rattle.audit_plan.specs.Plan.{is_on}
+use Rattle.audit_net.specs.Ways.{then_on, way, way_within}
+use Rattle.audit_net.proofs.EndlessLemmas.{any_of, some_of, turn_goes}
+use Rattle.audit_plan.proofs.PlaceLemmas.{is_listed, within_nodes}
 use Rattle.audit_net.proofs.WholeLemmas.{are_switches, ways_are_whole}
-use Rattle.audit_net.proofs.WayLemmas.{Stays, goes_step, stays_alone}
+use Rattle.audit_net.proofs.WayLemmas.{Stays, stays_alone}
 
 -- ---- a walk along a way: what was marked, and what is left of the way, are what was marked before, and the whole way
 pub record AreWalked (net : NetState) (lid from count at : ℕ) (before marks : List Bool) : Type 0 where
@@ -163,13 +164,13 @@ is_marked_there net lid there is =
     let on = ways_are_whole.comes net lid is.from there is.over is.switch is.comes in
     let within = within_nodes net.plan.nodes there (are_switches net lid is.from (switch_total net) there is.switch on) in
     marked_at (hosts_come net lid) 0 (length net.plan.nodes) there there (omega arith) within
-    ∙ any_of (host_comes net lid there) (switches net.plan.nodes) is.from (is_listed net.plan.nodes is.from is.switch) (and_from (carries_host net is.from) _ is.carries on)
+    ∙ any_of (host_comes net lid there) (switches net.plan.nodes) is.from (is_listed net.plan.nodes is.from is.switch) (and_from (carries_host net.plan is.from) _ is.carries on)
 
 is_come_there : (net : NetState) (lid there : ℕ) → is_marked (hosts_marks net lid) there ≡ true → HostsCome net lid there
 is_come_there net lid there marked =
     let within = marked_within (hosts_come net lid) 0 (length net.plan.nodes) there marked in
     let some = some_of (host_comes net lid there) (switches net.plan.nodes) (sym (marked_at (hosts_come net lid) 0 (length net.plan.nodes) there there (omega arith) within) ∙ marked) in
-    let parts = and_parts (carries_host net some.0) _ some.1 in
+    let parts = and_parts (carries_host net.plan some.0) _ some.1 in
     let found = ways_are_whole.there net lid some.0 there parts.1 in
     record {
       from = some.0;
@@ -186,7 +187,7 @@ hosts_are_followed = record { comes = is_marked_there; there = is_come_there }
 comes_marked : (net : NetState) (lid there : ℕ) → hosts_come net lid there ≡ true → is_marked (hosts_marks net lid) there ≡ true
 comes_marked net lid there comes =
     let some = some_of (host_comes net lid there) (switches net.plan.nodes) comes in
-    let parts = and_parts (carries_host net some.0) _ some.1 in
+    let parts = and_parts (carries_host net.plan some.0) _ some.1 in
     let switch = kept_passes (is_switch_at net.plan.nodes) some.0 _ some.2 in
     let within = within_nodes net.plan.nodes there (are_switches net lid some.0 (switch_total net) there switch parts.1) in
     marked_at (hosts_come net lid) 0 (length net.plan.nodes) there there (omega arith) within ∙ comes

@@ -1,7 +1,6 @@
 -- LIDs that end ports report, found by number.
-use Rattle.std.proofs.Common.{ℕ, zero, suc, ◌≡◌, ◌∙◌, ◌+◌, ◌-◌, ◌<◌, ◌≤◌, ◌==◌, ◌&&◌, ◌||◌, ap, inl, inr, refl, sym, Bool, cond, nat_eq, not, List, ◌∷◌, drop, get_or, length, Option, Some, None, arith}
+use Rattle.std.proofs.Common.{ℕ, zero, suc, ◌≡◌, ◌∙◌, ◌+◌, ◌-◌, ◌<◌, ◌≤◌, ◌==◌, ◌&&◌, ◌||◌, ap, inl, inr, refl, sym, Bool, cond, nat_eq, not, List, ◌∷◌, drop, get_or, length, Some, arith}
 use Rattle.std.specs.List.{list_any, range_with_len}
-use Rattle.std.specs.Option.{option_or}
 use Rattle.std.proofs.lemmas.Bool.{cases_Bool}
 use Rattle.step_results.proofs.BoolLemmas.{or_assoc, or_false}
 use Rattle.indexmap.specs.IndexMap.{IndexMap, get}

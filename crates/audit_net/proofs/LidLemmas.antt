@@ -1,11 +1,8 @@
 -- Marks of the LIDs that rows name.
-use Rattle.std.proofs.Common.{◌≡◌, ◌≢◌, ◌∙◌, inl, inr, ap, refl, sym, ℕ, suc, ◌+◌, ◌<◌, ◌≤◌, Bool, true, false, ◌==◌, ◌||◌, List, [], ◌∷◌, ◌++◌, length, drop, map, filter, flat_map, get_or, slice_get, slice_set, arith, Option, Some, unwrap_or, add-one, drop-cons}
+use Rattle.std.proofs.Common.{◌≡◌, ◌∙◌, inl, inr, ap, refl, sym, ℕ, suc, ◌+◌, ◌<◌, ◌≤◌, Bool, true, ◌==◌, ◌||◌, List, [], ◌∷◌, ◌++◌, length, drop, map, filter, flat_map, get_or, arith, add-one, drop-cons}
 use Rattle.std.specs.List.{range_with_len, list_any}
-use Rattle.std.proofs.lemmas.Bool.{cases_Bool, eq-eqb, false≢true, or_right}
-use Rattle.std.proofs.lemmas.Bool.Decides.{nat_tests}
+use Rattle.std.proofs.lemmas.Bool.{cases_Bool}
 use Rattle.std.proofs.lemmas.List.{drop_all}
-use Rattle.std.proofs.lemmas.Option.{slice_get-get_or}
-use Rattle.step_results.proofs.ElementLemmas.{get_other, get_written}
 use Rattle.step_results.proofs.RangeLemmas.{flat_more}
 use Rattle.step_results.proofs.BoolLemmas.{or_assoc, or_false}
 use Rattle.dump_file.specs.declared.row.Row.{Row}
@@ -14,7 +11,7 @@ use Rattle.dump_file.specs.Table.{rows_of}
 use Rattle.topo_file.specs.Rounds.{is_marked}
 use Rattle.audit_net.specs.Lids.{aim_if, aim_of, aims, aims_below, all_lids, is_known_lid, is_named}
 use Rattle.audit_net.specs.Net.{NetState}
-use Rattle.audit_net.proofs.EndlessLemmas.{in_range}
+use Rattle.audit_plan.proofs.PlaceLemmas.{in_range}
 
 -- ---- marks of rows
 pub record AreMarked (before : List Bool) (rows : List Row) (index : ℕ) (marks : List Bool) : Type 0 where
@@ -54,13 +51,6 @@ aims_by net test [] = refl
 aims_by net test (lid ∷ lids) = elim (cases_Bool (test lid)) [
   | inl here ↦ rw (here, aims_by net test lids) refl
   | inr other ↦ rw (other, aims_by net test lids) refl
-]
-
-pub filter_alike : (p q : ℕ → Bool) → ((x : ℕ) → p x ≡ q x) → (xs : List ℕ) → filter p xs ≡ filter q xs
-filter_alike p q same [] = refl
-filter_alike p q same (x ∷ xs) = elim (cases_Bool (q x)) [
-  | inl here ↦ let there : p x ≡ true = same x ∙ here in rw (here, there, filter_alike p q same xs) refl
-  | inr other ↦ let there : p x ≡ false = same x ∙ other in rw (other, there, filter_alike p q same xs) refl
 ]
 
 pub aims_are : (net : NetState) → aims_below net (is_known_lid net) 65536 ≡ aims net

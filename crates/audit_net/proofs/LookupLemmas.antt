@@ -1,36 +1,19 @@
 -- What is looked up is what the definitions say.
-use Rattle.std.proofs.Common.{◌≡◌, ◌∙◌, ap, refl, sym, ℕ, zero, suc, ◌+◌, ◌-◌, ◌≤◌, inl, inr, false, ◌==◌, List, [], ◌∷◌, length, map, slice_get, arith, Option, Some, None, unwrap_or, IfSome}
-use Rattle.std.specs.List.{range_with_len}
+use Rattle.std.proofs.Common.{◌≡◌, ◌∙◌, ap, refl, sym, ℕ, zero, suc, ◌+◌, ◌-◌, ◌≤◌, inl, inr, false, ◌==◌, List, [], length, slice_get, arith, Option, Some, None, IfSome}
 use Rattle.std.specs.Option.{option_and_then, option_map_or}
 use Rattle.std.proofs.lemmas.Bool.{cases_lt}
 use Rattle.std.proofs.lemmas.Bool.Decides.{nat_tests}
 use Rattle.std.proofs.lemmas.Option.{slice_get_past}
 use Rattle.dump_file.specs.declared.table.Table.{Table}
-use Rattle.fabric_parts.specs.Cable.{far_end, port}
-use Rattle.fabric_parts.specs.declared.cable.PortRef.{PortRef}
 use Rattle.topo_file.specs.Node.{ports_at}
 use Rattle.topo_file.specs.declared.node.Node.{Node}
 use Rattle.audit_net.specs.declared.entry.Entry.{Entry}
 use Rattle.audit_net.specs.declared.entry.Entry.TheVariants.{Out, Unreported}
 use Rattle.audit_net.specs.declared.following.Turn.{Turn}
 use Rattle.audit_net.specs.Following.{turn_by}
-use Rattle.audit_net.specs.Lookup.{all_ends, all_entries, all_turns, column, column_at, end_at, ends_at, ends_of, entries_of, turn_known, turns_at, turns_of}
+use Rattle.audit_net.specs.Lookup.{all_entries, all_turns, column, column_at, entries_of, turn_known, turns_at, turns_of}
 use Rattle.audit_net.specs.Net.{NetState, entry, entry_in, table_at, table_of}
-use Rattle.audit_plan.proofs.RangeLemmas.{at_range, past_range}
-
--- an element of a range, if there is one
-at_some : {X : Type 0} (f : ℕ → X) (low many i : ℕ) (x : X) → slice_get (map f (range_with_len low many)) i ≡ Some x → f (low + i) ≡ x
-at_some f low zero i x is = absurd (cc)
-at_some f low (suc many) zero x is =
-    let here : low + 0 ≡ low = omega arith in
-    ap f here ∙ ap (λ (o : Option _). unwrap_or o (f low)) is
-at_some f low (suc many) (suc i) x is =
-    let next : low + suc i ≡ (low + 1) + i = omega arith in
-    ap f next ∙ at_some f (low + 1) many i x is
-
-none_there : {X : Type 0} (xs : List X) (i : ℕ) (x : X) → xs ≡ [] → slice_get xs i ≡ Some x → ⊥
-none_there [] i x none is = absurd (cc)
-none_there (y ∷ ys) i x none is = absurd (cc)
+use Rattle.audit_plan.proofs.RangeLemmas.{at_range, at_some, none_there, past_range}
 
 -- ---- entries
 by_table : (ports lid : ℕ) (found : Option Table) (known : Entry) → slice_get (option_map_or (column ports) found []) lid ≡ Some known
@@ -53,32 +36,6 @@ pub known_by : (net : NetState) (columns : List (List Entry)) (lid place : ℕ) 
 known_by net columns lid place None are found = tt
 known_by net columns lid place (Some known) are found =
     known_is net lid place known (ap (λ (all : List (List Entry)). slice_get (entries_of all place) lid) (sym are) ∙ sym found)
-
--- ---- far ends
-known_behind : (net : NetState) (place before : ℕ) (there : Option PortRef) → slice_get (ends_of (all_ends net) place) before ≡ Some there → there ≡ far_end net.plan.cables (port place (before + 1))
-known_behind net place before there is = elim (cases_lt place (length net.plan.nodes)) [
-  | inl within ↦
-      let at : ends_of (all_ends net) place ≡ ends_at net place = at_range (ends_at net) 0 (length net.plan.nodes) place place [] (omega arith) within in
-      let here : 0 + before ≡ before = omega arith in
-      sym (at_some (λ n. far_end net.plan.cables (port place (n + 1))) 0 (ports_at net.plan.nodes place) before there (sym (ap (λ (es : List (Option PortRef)). slice_get es before) at) ∙ is))
-      ∙ ap (λ (n : ℕ). far_end net.plan.cables (port place (n + 1))) here
-  | inr past ↦ absurd (none_there (ends_of (all_ends net) place) before there (past_range (ends_at net) 0 (length net.plan.nodes) place [] past) is)
-]
-
-known_end_is : (net : NetState) (node number : ℕ) (there : Option PortRef) → end_at (all_ends net) (port node number) ≡ Some there → there ≡ far_end net.plan.cables (port node number)
-known_end_is net node zero there is = absurd (cc)
-known_end_is net node (suc before) there is =
-    let less : suc before - 1 ≡ before = omega arith in
-    let some : (suc before == 0) ≡ false = grind (arith, nat_tests) in
-    let step : end_at (all_ends net) (port node (suc before)) ≡ slice_get (ends_of (all_ends net) node) (suc before - 1) = rw some refl in
-    let more : before + 1 ≡ suc before = omega arith in
-    known_behind net node before there (sym (ap (λ (n : ℕ). slice_get (ends_of (all_ends net) node) n) less) ∙ sym step ∙ is) ∙ ap (λ (n : ℕ). far_end net.plan.cables (port node n)) more
-
-pub known_end_by : (net : NetState) (all : List (List (Option PortRef))) (here : PortRef) (known : Option (Option PortRef)) → all ≡ all_ends net
-    → known ≡ end_at all here → IfSome known (λ there. there ≡ far_end net.plan.cables here)
-known_end_by net all here None are found = tt
-known_end_by net all here (Some there) are found =
-    known_end_is net here.node here.port there (ap (λ (ends : List (List (Option PortRef))). end_at ends here) (sym are) ∙ sym found)
 
 -- ---- turns
 turn_behind : (net : NetState) (place before : ℕ) (known : Turn) → slice_get (turns_of (all_turns net) place) before ≡ Some known → known ≡ turn_by net place (Out (before + 1))

@@ -1,18 +1,12 @@
--- Rows that rise, and far ends that are looked up.
-use Rattle.std.proofs.Common.{◌≡◌, ◌≢◌, ◌∙◌, inl, inr, ap, refl, sym, ℕ, zero, suc, ◌+◌, ◌-◌, ◌<◌, ◌≤◌, Bool, true, false, cond, ◌==◌, ◌||◌, nat_le, nat_lt, List, [], ◌∷◌, length, drop, find, get_or, slice_get, arith, Option, Some, None, option_map, if◌then◌else◌}
+-- Rows that rise.
+use Rattle.std.proofs.Common.{◌≡◌, ◌≢◌, ◌∙◌, inl, inr, ap, refl, sym, ℕ, zero, suc, ◌+◌, ◌<◌, ◌≤◌, true, false, ◌==◌, nat_le, nat_lt, List, [], ◌∷◌, length, get_or, slice_get, arith, Option, Some, None, if◌then◌else◌}
 use Rattle.std.specs.List.Sorted.{IsNonDecreasingBy}
 use Rattle.std.specs.Option.{option_map_or}
 use Rattle.std.proofs.lemmas.Bool.{and_parts, cases_Bool}
 use Rattle.std.proofs.lemmas.Bool.Decides.{nat_tests}
-use Rattle.indexmap.specs.IndexMap.{IndexMap, get}
 use Rattle.dump_file.specs.declared.row.Row.{Row}
 use Rattle.dump_file.specs.Sound.{rise}
-use Rattle.fabric_parts.specs.Cable.{ends_at, far_end, is_same_port, other_end}
-use Rattle.fabric_parts.specs.declared.cable.Cable.{Cable}
-use Rattle.fabric_parts.specs.declared.cable.PortRef.{PortRef}
-use Rattle.audit_net.specs.FarEnds.{KnowsFarEnds}
 use Rattle.audit_net.specs.Net.{row_of}
-use Rattle.audit_plan.proofs.RangeLemmas.{cut_before}
 
 -- ---- LIDs that rise do not fall
 at_least : (low top : ℕ) (rows : List Row) → rise low top rows ≡ true → (j : ℕ) (d : Row) → j < length rows → low ≤ (get_or rows j d).lid
@@ -98,24 +92,3 @@ halved lid (suc place) low top (row ∷ rows) rises under over =
     rw other (halved lid place (row.lid + 1) top rows inner.1
     (λ k d less within. under (suc k) d (omega (arith, less)) (omega (arith, within)))
     (λ d within. over d (omega (arith, within))))
-
--- ---- far ends
-far_by : (a b : Bool) (cable : Cable) (port : PortRef) (rest : Option Cable) → is_same_port cable.first port ≡ a → is_same_port cable.second port ≡ b
-    → option_map (other_end port) (cond (a || b) (Some cable) rest) ≡ cond a (Some cable.second) (cond b (Some cable.first) (option_map (other_end port) rest))
-far_by true b cable port rest first second = ap (λ (test : Bool). Some (if test then cable.second else cable.first)) first
-far_by false true cable port rest first second = ap (λ (test : Bool). Some (if test then cable.second else cable.first)) first
-far_by false false cable port rest first second = refl
-
-far_first : (cable : Cable) (rest : List Cable) (port : PortRef) → far_end (cable ∷ rest) port
-    ≡ cond (is_same_port cable.first port) (Some cable.second) (cond (is_same_port cable.second port) (Some cable.first) (far_end rest port))
-far_first cable rest port = far_by (is_same_port cable.first port) (is_same_port cable.second port) cable port (find (λ c. ends_at port c) rest) refl refl
-
-pub far_end_more : {S : Type 0} (before one both : IndexMap PortRef PortRef S) (cables : List Cable) (index : ℕ) (none : Cable) → 0 < index → index ≤ length cables
-    → KnowsFarEnds before (drop index cables)
-    → ((port : PortRef) → get is_same_port one port ≡ cond (is_same_port (get_or cables (index - 1) none).second port) (Some (get_or cables (index - 1) none).first) (get is_same_port before port))
-    → ((port : PortRef) → get is_same_port both port ≡ cond (is_same_port (get_or cables (index - 1) none).first port) (Some (get_or cables (index - 1) none).second) (get is_same_port one port))
-    → KnowsFarEnds both (drop (index - 1) cables)
-far_end_more before one both cables index none some within knows first second port =
-    let cable = get_or cables (index - 1) none in
-    second port ∙ ap (cond (is_same_port cable.first port) (Some cable.second)) (first port ∙ ap (cond (is_same_port cable.second port) (Some cable.first)) (knows port))
-    ∙ sym (far_first cable (drop index cables) port) ∙ ap (λ (rest : List Cable). far_end rest port) (sym (cut_before cables index none some within))

@@ -9,7 +9,8 @@ use Rattle.audit_net.specs.declared.following.Turn.TheVariants as turns
 use Rattle.audit_net.specs.Following.{turn}
 use Rattle.audit_net.specs.Laws.{GoesTo}
 use Rattle.audit_net.specs.Net.{NetState}
-use Rattle.audit_net.specs.Ways.{is_on, then_on, way_within}
+use Rattle.audit_plan.specs.Plan.{is_on}
+use Rattle.audit_net.specs.Ways.{then_on, way_within}
 
 -- ---- the switch that packets come to behind so many
 abbrev pub ComesTo : NetState → (lid start count at : ℕ) → Type 0

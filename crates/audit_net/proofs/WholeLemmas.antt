@@ -11,10 +11,12 @@ use Rattle.audit_net.specs.declared.following.Turn.TheVariants as turns
 use Rattle.audit_net.specs.Following.{switch_total, turn}
 use Rattle.audit_net.specs.Laws.{ComesBy, GoesTo}
 use Rattle.audit_net.specs.Net.{NetState}
-use Rattle.audit_net.proofs.EndlessLemmas.{below_at, below_map, is_listed, map_alike, same_at, turn_goes}
+use Rattle.audit_net.proofs.EndlessLemmas.{below_at, below_map, map_alike, same_at, turn_goes}
+use Rattle.audit_plan.proofs.PlaceLemmas.{is_listed}
 use Rattle.audit_net.proofs.RoundLemmas.{AreGrowing, settled}
 use Rattle.audit_net.specs.Laws.{WaysAreWhole}
-use Rattle.audit_net.specs.Ways.{is_on, then_on, way_within}
+use Rattle.audit_plan.specs.Plan.{is_on}
+use Rattle.audit_net.specs.Ways.{then_on, way_within}
 use Rattle.audit_net.proofs.WayLemmas.{next_on, stays_in, then_next}
 
 abbrev on_way : NetState → (lid start count : ℕ) → ℕ → Bool

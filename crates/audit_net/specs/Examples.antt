@@ -2,7 +2,6 @@
 use Rattle.std.specs.Prelude.{ℕ, ◌≡◌, true, false, [], ◌∷◌, Some, None}
 use Rattle.dump_file.specs.declared.table.Table.{Table}
 use Rattle.audit_net.specs.declared.entry.Entry.TheVariants.{Out, Missing, Unreported}
-use Rattle.audit_net.specs.Attached.{carries_host}
 use Rattle.audit_net.specs.Net.{entry, entry_in}
 use Rattle.audit_net.specs.SmallNets.{a_hole, a_table, with_entries}
 use Rattle.fabric_parts.specs.Cable.{port}
@@ -26,11 +25,6 @@ pub record EntriesAreReported : Type 0 where
   pub above_a_multiple : entry_in 2 193 (topped 193) ≡ Missing
   pub below_the_top : entry_in 2 64 (topped 192) ≡ Missing
   pub without_table : entry a_hole 1 2 ≡ Unreported
-
--- ---- an adapter is attached to the first switch, and none to the second
-pub record AttachedAreReported : Type 0 where
-  pub first : carries_host a_hole 0 ≡ true
-  pub second : carries_host a_hole 1 ≡ false
 
 -- ---- what comes of a packet to the adapter at a switch, by the entries of both switches
 pub record TurnsAreReported : Type 0 where

@@ -4,11 +4,12 @@ use Rattle.topo_file.specs.Node.{is_switch_at}
 use Rattle.topo_file.specs.Rounds.{is_marked}
 use Rattle.audit_net.specs.declared.following.Turn.{Turn}
 use Rattle.audit_net.specs.declared.following.Turn.TheVariants as turns
-use Rattle.audit_net.specs.Attached.{carries_host}
+use Rattle.audit_plan.specs.Attached.{carries_host}
 use Rattle.audit_net.specs.Following.{end_from, end_within, loop_from, turn}
 use Rattle.audit_net.specs.Hosts.{hosts_marks}
 use Rattle.audit_net.specs.Net.{NetState}
-use Rattle.audit_net.specs.Ways.{is_on, way}
+use Rattle.audit_plan.specs.Plan.{is_on}
+use Rattle.audit_net.specs.Ways.{way}
 
 -- ---- following entries
 -- the switch here sends the LID to the switch there
@@ -79,7 +80,7 @@ WaysAreWhole = FollowsWays way
 pub record HostsCome (net : NetState) (lid there : ℕ) : Type 0 where
   pub from : ℕ
   pub switch : is_switch_at net.plan.nodes from ≡ true
-  pub carries : carries_host net from ≡ true
+  pub carries : carries_host net.plan from ≡ true
   pub over : List ℕ
   pub comes : ComesBy net lid from over there
 

@@ -1,8 +1,6 @@
-pub mod FarEnds
 pub mod Net
 pub mod Lookup
 pub mod Following
-pub mod Attached
 pub mod Ways
 pub mod Hosts
 pub mod Laws

@@ -1,12 +1,10 @@
--- How entries and far ends are looked up: by the place of a node, and by LID or by port. No definition of the subject stands
+-- How entries and turns are looked up: by the place of a node, and by LID or by port. No definition of the subject stands
 -- on these.
 use Rattle.std.specs.Prelude.{ℕ, ◌+◌, ◌-◌, ◌==◌, List, [], length, map, get_or, slice_get, if◌then◌else◌, Option, None}
 use Rattle.std.specs.List.{range_with_len}
 use Rattle.std.specs.Option.{option_map_or}
 use Rattle.dump_file.specs.declared.table.Table.{Table}
 use Rattle.dump_file.specs.Table.{place_of}
-use Rattle.fabric_parts.specs.Cable.{far_end, port}
-use Rattle.fabric_parts.specs.declared.cable.PortRef.{PortRef}
 use Rattle.topo_file.specs.Node.{ports_at}
 use Rattle.topo_file.specs.declared.node.Node.{Node}
 use Rattle.audit_net.specs.declared.entry.Entry.{Entry}
@@ -31,19 +29,6 @@ all_entries net = map (column_at net) (range_with_len 0 (length net.plan.nodes))
 
 abbrev pub entries_of : List (List Entry) → ℕ → List Entry
 entries_of all place = get_or all place []
-
--- ---- far ends by port, from port 1 on
-abbrev pub ends_at : NetState → ℕ → List (Option PortRef)
-ends_at net place = map (λ number. far_end net.plan.cables (port place (number + 1))) (range_with_len 0 (ports_at net.plan.nodes place))
-
-abbrev pub all_ends : NetState → List (List (Option PortRef))
-all_ends net = map (ends_at net) (range_with_len 0 (length net.plan.nodes))
-
-abbrev pub ends_of : List (List (Option PortRef)) → ℕ → List (Option PortRef)
-ends_of all place = get_or all place []
-
-abbrev pub end_at : List (List (Option PortRef)) → PortRef → Option (Option PortRef)
-end_at all here = if here.port == 0 then None else slice_get (ends_of all here.node) (here.port - 1)
 
 -- ---- what becomes of packets that leave a node, by port, from port 1 on
 abbrev pub turns_at : NetState → ℕ → List Turn

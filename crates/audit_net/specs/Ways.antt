@@ -1,6 +1,5 @@
 -- The way of a LID from a switch: the switches that packets come to along the entries.
-use Rattle.std.specs.Prelude.{ℕ, zero, suc, ◌==◌, Bool, List, [], ◌∷◌}
-use Rattle.std.specs.List.{list_any}
+use Rattle.std.specs.Prelude.{ℕ, zero, suc, List, [], ◌∷◌}
 use Rattle.audit_net.specs.declared.following.Turn.{Turn}
 use Rattle.audit_net.specs.declared.following.Turn.TheVariants as turns
 use Rattle.audit_net.specs.Following.{switch_total, turn}
@@ -18,6 +17,3 @@ way_within net lid (suc count) place = place ∷ then_on (λ next. way_within ne
 -- as many as there are: what comes to a switch does so within these, as `src/laws.rt` says
 abbrev pub way : NetState → (lid place : ℕ) → List ℕ
 way net lid place = way_within net lid (switch_total net) place
-
-abbrev pub is_on : (there : ℕ) → List ℕ → Bool
-is_on there places = list_any (λ place. place == there) places

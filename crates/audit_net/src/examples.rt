@@ -1,15 +1,10 @@
 //! What entries are, and what comes of packets, computed. Each function does nothing: its contract is the example.
 
-ghost use Rattle.audit_net.specs.Examples.{AttachedAreReported, EntriesAreReported, FatesAreReported, LoopsAreReported, TurnsAreReported, WaysAreReported};
+ghost use Rattle.audit_net.specs.Examples.{EntriesAreReported, FatesAreReported, LoopsAreReported, TurnsAreReported, WaysAreReported};
 
 /// The entries of a table.
 pub fn entries_are_reported()
     ensures { EntriesAreReported }
-{}
-
-/// Which switches an adapter is attached to.
-pub fn attached_are_reported()
-    ensures { AttachedAreReported }
 {}
 
 /// What comes of packets at a switch.

@@ -98,7 +98,7 @@ impl<'a> Inputs<'a> {
         ensures { result ≡ turn_to self.now number there }
     {
         match there {
-            Some(there) if self.is_switch_at(there.node) => Turn::Goes(there.node),
+            Some(there) if self.plan().is_switch_at(there.node) => Turn::Goes(there.node),
             Some(there) => Turn::Arrives(there),
             None => Turn::Nowhere(number),
         }
@@ -115,7 +115,7 @@ impl<'a> Inputs<'a> {
         if number == 0 {
             Turn::Arrives(out)
         } else {
-            self.turn_to(number, self.far_end(out))
+            self.turn_to(number, self.links().far_end(out))
         }
     }
 
@@ -123,7 +123,7 @@ impl<'a> Inputs<'a> {
         ensures { IfOk result (λ turns. turns.items ≡ turns_at self.now place) }
     {
         let mut turns = Vec::new(alloc);
-        for number in 0..ports_at(self.nodes(), place) {
+        for number in 0..ports_at(self.plan().nodes(), place) {
             turns.push(self.turn_out(place, number + 1))?;
         }
         Ok(turns)
@@ -134,7 +134,7 @@ impl<'a> Inputs<'a> {
         ensures { IfOk result (λ all. all.items ≡ all_turns self.now) }
     {
         let mut all = Vec::new(alloc);
-        for place in 0..self.nodes().len() {
+        for place in 0..self.plan().nodes().len() {
             let turns = self.turns_at(alloc, place)?;
             all.push(TurnList::of(turns))?;
         }

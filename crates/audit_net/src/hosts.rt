@@ -4,7 +4,8 @@ ghost use Rattle.std.specs.Prelude.{◌≡◌, ◌||◌, true, length, IfOk, ℕ
 ghost use Rattle.topo_file.specs.Node.{is_switch_at};
 ghost use Rattle.topo_file.specs.Rounds.{is_marked};
 ghost use Rattle.audit_net.specs.Hosts.{host_comes, hosts_come, hosts_marks};
-ghost use Rattle.audit_net.specs.Ways.{is_on, way};
+ghost use Rattle.audit_plan.specs.Plan.{is_on};
+ghost use Rattle.audit_net.specs.Ways.{way};
 
 use crate::following::Turn;
 use crate::marks::{blank, mark};
@@ -49,7 +50,7 @@ impl<'a> Net<'a> {
     fn host_comes(&self, lid: u16, there: usize, from: usize) -> bool
         ensures { result ≡ host_comes self.now lid there from }
     {
-        self.carries_host(from) && self.is_on_way(lid, from, there)
+        self.links().carries_host(from) && self.is_on_way(lid, from, there)
     }
 
     /// Whether packets to the LID come there from a switch to which a host is attached.
@@ -65,9 +66,9 @@ impl<'a> Net<'a> {
     pub fn hosts_marks(&self, alloc: Global, lid: u16) -> Result<Vec<bool>, AllocError>
         ensures { IfOk result (λ marks. marks.items ≡ hosts_marks self.now lid) }
     {
-        let mut marks = blank(alloc, self.nodes().len())?;
+        let mut marks = blank(alloc, self.plan().nodes().len())?;
         for from in self.switches() {
-            if self.carries_host(*from) {
+            if self.links().carries_host(*from) {
                 self.mark_way(&mut marks, lid, *from);
             }
         }

@@ -2,18 +2,16 @@
 //!
 //! [`Net`] takes what `audit_plan` took of a topology or of a discovery, and the dump that `dump_file` read. What the entry of a
 //! LID is, is stated in `specs/Net.antt`; what comes of a packet at a switch, and from there on, in `specs/Following.antt`; which
-//! switches it comes to, in `specs/Ways.antt`; which switches hosts are attached to, in `specs/Attached.antt`; which switches
-//! their packets come to, in `specs/Hosts.antt`. `src/laws.rt` says what that means of paths along entries, however long.
+//! switches it comes to, in `specs/Ways.antt`; which switches packets of hosts come to, in `specs/Hosts.antt`. `src/laws.rt` says
+//! what that means of paths along entries, however long.
 //!
 //! [`aims`] returns the LIDs that a dump names or a discovery reports, and the end ports of the fabric that have them. Whose a
 //! LID is, is stated in `specs/Lids.antt`: the rows of the dump come first, then what end ports report. `src/owner_laws.rt` says
 //! what that means.
 #![tactic(auto)]
 
-mod attached;
 mod entry;
 mod examples;
-mod far_ends;
 mod following;
 mod hosts;
 mod inputs;

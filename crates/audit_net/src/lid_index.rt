@@ -122,7 +122,7 @@ impl<'n, 'a> LidIndex<'n, 'a> {
         ensures { IfOk result (λ index. index ≡ net.now) }
     {
         let named = marks_of(alloc, net.dump().tables(), 65536)?;
-        let reported = reported_lids(alloc, net.dump(), net.lids())?;
+        let reported = reported_lids(alloc, net.dump(), net.plan().lids())?;
         let no_switches = other_kinds(net, alloc, true)?;
         let no_others = other_kinds(net, alloc, false)?;
         Ok(LidIndex {
@@ -170,7 +170,7 @@ impl<'n, 'a> LidIndex<'n, 'a> {
     fn if_of_kind(&self, lid: u16, end: PortRef) -> Option<PortRef>
         ensures { result ≡ if_of_kind self.now lid end }
     {
-        if self.all_say_kind(lid, self.net.is_switch_at(end.node)) {
+        if self.all_say_kind(lid, self.net.plan().is_switch_at(end.node)) {
             Some(end)
         } else {
             None
@@ -180,7 +180,7 @@ impl<'n, 'a> LidIndex<'n, 'a> {
     fn end_by(&self, lid: u16, guid: Option<u64>) -> Option<PortRef>
         ensures { result ≡ end_by self.now lid guid }
     {
-        let end = self.net.port_of(guid?)?;
+        let end = self.net.plan().port_of(guid?)?;
         self.if_of_kind(lid, end)
     }
 

@@ -114,7 +114,7 @@ pub fn is_lacking(net: &Net<'_>, aim: &Aim) -> bool
 pub fn has_lid(net: &Net<'_>, aims: &[Aim], port: PortRef) -> bool
     ensures { result ≡ has_lid net.now aims.now port }
 {
-    net.is_switch_at(port.node) || some_is_of(port, aims)
+    net.plan().is_switch_at(port.node) || some_is_of(port, aims)
 }
 
 /// Whether that is so of both ends of a cable.

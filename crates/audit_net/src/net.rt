@@ -2,47 +2,43 @@
 
 ghost use Rattle.std.specs.Prelude.{◌≡◌, true, IfOk, IfSome};
 ghost use Rattle.std.specs.Option.{option_copied};
-ghost use Rattle.fabric_parts.specs.Cable.{far_end};
 ghost use Rattle.dump_file.specs.Sound.{is_rising};
 ghost use Rattle.topo_file.specs.Connectivity.{switches};
-ghost use Rattle.topo_file.specs.Node.{is_switch_at};
 ghost use Rattle.audit_net.specs.Following.{turn_by};
 ghost use Rattle.audit_net.specs.Net.{entry, row_at, table_at};
-ghost use Rattle.audit_plan.specs.Plan.{is_host, port_of};
 ghost use Rattle.audit_net.specs.declared.entry.Entry.TheVariants.{Out};
 
 use crate::entry::{Entry, EntryList, entry_at};
-use crate::far_ends::{EndList, end_at};
 use crate::following::{Turn, TurnList, turn_known};
-use crate::inputs::Inputs;
-use audit_plan::{LidGuid, Plan, PlanNode};
+use crate::inputs::{Inputs, row_of};
+use audit_plan::{Links, Plan, switches};
 use dump_file::{Dump, Row, Table};
-use fabric_parts::{Cable, PortRef};
 use std::alloc::{AllocError, Global};
 use std::marker::Model;
 
-/// A fabric and a dump, with entries and the far ends of cables looked up by their numbers.
+/// A fabric and a dump, with entries, turns and the far ends of cables looked up by their numbers.
 #[derive(Drop)]
 pub struct Net<'a> {
     inputs: Inputs<'a>,
+    // The places of all switches among the nodes.
+    switch_places: Vec<usize>,
     // Of each node the entries by LID, up to the top of its table.
     entries: Vec<EntryList>,
-    // Of each node the far ends of its ports, from port 1 on.
-    ends: Vec<EndList>,
     // Of each node what becomes of packets that leave it by these ports.
     turns: Vec<TurnList>,
 }
 
 impl<'a> Model for Net<'a> {
     ghost use Rattle.std.specs.Prelude.{◌≡◌};
-    ghost use Rattle.audit_net.specs.Lookup.{all_ends, all_entries, all_turns};
+    ghost use Rattle.topo_file.specs.Connectivity.{switches};
+    ghost use Rattle.audit_net.specs.Lookup.{all_entries, all_turns};
     ghost use Rattle.audit_net.specs.Net.{NetState};
 
     ghost Value = { NetState };
 
     ghost view = { λ net. net.inputs };
 
-    ghost invariant = { λ net. (net.entries.items ≡ all_entries net.inputs) × (net.ends.items ≡ all_ends net.inputs)
+    ghost invariant = { λ net. (net.switch_places.items ≡ switches net.inputs.plan.nodes) × (net.entries.items ≡ all_entries net.inputs)
         × (net.turns.items ≡ all_turns net.inputs) };
 }
 
@@ -52,13 +48,13 @@ impl<'a> Net<'a> {
         ensures { IfOk result (λ net. net ≡ record { plan = plan.now; dump = dump.now }) }
     {
         let inputs = Inputs::new(alloc, plan, dump)?;
+        let switch_places = switches(alloc, plan.nodes())?;
         let entries = inputs.all_entries(alloc)?;
-        let ends = inputs.all_ends(alloc)?;
         let turns = inputs.all_turns(alloc)?;
         Ok(Net {
             inputs,
+            switch_places,
             entries,
-            ends,
             turns,
         })
     }
@@ -70,76 +66,25 @@ impl<'a> Net<'a> {
         self.inputs.dump()
     }
 
-    /// Its nodes.
-    pub fn nodes(&self) -> &[PlanNode]
-        ensures { result.now ≡ self.now.plan.nodes }
+    /// The plan.
+    pub fn plan(&self) -> &Plan
+        ensures { result.now ≡ self.now.plan }
     {
-        self.inputs.nodes()
+        self.inputs.plan()
     }
 
-    /// Its cables, except those that join no switch.
-    pub fn cables(&self) -> &[Cable]
-        ensures { result.now ≡ self.now.plan.cables }
+    /// The plan, with the far ends of its cables looked up in constant time.
+    pub fn links(&self) -> &Links<'a>
+        ensures { result.now ≡ self.now.plan }
     {
-        self.inputs.cables()
-    }
-
-    /// The cables that join no switch.
-    pub fn apart(&self) -> &[Cable]
-        ensures { result.now ≡ self.now.plan.apart }
-    {
-        self.inputs.apart()
-    }
-
-    /// The LIDs that end ports report.
-    pub fn lids(&self) -> &[LidGuid]
-        ensures { result.now ≡ self.now.plan.lids }
-    {
-        self.inputs.lids()
-    }
-
-    /// The end port of this GUID.
-    pub fn port_of(&self, guid: u64) -> Option<PortRef>
-        ensures { result ≡ port_of self.now.plan.ends guid }
-    {
-        self.inputs.port_of(guid)
+        self.inputs.links()
     }
 
     /// The places of its switches among the nodes.
     pub fn switches(&self) -> &[usize]
         ensures { result.now ≡ switches self.now.plan.nodes }
     {
-        self.inputs.switches()
-    }
-
-    /// Whether the node there is a switch.
-    pub fn is_switch_at(&self, place: usize) -> bool
-        ensures { result ≡ is_switch_at self.now.plan.nodes place }
-    {
-        self.inputs.is_switch_at(place)
-    }
-
-    /// Whether the node there is neither a switch nor the aggregation node of one.
-    pub fn is_host(&self, place: usize) -> bool
-        ensures { result ≡ is_host self.now.plan place }
-    {
-        self.inputs.is_host(place)
-    }
-
-    fn known_end(&self, here: PortRef) -> Option<Option<PortRef>>
-        ensures { IfSome result (λ there. there ≡ far_end self.now.plan.cables here) }
-    {
-        end_at(&self.ends, here)
-    }
-
-    /// The port at the other end of its cable.
-    pub fn far_end(&self, here: PortRef) -> Option<PortRef>
-        ensures { result ≡ far_end self.now.plan.cables here }
-    {
-        match self.known_end(here) {
-            Some(there) => there,
-            None => self.inputs.far_end(here),
-        }
+        self.switch_places.as_slice()
     }
 
     /// The table of the node there, if there is one.
@@ -154,7 +99,8 @@ impl<'a> Net<'a> {
     pub fn row_at(&self, lid: u16, place: usize) -> Option<&Row>
         ensures { option_copied result ≡ row_at self.now lid place }
     {
-        self.inputs.row_at(lid, place)
+        let table = self.table_at(place)?;
+        row_of(table.rows.as_slice(), lid, table.top)
     }
 
     fn known_entry(&self, lid: u16, place: usize) -> Option<Entry>

@@ -1,6 +1,6 @@
 -- End ports and hosts, computed.
 use Rattle.std.proofs.Common.{refl}
-use Rattle.audit_plan.specs.Examples.{DiscoveriesAreTaken, HostsAreFound, PortsAreFound}
+use Rattle.audit_plan.specs.Examples.{AttachedAreReported, DiscoveriesAreTaken, HostsAreFound, PortsAreFound}
 use Rattle.audit_plan.specs.Plan.{cable_at, cables_apart, joining_cables, plan_found}
 
 pub ports_are_found : PortsAreFound
@@ -16,6 +16,9 @@ ports_are_found = record {
 
 pub hosts_are_found : HostsAreFound
 hosts_are_found = record { switch = refl; adapter = refl; aggregation = refl }
+
+pub attached_are_reported : AttachedAreReported
+attached_are_reported = record { first = refl; second = refl }
 
 pub discoveries_are_taken : DiscoveriesAreTaken
 unfolding plan_found joining_cables cables_apart cable_at

@@ -1,9 +1,14 @@
 pub mod PlanLemmas
 pub mod NameLemmas
 pub mod FoundLemmas
-pub mod WrongPlanLemmas
 pub mod TopologyEndLemmas
 pub mod RangeLemmas
+pub mod PlaceLemmas
+pub mod FarEndLemmas
+pub mod AttachedLemmas
+pub mod LevelLemmas
+pub mod TopLemmas
+pub mod WrongPlanLemmas
 pub mod LidLawLemmas
 pub mod ExampleLemmas
 pub mod SubsliceLemmas

@@ -1,5 +1,5 @@
 -- Elements of ranges, and lists that grow by a part for each number.
-use Rattle.std.proofs.Common.{◌≡◌, ◌∙◌, ap, refl, sym, ℕ, zero, suc, ◌+◌, ◌<◌, ◌≤◌, List, ◌∷◌, [], ◌++◌, map, flat_map, get_or, arith, ◌-◌, length, drop}
+use Rattle.std.proofs.Common.{◌≡◌, ◌∙◌, ap, refl, sym, ℕ, zero, suc, ◌+◌, ◌<◌, ◌≤◌, List, ◌∷◌, [], ◌++◌, map, flat_map, get_or, slice_get, arith, ◌-◌, length, drop, Option, Some, unwrap_or}
 use Rattle.std.specs.List.{range_with_len}
 use Rattle.std.proofs.lemmas.List.{append_assoc, map_push}
 use Rattle.step_results.proofs.RangeLemmas.{flat_more, range_more}
@@ -14,6 +14,20 @@ pub past_range : {X : Type 0} (f : ℕ → X) (low many i : ℕ) (none : X) → 
 past_range f low zero i none past = refl
 past_range f low (suc many) zero none past = absurd (omega (arith, past))
 past_range f low (suc many) (suc i) none past = past_range f (low + 1) many i none (omega (arith, past))
+
+-- an element of a range, if there is one
+pub at_some : {X : Type 0} (f : ℕ → X) (low many i : ℕ) (x : X) → slice_get (map f (range_with_len low many)) i ≡ Some x → f (low + i) ≡ x
+at_some f low zero i x is = absurd (cc)
+at_some f low (suc many) zero x is =
+    let here : low + 0 ≡ low = omega arith in
+    ap f here ∙ ap (λ (o : Option _). unwrap_or o (f low)) is
+at_some f low (suc many) (suc i) x is =
+    let next : low + suc i ≡ (low + 1) + i = omega arith in
+    ap f next ∙ at_some f (low + 1) many i x is
+
+pub none_there : {X : Type 0} (xs : List X) (i : ℕ) (x : X) → xs ≡ [] → slice_get xs i ≡ Some x → ⊥
+none_there [] i x none is = absurd (cc)
+none_there (y ∷ ys) i x none is = absurd (cc)
 
 -- ---- one more
 pub map_range_more : {X : Type 0} (f : ℕ → X) (n : ℕ) → map f (range_with_len 0 (n + 1)) ≡ map f (range_with_len 0 n) ++ f n ∷ []

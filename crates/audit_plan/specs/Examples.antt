@@ -8,8 +8,9 @@ use Rattle.fabric_parts.specs.declared.node_type.NodeType.TheVariants.{Switch, C
 use Rattle.text_words.specs.Parts.{guid_text}
 use Rattle.topo_file.specs.declared.node.Node.{Node}
 use Rattle.fabric_parts.specs.Cable.{port}
+use Rattle.audit_plan.specs.Attached.{carries_host}
 use Rattle.audit_plan.specs.Plan.{ends_of, found_ends, found_nodes, is_host, is_unicast, plan_found, port_of, PlanState}
-use Rattle.audit_plan.specs.WrongRules.{far_at, found_at, leads}
+use Rattle.audit_plan.specs.WrongRules.{far_at, found_at, leads, one_leaf}
 
 abbrev pub a_switch : List ℕ → ℕ → Node
 a_switch name guid = record { name = name; node_type = Switch; guid = guid; ports = 2 }
@@ -38,6 +39,11 @@ pub record HostsAreFound : Type 0 where
   pub switch : is_host with_aggregation 0 ≡ false
   pub adapter : is_host with_aggregation 1 ≡ true
   pub aggregation : is_host with_aggregation 2 ≡ false
+
+-- ---- a host is attached to the first switch, and none to the second
+pub record AttachedAreReported : Type 0 where
+  pub first : carries_host one_leaf 0 ≡ true
+  pub second : carries_host one_leaf 1 ≡ false
 
 -- ---- of a discovery: two switches of one description, of which the second reports the GUID of its port 0, an adapter without a
 -- description, a router, and an aggregation node

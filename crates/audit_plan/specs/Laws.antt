@@ -1,8 +1,8 @@
--- What is so of all discoveries: the statements of the laws of `src/laws.rt`.
-use Rattle.std.specs.Prelude.{ℕ, ◌≡◌, ◌==◌, Bool, true, false, ◌&&◌, ◌||◌, List, ◌++◌, Option, unwrap_or}
+-- What is so of all discoveries, and of all plans: the statements of the laws of `src/laws.rt`.
+use Rattle.std.specs.Prelude.{ℕ, ◌+◌, ◌<◌, ◌≤◌, ◌≡◌, ◌==◌, Bool, true, false, ◌&&◌, ◌||◌, List, [], ◌∷◌, ◌++◌, length, Option, Some, unwrap_or}
 use Rattle.std.specs.List.{list_all, list_any}
 use Rattle.std.specs.Option.{option_map_or}
-use Rattle.fabric_parts.specs.Cable.{is_same_port}
+use Rattle.fabric_parts.specs.Cable.{far_end, is_same_port, port}
 use Rattle.fabric_parts.specs.declared.cable.Cable.{Cable}
 use Rattle.fabric_parts.specs.declared.cable.PortRef.{PortRef}
 use Rattle.netdiscover_file.specs.declared.node.Node.{Node as FoundNode}
@@ -11,8 +11,13 @@ use Rattle.netdiscover_file.specs.Agreement.{is_one_cable}
 use Rattle.netdiscover_file.specs.Discovery.{DiscoveryState}
 use Rattle.netdiscover_file.specs.Kind.{is_switch as is_switch_kind}
 use Rattle.netdiscover_file.specs.Sound.{IsSound}
+use Rattle.topo_file.specs.Node.{is_switch_at, ports_at}
 use Rattle.audit_plan.specs.declared.ends.LidGuid.{LidGuid}
-use Rattle.audit_plan.specs.Plan.{PlanState, found_lids, is_unicast, joins_switch, plan_found}
+use Rattle.audit_plan.specs.declared.levels.TheConstants.{LEVELS}
+use Rattle.audit_plan.specs.Attached.{carries_host}
+use Rattle.audit_plan.specs.Levels.{level_of}
+use Rattle.audit_plan.specs.Plan.{PlanState, found_lids, is_on, is_unicast, joins_switch, plan_found}
+use Rattle.audit_plan.specs.Tops.{top_switches}
 
 -- ---- the cables of a discovery
 -- the cable joins these two ports
@@ -59,3 +64,35 @@ TakesTheLids takes = (found : DiscoveryState) (lid guid : ℕ) → list_any (is_
 
 abbrev pub LidsAreTaken : Type 0
 LidsAreTaken = TakesTheLids found_lids
+
+-- ---- levels
+-- out of the ports behind these numbers, one after the other, links lead from switch to switch to one that carries a host
+abbrev pub LeadsToHost : PlanState → ℕ → List ℕ → Type 0
+LeadsToHost plan place [] = carries_host plan place ≡ true
+LeadsToHost plan place (before ∷ rest) =
+    (there : PortRef) × (before < ports_at plan.nodes place) × (far_end plan.cables (port place (before + 1)) ≡ Some there)
+    × (is_switch_at plan.nodes there.node ≡ true) × LeadsToHost plan there.node rest
+
+-- the level is the length of the shortest such way, if that is below `LEVELS`
+pub record MeasuresLevels (level : PlanState → ℕ → ℕ) : Type 0 where
+  pub least : (plan : PlanState) (place : ℕ) (over : List ℕ) → LeadsToHost plan place over → length over < LEVELS → level plan place ≤ length over
+  pub there : (plan : PlanState) (place : ℕ) → level plan place < LEVELS → (over : List ℕ) × (length over ≡ level plan place) × LeadsToHost plan place over
+
+abbrev pub LevelsAreDistances : Type 0
+LevelsAreDistances = MeasuresLevels level_of
+
+-- ---- the top level
+-- no host is attached to this switch, it has a level, and no switch that has one is farther from hosts
+pub record IsFarthest (plan : PlanState) (place : ℕ) : Type 0 where
+  pub switch : is_switch_at plan.nodes place ≡ true
+  pub hostless : carries_host plan place ≡ false
+  pub has_level : level_of plan place < LEVELS
+  pub farthest : (other : ℕ) → is_switch_at plan.nodes other ≡ true → level_of plan other < LEVELS → level_of plan other ≤ level_of plan place
+
+-- these are all such switches, and no others
+pub record FindsFarthest (tops : PlanState → List ℕ) : Type 0 where
+  pub only : (plan : PlanState) (place : ℕ) → is_on place (tops plan) ≡ true → IsFarthest plan place
+  pub all : (plan : PlanState) (place : ℕ) → IsFarthest plan place → is_on place (tops plan) ≡ true
+
+abbrev pub TopsAreFarthest : Type 0
+TopsAreFarthest = FindsFarthest top_switches

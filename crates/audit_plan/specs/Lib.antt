@@ -1,6 +1,10 @@
 pub mod Plan
 pub mod Names
 pub mod Ends
+pub mod FarEnds
+pub mod Attached
+pub mod Levels
+pub mod Tops
 pub mod Laws
 pub mod WrongRules
 pub mod Examples

@@ -1,6 +1,6 @@
 -- What an audit takes of a fabric: its nodes and cables, and the GUIDs of its end ports. A topology gives it, or a discovery.
 use Rattle.std.specs.Prelude.{ℕ, ◌+◌, ◌==◌, ◌&&◌, ◌||◌, nat_eq, nat_le, nat_lt, Bool, false, not, List, [], ◌∷◌, ◌++◌, codes, bytes_eq, count_by, filter, find, flat_map, get_or, length, map, slice_get, if◌then◌else◌, Option, Some, None, option_map, unwrap_or}
-use Rattle.std.specs.List.{ends_with, range_with_len}
+use Rattle.std.specs.List.{ends_with, list_any, range_with_len}
 use Rattle.std.specs.Option.{option_map_or}
 use Rattle.fabric_parts.specs.Cable.{port}
 use Rattle.fabric_parts.specs.declared.cable.Cable.{Cable}
@@ -39,6 +39,10 @@ is_aggregation_node plan place = get_or plan.aggregation place false
 
 abbrev pub is_host : PlanState → ℕ → Bool
 is_host plan place = not (is_switch_at plan.nodes place) && not (is_aggregation_node plan place)
+
+-- a list of places has this one
+abbrev pub is_on : (there : ℕ) → List ℕ → Bool
+is_on there places = list_any (λ place. place == there) places
 
 -- the end port of this GUID: the first that has it
 abbrev pub port_of : List EndGuid → ℕ → Option PortRef

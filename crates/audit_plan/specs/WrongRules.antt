@@ -1,8 +1,9 @@
--- Wrong rules for what an audit takes of a discovery, and the law that each breaks.
-use Rattle.std.specs.Prelude.{ℕ, nat_lt, List, [], ◌∷◌, ◌++◌, filter, flat_map, if◌then◌else◌, Option, Some, None}
+-- Wrong rules for what an audit takes of a discovery and for levels, and the law that each breaks.
+use Rattle.std.specs.Prelude.{ℕ, ◌+◌, ◌==◌, nat_lt, List, [], ◌∷◌, ◌++◌, codes, filter, flat_map, take, if◌then◌else◌, Option, Some, None}
 use Rattle.std.specs.Option.{option_map_or}
 use Rattle.fabric_parts.specs.Cable.{port}
 use Rattle.fabric_parts.specs.declared.cable.Cable.{Cable}
+use Rattle.fabric_parts.specs.declared.node_type.NodeType.{NodeType}
 use Rattle.fabric_parts.specs.declared.node_type.NodeType.TheVariants.{ChannelAdapter, Switch}
 use Rattle.netdiscover_file.specs.declared.ends.FarEnd.{FarEnd}
 use Rattle.netdiscover_file.specs.declared.kind.NodeKind.{NodeKind}
@@ -11,9 +12,13 @@ use Rattle.netdiscover_file.specs.declared.node.Node.{Node as FoundNode}
 use Rattle.netdiscover_file.specs.declared.port.PortLine.{PortLine}
 use Rattle.netdiscover_file.specs.Agreement.{far_line}
 use Rattle.netdiscover_file.specs.Discovery.{DiscoveryState}
+use Rattle.topo_file.specs.declared.node.Node.{Node}
+use Rattle.topo_file.specs.Connectivity.{switches}
 use Rattle.audit_plan.specs.declared.ends.LidGuid.{LidGuid}
-use Rattle.audit_plan.specs.Laws.{TakesTheCables, TakesTheLids}
+use Rattle.audit_plan.specs.Laws.{FindsFarthest, MeasuresLevels, TakesTheCables, TakesTheLids}
+use Rattle.audit_plan.specs.Levels.{level_of}
 use Rattle.audit_plan.specs.Plan.{PlanState, joins_switch, line_lid, plan_found, switch_lid}
+use Rattle.audit_plan.specs.Tops.{top_of, top_switches}
 
 -- ---- two ports of one node have no cable
 abbrev pub between_nodes : PortLine → PortLine → List Cable
@@ -81,3 +86,71 @@ SwitchesHaveLids = TakesTheLids without_switches → ⊥
 
 abbrev pub a_switch_with_lid : DiscoveryState
 a_switch_with_lid = record a_plug { nodes = record (found_at kinds.Switch 16) { lid = Some 5 } ∷ [] }
+
+-- ---- a level counts the switches of a way, and not its links
+abbrev pub counted_from_1 : PlanState → ℕ → ℕ
+counted_from_1 plan place = level_of plan place + 1
+
+abbrev pub LevelsBeginAt0 : Type 0
+LevelsBeginAt0 = MeasuresLevels counted_from_1 → ⊥
+
+-- ---- all switches have one level
+abbrev pub all_leaves : PlanState → ℕ → ℕ
+all_leaves plan place = 0
+
+abbrev pub NotAllAreLeaves : Type 0
+NotAllAreLeaves = MeasuresLevels all_leaves → ⊥
+
+-- ---- the top switches are those of level 1
+abbrev pub of_level_1 : PlanState → List ℕ
+of_level_1 plan = filter (λ place. level_of plan place == 1) (switches plan.nodes)
+
+abbrev pub TopsAreNotOfLevel1 : Type 0
+TopsAreNotOfLevel1 = FindsFarthest of_level_1 → ⊥
+
+-- ---- or those of the greatest level, also if that is 0
+abbrev pub of_top_level : PlanState → List ℕ
+of_top_level plan = filter (λ place. level_of plan place == top_of (level_of plan) (switches plan.nodes)) (switches plan.nodes)
+
+abbrev pub LeavesAreNoTops : Type 0
+LeavesAreNoTops = FindsFarthest of_top_level → ⊥
+
+-- ---- or the first of them alone
+abbrev pub first_top : PlanState → List ℕ
+first_top plan = take 1 (top_switches plan)
+
+abbrev pub AllTopsCount : Type 0
+AllTopsCount = FindsFarthest first_top → ⊥
+
+-- ---- switches A, B and C, and a host h, with these cables
+abbrev pub node : List ℕ → NodeType → ℕ → Node
+node name of guid = record { name = name; node_type = of; guid = guid; ports = 3 }
+
+abbrev pub with_cables : List Cable → PlanState
+with_cables cables = record {
+  nodes = node (codes "A") Switch 16 ∷ node (codes "B") Switch 32 ∷ node (codes "C") Switch 48 ∷ node (codes "h") ChannelAdapter 256 ∷ [];
+  cables = cables;
+  apart = [];
+  ends = [];
+  aggregation = [];
+  lids = [];
+}
+
+abbrev pub cable : (place number there far : ℕ) → Cable
+cable place number there far = record { first = port place number; second = port there far }
+
+-- no host is attached to any switch
+abbrev pub no_hosts : PlanState
+no_hosts = with_cables (cable 0 2 1 2 ∷ [])
+
+-- h is attached to A/1
+abbrev pub one_leaf : PlanState
+one_leaf = with_cables (cable 0 1 3 1 ∷ [])
+
+-- and cables lead from A/2 to B/1 and from B/2 to C/1
+abbrev pub three_levels : PlanState
+three_levels = with_cables (cable 0 1 3 1 ∷ cable 0 2 1 1 ∷ cable 1 2 2 1 ∷ [])
+
+-- or from A/2 to B/1 and from A/3 to C/1
+abbrev pub two_tops : PlanState
+two_tops = with_cables (cable 0 1 3 1 ∷ cable 0 2 1 1 ∷ cable 0 3 2 1 ∷ [])

@@ -2,6 +2,7 @@
 
 ghost use Rattle.std.specs.Prelude.{◌≡◌, ◌++◌, IfOk, OnOk};
 ghost use Rattle.audit_plan.specs.Plan.{adapter_ends, end_with, ends_at, ends_in, ends_of, is_aggregation_node, is_host, plan_of, port_of};
+ghost use Rattle.topo_file.specs.Connectivity.{switches};
 ghost use Rattle.topo_file.specs.Node.{is_switch, is_switch_at, name_at, ports_at};
 
 use crate::ends::{EndGuid, EndIndex, LidGuid};
@@ -80,6 +81,15 @@ pub fn is_switch_at(nodes: &[PlanNode], place: usize) -> bool
         Some(node) => node.is_switch(),
         None => false,
     }
+}
+
+/// The places of the switches.
+pub fn switches(alloc: Global, nodes: &[PlanNode]) -> Result<Vec<usize>, AllocError>
+    ensures { IfOk result (λ places. places.items ≡ switches nodes.now) }
+{
+    (0..nodes.len())
+        .filter(|place| is_switch_at(nodes, *place))
+        .collect(alloc)
 }
 
 /// How many ports the node there has.
@@ -215,6 +225,13 @@ impl Plan {
         self.ends.port_of(guid)
     }
 
+    /// Whether the node there is a switch.
+    pub fn is_switch_at(&self, place: usize) -> bool
+        ensures { result ≡ is_switch_at self.now.nodes place }
+    {
+        is_switch_at(self.nodes.as_slice(), place)
+    }
+
     fn is_aggregation_node(&self, place: usize) -> bool
         ensures { result ≡ is_aggregation_node self.now place }
     {
@@ -228,7 +245,7 @@ impl Plan {
     pub fn is_host(&self, place: usize) -> bool
         ensures { result ≡ is_host self.now place }
     {
-        !is_switch_at(self.nodes.as_slice(), place) && !self.is_aggregation_node(place)
+        !self.is_switch_at(place) && !self.is_aggregation_node(place)
     }
 
     /// The same with these cables in place of its own.

@@ -1,44 +1,37 @@
 -- The lines of what decides: which switches they are of, and that each reason has one.
-use Rattle.std.proofs.Common.{◌≡◌, ◌∙◌, ◌⊎◌, inl, inr, ap, refl, subst, sym, ℕ, suc, ◌+◌, ◌-◌, ◌<◌, ◌≤◌, Bool, true, false, not, ◌==◌, ◌&&◌, ◌||◌, nat_lt, if◌then◌else◌, List, [], ◌∷◌, ◌++◌, codes, decimal, filter, flat_map, length, map, slice_get, take, arith, Option, Some, None, is_none, is_some, option_map}
-use Rattle.std.specs.List.{list_all, list_any, range_with_len}
-use Rattle.std.specs.Option.{option_and_then, option_map_or, option_or}
+use Rattle.std.proofs.Common.{◌≡◌, ◌∙◌, inl, inr, ap, refl, subst, sym, ℕ, suc, ◌-◌, ◌<◌, ◌≤◌, Bool, true, false, ◌==◌, ◌&&◌, nat_lt, if◌then◌else◌, List, [], ◌∷◌, ◌++◌, codes, decimal, filter, flat_map, length, slice_get, take, arith, Option, Some, None, option_map}
+use Rattle.std.specs.List.{list_any, range_with_len}
 use Rattle.std.specs.Str.Iter.{HasSubslice}
-use Rattle.std.proofs.lemmas.Bool.{and_from, and_parts, cases_Bool, eq-eqb, false≢true, or_left, or_right}
+use Rattle.std.proofs.lemmas.Bool.{cases_Bool, eq-eqb, false≢true, or_left, or_right}
 use Rattle.std.proofs.lemmas.Bool.Decides.{nat_tests}
 use Rattle.std.proofs.lemmas.List.{append-nil, append_assoc, take_all}
 use Rattle.std.proofs.lemmas.Map.Keys.{any_passes_from_place}
 use Rattle.std.proofs.lemmas.Option.{slice_get-map}
-use Rattle.fabric_parts.specs.Cable.{ends_at, is_same_port}
-use Rattle.fabric_parts.specs.declared.cable.Cable.{Cable}
+use Rattle.fabric_parts.specs.Cable.{is_same_port}
 use Rattle.fabric_parts.specs.declared.cable.PortRef.{PortRef}
 use Rattle.topo_file.specs.Connectivity.{switches}
 use Rattle.topo_file.specs.Node.{is_switch_at}
 use Rattle.topo_file.specs.declared.node.Node.{Node}
-use Rattle.audit_net.specs.declared.following.Fate.{Fate}
-use Rattle.audit_net.specs.declared.following.Fate.TheVariants as fates
 use Rattle.audit_net.specs.declared.following.Turn.{Turn}
 use Rattle.audit_net.specs.declared.following.Turn.TheVariants as turns
-use Rattle.audit_net.specs.Attached.{carries_host}
-use Rattle.audit_net.specs.Following.{end_from, fate, fate_by, switch_total, turn}
-use Rattle.audit_net.specs.Laws.{EndsBy, IsWay}
-use Rattle.audit_net.specs.Net.{NetState, has_table, table_at}
+use Rattle.audit_plan.specs.Attached.{carries_host}
+use Rattle.audit_net.specs.Following.{end_from, fate, fate_by, switch_total}
+use Rattle.audit_net.specs.Net.{NetState}
 use Rattle.audit_plan.specs.Plan.{is_host}
 use Rattle.audit_plan.proofs.SubsliceLemmas.{stands_behind, stands_itself, stands_longer, stands_of_all}
 use Rattle.audit_net.specs.declared.lids.Aim.{Aim}
 use Rattle.audit_net.specs.OwnerLaws.{end_port_of}
-use Rattle.audit_net.specs.Lids.{aim_of, aims, has_lid, have_lids, is_of, known_lids}
-use Rattle.audit_net.proofs.EndlessLemmas.{in_kept, is_listed, turn_goes, way_there, ways_are_followed}
-use Rattle.audit_routes.specs.declared.pairs.Pair.{Pair}
-use Rattle.audit_routes.specs.Deciding.{host_switches, is_entered, is_hosts, lacking_entries, lacks_entry, losers, losing, losing_to, more_words, places_line, switches_words, unknown_line, unreached_line}
-use Rattle.audit_routes.specs.Laws.{AreThose, HasNoTableLine, HasUnknownLine, HasUnreachedLine, IsLostFrom, IsUnknownTo, LostPairsAreNamed, NamesLost, PrintsLost, SaysWhich, brief_text, whole_text}
-use Rattle.audit_routes.specs.Lines.{goes_to, is_fed, lid_text, name_text, name_word, no_table_line}
-use Rattle.audit_routes.specs.Pairs.{between_hosts, is_between_hosts, is_fate, pair_at, pair_to, pairs_at, pairs_by}
-use Rattle.audit_routes.specs.Verdict.{is_lost_by, is_others, is_unknown}
+use Rattle.audit_net.specs.Lids.{aim_of, aims, known_lids}
+use Rattle.audit_net.proofs.EndlessLemmas.{way_there, ways_are_followed}
+use Rattle.audit_plan.proofs.PlaceLemmas.{in_kept, is_listed}
+use Rattle.audit_routes.specs.Deciding.{host_switches, losers, losing, losing_to, more_words, places_line, switches_words, unreached_line}
+use Rattle.audit_routes.specs.Laws.{IsLostFrom, LostPairsAreNamed, NamesLost, PrintsLost, SaysWhich}
+use Rattle.audit_routes.specs.Lines.{lid_text, name_word}
+use Rattle.audit_routes.specs.Verdict.{is_lost_by}
 use Rattle.audit_routes.proofs.CarriesLemmas.{carried, carries}
-use Rattle.audit_routes.proofs.PrintedLemmas.{in_unknown, in_unreached, table_printed, text}
+use Rattle.audit_routes.proofs.PrintedLemmas.{in_unreached, text}
 use Rattle.audit_routes.proofs.ReportedLemmas.{itself}
-use Rattle.audit_routes.proofs.SafeLemmas.{flat_mapped, has_end, is_listed_lid, same_port}
-use Rattle.audit_routes.proofs.TroubleLemmas.{fed_there}
+use Rattle.audit_routes.proofs.SafeLemmas.{has_end, is_listed_lid, same_port}
 
 -- ---- elements of lists
 abbrev pub is_in : ℕ → List ℕ → Bool
@@ -169,7 +162,7 @@ lost_else end (Some (turns.Arrives there)) arrives known = elim (cases_Bool (is_
 ]
 
 pub is_lost_from : (net : NetState) (lid place : ℕ) (end : PortRef) → is_switch_at net.plan.nodes place ≡ true → end_port_of net lid ≡ Some end
-    → is_host net.plan end.node ≡ true → carries_host net place ≡ true → is_lost_by (fate net lid end place) ≡ true → IsLostFrom net lid place
+    → is_host net.plan end.node ≡ true → carries_host net.plan place ≡ true → is_lost_by (fate net lid end place) ≡ true → IsLostFrom net lid place
 is_lost_from net lid place end switch named host carrying lost = record {
   carries = carried net place switch carrying;
   end = end;
@@ -188,7 +181,7 @@ losers_are net lid end named host =
 pub in_losers : (net : NetState) (lid place : ℕ) → IsLostFrom net lid place → is_in place (losers net (aim_of net lid)) ≡ true
 in_losers net lid place lost =
     let there = is_listed net.plan.nodes place lost.carries.switch in
-    let host = in_kept (carries_host net) place (switches net.plan.nodes) (carries net place lost.carries) there in
+    let host = in_kept (carries_host net.plan) place (switches net.plan.nodes) (carries net place lost.carries) there in
     let lose : is_lost_by (fate net lid lost.end place) ≡ true =
     lost_else lost.end (end_from net lid place)
     (λ is. lost.arrives (way_there net lid (switch_total net) place (turns.Arrives lost.end) is))
@@ -205,17 +198,17 @@ of_losers net lid place there = by (end_port_of net lid) refl there
       | inr other ↦ absurd (false≢true (rw other at there))
       | inl host ↦
           let lose = kept_back (λ p. is_lost_by (fate net lid end p)) (host_switches net) place (rw host at there) in
-          let hosts = kept_back (carries_host net) (switches net.plan.nodes) place lose.1 in
+          let hosts = kept_back (carries_host net.plan) (switches net.plan.nodes) place lose.1 in
           is_lost_from net lid place end (switch_back net.plan.nodes place hosts.1) is host hosts.0 lose.0
     ]
 
 abbrev test_of : NetState → ℕ → Option PortRef → ℕ → Bool
-test_of net lid (Some end) = λ place. is_host net.plan end.node && (carries_host net place && is_lost_by (fate net lid end place))
+test_of net lid (Some end) = λ place. is_host net.plan end.node && (carries_host net.plan place && is_lost_by (fate net lid end place))
 test_of net lid None = λ place. false
 
 in_order_by : (net : NetState) (lid : ℕ) (end : PortRef) (host : Bool) → (if host then losing net lid end else [])
-    ≡ filter (λ place. host && (carries_host net place && is_lost_by (fate net lid end place))) (switches net.plan.nodes)
-in_order_by net lid end true = filter_twice (carries_host net) (λ p. is_lost_by (fate net lid end p)) (switches net.plan.nodes)
+    ≡ filter (λ place. host && (carries_host net.plan place && is_lost_by (fate net lid end place))) (switches net.plan.nodes)
+in_order_by net lid end true = filter_twice (carries_host net.plan) (λ p. is_lost_by (fate net lid end p)) (switches net.plan.nodes)
 in_order_by net lid end false = sym (none_pass (switches net.plan.nodes))
 
 in_order : (net : NetState) (lid : ℕ) (o : Option PortRef) → losing_to net lid o ≡ filter (test_of net lid o) (switches net.plan.nodes)

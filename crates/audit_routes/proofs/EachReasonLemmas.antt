@@ -1,9 +1,9 @@
 -- Each reason of a verdict has a line that says where.
-use Rattle.std.proofs.Common.{◌≡◌, ◌∙◌, ◌⊎◌, inl, inr, ap, refl, subst, sym, ℕ, zero, suc, ◌<◌, Bool, true, false, not, ◌==◌, ◌&&◌, ◌||◌, if◌then◌else◌, List, [], ◌∷◌, ◌++◌, codes, decimal, filter, flat_map, length, map, slice_get, arith, Option, Some, None, is_none, is_some, option_map}
+use Rattle.std.proofs.Common.{◌≡◌, ◌∙◌, ◌⊎◌, inl, inr, ap, refl, subst, sym, ℕ, zero, suc, Bool, true, false, not, ◌==◌, ◌&&◌, ◌||◌, if◌then◌else◌, List, [], ◌∷◌, ◌++◌, codes, decimal, filter, flat_map, length, map, slice_get, arith, Option, Some, None, is_none, is_some, option_map}
 use Rattle.std.specs.List.{list_all, list_any}
 use Rattle.std.specs.Option.{option_and_then, option_map_or, option_or}
 use Rattle.std.specs.Str.Iter.{HasSubslice}
-use Rattle.std.proofs.lemmas.Bool.{and_from, and_parts, cases_Bool, false≢true, not-true, or_cases, or_left, or_parts, or_right}
+use Rattle.std.proofs.lemmas.Bool.{and_from, and_parts, cases_Bool, false≢true, or_cases, or_left, or_parts, or_right}
 use Rattle.std.proofs.lemmas.Bool.Decides.{nat_tests}
 use Rattle.std.proofs.lemmas.List.Folds.{list_any-append}
 use Rattle.std.proofs.lemmas.Map.Keys.{any_passes_from_place}
@@ -26,26 +26,27 @@ use Rattle.audit_net.specs.declared.following.Fate.{Fate}
 use Rattle.audit_net.specs.declared.following.Fate.TheVariants as fates
 use Rattle.audit_net.specs.declared.following.Turn.{Turn}
 use Rattle.audit_net.specs.declared.following.Turn.TheVariants as turns
-use Rattle.audit_net.specs.Attached.{carries_host}
+use Rattle.audit_plan.specs.Attached.{carries_host}
 use Rattle.audit_net.specs.Following.{end_from, fate, fate_by, switch_total, turn}
-use Rattle.audit_net.specs.Laws.{EndsBy, IsWay}
+use Rattle.audit_net.specs.Laws.{IsWay}
 use Rattle.audit_net.specs.Net.{NetState, has_table, row_at, row_of, table_at, table_of}
-use Rattle.audit_net.proofs.EndlessLemmas.{in_kept, is_listed, turn_goes, way_there}
+use Rattle.audit_net.proofs.EndlessLemmas.{turn_goes, way_there}
+use Rattle.audit_plan.proofs.PlaceLemmas.{in_kept, is_listed}
 use Rattle.audit_plan.specs.Plan.{is_host}
 use Rattle.audit_plan.proofs.SubsliceLemmas.{stands_behind, stands_itself, stands_longer, stands_of_all}
 use Rattle.audit_net.specs.declared.lids.Aim.{Aim}
 use Rattle.audit_net.specs.OwnerLaws.{end_port_of}
-use Rattle.audit_net.specs.Lids.{aim_of, aims, has_lid, have_lids, is_lacking, is_of, is_of_fabric, known_lids, owner_of, reported_end, says_of_fabric}
+use Rattle.audit_net.specs.Lids.{aim_of, aims, has_lid, have_lids, is_lacking, is_of_fabric, known_lids, owner_of, reported_end, says_of_fabric}
 use Rattle.audit_routes.specs.declared.pairs.Pair.{Pair}
 use Rattle.audit_routes.specs.Audit.{closing_words, port_word, ring_line}
 use Rattle.audit_routes.specs.Loops.{credit_loop}
 use Rattle.audit_routes.specs.Deciding.{is_entered, is_hosts, lacking_entries, lacks_entry, losers, unknown_line, unreached_line}
-use Rattle.audit_routes.specs.Laws.{CarriesAHost, EachReasonHasItsLine, HasNoLidLine, HasNoPortLine, HasNoSwitchLine, HasNoSwitchesLine, HasNoTableLine, HasUnknownLine, HasUnreachedLine, IsAdaptersEnd, IsLostFrom, IsUnknownTo, ReasonsHaveLines, brief_text, other_lids, verdict_of, whole_text}
-use Rattle.audit_routes.specs.Lines.{goes_to, has_switch, is_fed, lacking_line, lid_text, name_text, no_lid_line, no_lid_lines, no_port_line, no_switch_line, no_table_line, port_text}
+use Rattle.audit_routes.specs.Laws.{CarriesAHost, EachReasonHasItsLine, HasNoLidLine, HasNoPortLine, HasNoSwitchLine, HasNoSwitchesLine, HasNoTableLine, HasUnknownLine, HasUnreachedLine, IsLostFrom, ReasonsHaveLines, other_lids, verdict_of}
+use Rattle.audit_routes.specs.Lines.{goes_to, is_fed, lacking_line, lid_text, name_text, no_lid_line, no_lid_lines, no_port_line, no_switch_line, no_table_line, port_text}
 use Rattle.audit_routes.specs.Pairs.{between_hosts, is_between_hosts, is_fate, pair_at, pair_to, pairs_at, pairs_by}
-use Rattle.audit_routes.specs.Verdict.{goes_on_known, have_tables, is_known, is_lost_by, is_others, is_unknown, knows_all, knows_entries, knows_next, name_the_same}
-use Rattle.audit_routes.proofs.CarriesLemmas.{carried, carries}
-use Rattle.audit_routes.proofs.DecidingLemmas.{aim_there, in_losers, index_of, is_in, is_lost_from, is_there, kept_back, line_begins, stands_in, switch_back}
+use Rattle.audit_routes.specs.Verdict.{goes_on_known, have_tables, is_known, is_lost_by, is_others, is_unknown, knows_all, knows_next}
+use Rattle.audit_routes.proofs.CarriesLemmas.{carried}
+use Rattle.audit_routes.proofs.DecidingLemmas.{aim_there, in_losers, index_of, is_in, is_lost_from, is_there, line_begins, stands_in, switch_back}
 use Rattle.audit_routes.proofs.PrintedLemmas.{in_ring, in_unknown, in_unreached, lid_printed, none_printed, port_printed, switch_printed, table_printed, text}
 use Rattle.audit_routes.proofs.ReportedLemmas.{in_mapped, itself, unknown_is}
 use Rattle.audit_routes.proofs.SafeLemmas.{flat_mapped, has_end, is_listed_lid}
@@ -160,7 +161,7 @@ record PairOf (net : NetState) (test : Fate → Bool) (place lid : ℕ) (o : Opt
   pub end : PortRef
   pub named : o ≡ Some end
   pub host : is_host net.plan end.node ≡ true
-  pub carrying : carries_host net place ≡ true
+  pub carrying : carries_host net.plan place ≡ true
   pub is : test (fate net lid end place) ≡ true
 
 pair_of : (net : NetState) (test : Fate → Bool) (place lid : ℕ) (o : Option PortRef)
@@ -168,7 +169,7 @@ pair_of : (net : NetState) (test : Fate → Bool) (place lid : ℕ) (o : Option 
 pair_of net test place lid None some = absurd (false≢true some)
 pair_of net test place lid (Some end) some = elim (cases_Bool (is_host net.plan end.node)) [
   | inr other ↦ absurd (false≢true (rw other at some))
-  | inl host ↦ elim (cases_Bool (carries_host net place)) [
+  | inl host ↦ elim (cases_Bool (carries_host net.plan place)) [
     | inr other ↦ absurd (false≢true (rw (host, other) at some))
     | inl carrying ↦ elim (cases_Bool (test (fate net lid end place))) [
       | inl is ↦ record { end = end; named = refl; host = host; carrying = carrying; is = is }
@@ -260,7 +261,7 @@ sent_from net lid place fed =
 
 comes_to : (net : NetState) (lid place : ℕ) → is_switch_at net.plan.nodes place ≡ true → is_entered net (aim_of net lid) place ≡ true
     → CarriesAHost net place ⊎ ((from : ℕ) × (is_switch_at net.plan.nodes from ≡ true) × (turn net lid from ≡ turns.Goes place))
-comes_to net lid place switch entered = elim (or_cases (is_hosts net (aim_of net lid) && carries_host net place) (is_fed net place lid) entered) [
+comes_to net lid place switch entered = elim (or_cases (is_hosts net (aim_of net lid) && carries_host net.plan place) (is_fed net place lid) entered) [
   | inl own ↦ inl (carried net place switch (and_parts (is_hosts net (aim_of net lid)) _ own).1)
   | inr fed ↦ inr (sent_from net lid place fed)
 ]
@@ -316,7 +317,7 @@ follow : (net : NetState) (lid place : ℕ) (way : List ℕ) → is_switch_at ne
     → IsWay net lid place way turns.Unknown → UnknownOn net lid
 follow net lid place [] switch entered is = record { place = place; switch = switch; unknown = is.0; entered = entered }
 follow net lid place (next ∷ rest) switch entered is =
-    follow net lid next rest (turn_goes net lid place next is.0) (or_right (is_hosts net (aim_of net lid) && carries_host net next) _ (fed_there net lid place next switch is.0)) is.1
+    follow net lid next rest (turn_goes net lid place next is.0) (or_right (is_hosts net (aim_of net lid) && carries_host net.plan next) _ (fed_there net lid place next switch is.0)) is.1
 
 unknown_by : (end : PortRef) (o : Option Turn) → is_fate fates.Unknown (fate_by end o) ≡ true → o ≡ Some turns.Unknown
 unknown_by end None is = absurd (false≢true is)
@@ -335,7 +336,7 @@ pair_unknown_shown whole net lacks =
     let way = way_there net at.lid (switch_total net) at.place turns.Unknown (unknown_by at.pair.end (end_from net at.lid at.place) at.pair.is) in
     let hosts : is_hosts net (aim_of net at.lid) ≡ true =
     ap (λ (o : Option PortRef). option_map_or (λ (p : PortRef). is_host net.plan p.node) o false) at.pair.named ∙ at.pair.host in
-    let entered = or_left (is_hosts net (aim_of net at.lid) && carries_host net at.place) (is_fed net at.place at.lid)
+    let entered = or_left (is_hosts net (aim_of net at.lid) && carries_host net.plan at.place) (is_fed net at.place at.lid)
     (and_from (is_hosts net (aim_of net at.lid)) _ hosts at.pair.carrying) in
     let on = follow net at.lid at.place way.0 at.switch entered way.1 in
     let others : is_others net (aim_of net at.lid) ≡ true =
@@ -395,7 +396,7 @@ entry_unknown_shown whole net unknown =
     let switch = switch_back net.plan.nodes at.one (is_there (switches net.plan.nodes) at.index at.one at.there) in
     unknown_shown whole net to.one.lid to.index next.0 (to.there ∙ ap (λ (aim : Aim). Some aim) same) (sym (ap (is_others net) same) ∙ to.keeps)
     (turn_goes net to.one.lid at.one next.0 next.1) next.2
-    (or_right (is_hosts net (aim_of net to.one.lid) && carries_host net next.0) _ (fed_there net to.one.lid at.one next.0 switch next.1))
+    (or_right (is_hosts net (aim_of net to.one.lid) && carries_host net.plan next.0) _ (fed_there net to.one.lid at.one next.0 switch next.1))
 
 entries_shown : (whole : Bool) (net : NetState) → ((verdict_of net).is_known && not (verdict_of net).lacks_entries) ≡ false
     → HasNoTableLine net (text whole net) ⊎ HasUnknownLine net (text whole net)

@@ -1,5 +1,5 @@
 -- Which channels wait for which, by the entries that count.
-use Rattle.std.proofs.Common.{◌≡◌, ◌∙◌, inl, inr, ap, refl, sym, ℕ, Bool, true, false, not, ◌==◌, ◌&&◌, ◌||◌, List, [], ◌∷◌, filter, map, arith, Option, Some, None, is_none, is_some, option_map}
+use Rattle.std.proofs.Common.{◌≡◌, ◌∙◌, inl, inr, ap, refl, sym, ℕ, Bool, true, false, not, ◌==◌, ◌&&◌, ◌||◌, List, [], ◌∷◌, filter, map, arith, Option, Some, None, is_some}
 use Rattle.std.specs.List.{list_any}
 use Rattle.std.specs.Option.{option_map_or}
 use Rattle.std.proofs.lemmas.Bool.{and_from, and_parts, cases_Bool, eq-eqb, false≢true, not-true, or_right}
@@ -7,20 +7,19 @@ use Rattle.std.proofs.lemmas.Bool.Decides.{nat_tests}
 use Rattle.step_results.proofs.BoolLemmas.{none_of}
 use Rattle.fabric_parts.specs.declared.cable.PortRef.{PortRef}
 use Rattle.topo_file.specs.Node.{is_switch_at}
-use Rattle.topo_file.specs.Rounds.{is_marked}
-use Rattle.audit_net.specs.Hosts.{hosts_come, hosts_marks}
+use Rattle.audit_net.specs.Hosts.{hosts_come}
 use Rattle.audit_net.specs.Net.{NetState}
 use Rattle.audit_net.proofs.EndlessLemmas.{any_of}
 use Rattle.audit_net.proofs.HostLemmas.{hosts_are_followed, marks_are}
 use Rattle.audit_plan.specs.Plan.{is_host}
 use Rattle.audit_loops.specs.Channels.{deadlock, deadlock_on, depends, depends_on, leads_to, leaves_by, takes_both}
-use Rattle.audit_loops.specs.Courses.{counts, everywhere, from_hosts}
+use Rattle.audit_loops.specs.Courses.{everywhere}
 use Rattle.audit_loops.specs.Laws.{is_cycle, wait_round}
 use Rattle.audit_net.specs.OwnerLaws.{end_port_of}
 use Rattle.audit_net.specs.Lids.{aim_of, aims, known_lids}
 use Rattle.audit_net.specs.declared.lids.Aim.{Aim}
 use Rattle.audit_routes.specs.Laws.{ComesFromAHost, IsAggregations, IsCreditLoop, WaitRound, WaitsFor, other_lids}
-use Rattle.audit_routes.specs.Loops.{aggregation_credit_loop, counts_at, course_of, courses_of, credit_loop, if_none, leaves_by_both, lids_of, switches_credit_loop}
+use Rattle.audit_routes.specs.Loops.{aggregation_credit_loop, counts_at, course_of, courses_of, credit_loop, if_none, leaves_by_both, lids_of}
 use Rattle.audit_routes.specs.Verdict.{is_aggregations, is_others, is_reducing}
 use Rattle.audit_routes.proofs.CarriesLemmas.{carried, carries}
 

@@ -1,5 +1,5 @@
 -- What is safe is reported to be.
-use Rattle.std.proofs.Common.{◌≡◌, ◌∙◌, inl, inr, ap, refl, sym, ℕ, zero, suc, ◌+◌, ◌<◌, ◌≤◌, Bool, true, false, not, ◌==◌, List, [], ◌∷◌, ◌++◌, length, filter, map, flat_map, slice_get, arith, Option, Some, None, is_none}
+use Rattle.std.proofs.Common.{◌≡◌, ◌∙◌, inl, inr, ap, refl, sym, ℕ, zero, suc, ◌+◌, ◌<◌, Bool, true, false, not, ◌==◌, List, [], ◌∷◌, ◌++◌, length, filter, map, flat_map, slice_get, arith, Option, Some, None, is_none}
 use Rattle.std.specs.List.{list_all, list_any, range_with_len}
 use Rattle.std.specs.Option.{option_map_or}
 use Rattle.std.proofs.lemmas.Bool.{and_from, cases_Bool, eq-eqb, false≢true, or_left, or_right}
@@ -9,21 +9,21 @@ use Rattle.dump_file.specs.declared.destination.Destination.{Destination}
 use Rattle.dump_file.specs.declared.destination.Destination.TheVariants.{ChannelAdapter, Switch, Router, FurtherLid, Nobody, NotReported}
 use Rattle.dump_file.specs.declared.row.Row.{Row}
 use Rattle.dump_file.specs.declared.table.Table.{Table}
-use Rattle.fabric_parts.specs.Cable.{ends_at, far_end, is_cabled, is_same_port, port}
+use Rattle.fabric_parts.specs.Cable.{ends_at, is_cabled, is_same_port}
 use Rattle.fabric_parts.specs.declared.cable.Cable.{Cable}
 use Rattle.fabric_parts.specs.declared.cable.PortRef.{PortRef}
 use Rattle.topo_file.specs.Connectivity.{switches}
-use Rattle.topo_file.specs.Node.{is_switch_at, ports_at}
+use Rattle.topo_file.specs.Node.{is_switch_at}
 use Rattle.audit_net.specs.declared.following.Fate.TheVariants as fates
 use Rattle.audit_net.specs.declared.following.Turn.{Turn}
 use Rattle.audit_net.specs.declared.following.Turn.TheVariants as turns
 use Rattle.audit_net.specs.declared.lids.Aim.{Aim}
 use Rattle.audit_routes.specs.declared.pairs.Pair.{Pair}
-use Rattle.audit_net.specs.Attached.{carries_host, leads_to_host}
+use Rattle.audit_plan.specs.Attached.{carries_host}
 use Rattle.audit_routes.specs.Audit.{audit_of}
 use Rattle.audit_routes.specs.Loops.{courses_of, credit_loop}
 use Rattle.audit_net.specs.Following.{end_from, fate_by, turn}
-use Rattle.audit_routes.specs.Laws.{AreSafe, CarriesAHost, IsOfKind, LeadThere, LeadingRoutesAreReported, NameTheSame, SafeRoutesAreReported, other_lids, says_lead, says_safe}
+use Rattle.audit_routes.specs.Laws.{AreSafe, IsOfKind, LeadThere, LeadingRoutesAreReported, NameTheSame, SafeRoutesAreReported, other_lids, says_lead, says_safe}
 use Rattle.audit_net.specs.OwnerLaws.{end_port_of}
 use Rattle.audit_net.specs.Lids.{aim_of, aims, all_lids, has_lid, have_lids, is_known_lid, is_lacking, is_of, is_of_fabric, known_lids, says_of_fabric}
 use Rattle.audit_net.specs.Net.{NetState, has_table, row_at}
@@ -31,7 +31,8 @@ use Rattle.audit_plan.specs.Plan.{is_host}
 use Rattle.audit_routes.specs.Pairs.{all_reached, between_hosts, is_between_hosts, is_fate, pair_at, pair_to, pairs_at, pairs_by}
 use Rattle.audit_routes.specs.Verdict.{goes_on_known, have_tables, is_known, is_others, is_unknown, knows_all, knows_entries, knows_next, name_the_same}
 use Rattle.audit_loops.proofs.CycleLawLemmas.{reported_loops_wait_on_courses}
-use Rattle.audit_net.proofs.EndlessLemmas.{in_kept, ways_are_followed}
+use Rattle.audit_net.proofs.EndlessLemmas.{ways_are_followed}
+use Rattle.audit_plan.proofs.PlaceLemmas.{in_kept}
 use Rattle.audit_routes.proofs.SafeLemmas.{flat_mapped, has_end, reported_is_safe, reported_leads}
 use Rattle.audit_net.proofs.LidLemmas.{in_lids}
 use Rattle.audit_routes.proofs.CarriesLemmas.{carried}
@@ -178,13 +179,13 @@ each_in_range f test first (suc count) each =
     ]
 
 pair_fine : (net : NetState) (place lid : ℕ) (o : Option PortRef)
-    → ((end : PortRef) → o ≡ Some end → is_host net.plan end.node ≡ true → carries_host net place ≡ true
+    → ((end : PortRef) → o ≡ Some end → is_host net.plan end.node ≡ true → carries_host net.plan place ≡ true
     → end_from net lid place ≡ Some (turns.Arrives end))
     → all_reached (between_hosts (pair_to net place lid o)) ≡ true
 pair_fine net place lid None ends = refl
 pair_fine net place lid (Some end) ends = elim (cases_Bool (is_host net.plan end.node)) [
   | inr other ↦ rw other refl
-  | inl host ↦ elim (cases_Bool (carries_host net place)) [
+  | inl host ↦ elim (cases_Bool (carries_host net.plan place)) [
     | inr none ↦ rw (host, none) refl
     | inl carrying ↦
         let reached : is_fate fates.Reached (fate_by end (end_from net lid place)) ≡ true = rw (ends end refl host carrying, itself end) refl in

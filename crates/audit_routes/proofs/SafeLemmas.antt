@@ -24,7 +24,7 @@ use Rattle.audit_net.specs.declared.following.Turn.{Turn}
 use Rattle.audit_net.specs.declared.following.Turn.TheVariants as turns
 use Rattle.audit_net.specs.declared.lids.Aim.{Aim}
 use Rattle.audit_routes.specs.declared.pairs.Pair.{Pair}
-use Rattle.audit_net.specs.Attached.{carries_host}
+use Rattle.audit_plan.specs.Attached.{carries_host}
 use Rattle.audit_routes.specs.Audit.{audit_of}
 use Rattle.audit_routes.specs.Loops.{courses_of, credit_loop}
 use Rattle.audit_net.specs.Following.{end_from, fate_by, switch_total, turn}
@@ -37,7 +37,8 @@ use Rattle.audit_net.specs.Net.{NetState, has_table, row_at, row_of, table_of}
 use Rattle.audit_routes.specs.Pairs.{all_reached, between_hosts, is_between_hosts, is_fate, pair_at, pair_to, pairs_at, pairs_by}
 use Rattle.audit_routes.specs.Verdict.{goes_on_known, have_tables, is_known, is_others, is_unknown, knows_all, knows_entries, knows_next, name_the_same}
 use Rattle.audit_loops.proofs.CycleLawLemmas.{no_cycle_is_missed_on_courses}
-use Rattle.audit_net.proofs.EndlessLemmas.{in_kept, is_listed, way_there}
+use Rattle.audit_net.proofs.EndlessLemmas.{way_there}
+use Rattle.audit_plan.proofs.PlaceLemmas.{in_kept, is_listed}
 use Rattle.audit_net.proofs.LidLemmas.{in_lids}
 use Rattle.audit_routes.proofs.CarriesLemmas.{carries}
 use Rattle.audit_routes.proofs.LoopLemmas.{loop_is_cycle}
@@ -119,7 +120,7 @@ comes_there net place lid end all =
     (reached_by end (end_from net lid place) (and_parts (is_fate fates.Reached (fate_by end (end_from net lid place))) true all).0)
 
 pair_reached : (net : NetState) (place lid : ℕ) (o : Option PortRef) (end : PortRef) → o ≡ Some end → is_host net.plan end.node ≡ true
-    → carries_host net place ≡ true → all_reached (between_hosts (pair_to net place lid o)) ≡ true → end_from net lid place ≡ Some (turns.Arrives end)
+    → carries_host net.plan place ≡ true → all_reached (between_hosts (pair_to net place lid o)) ≡ true → end_from net lid place ≡ Some (turns.Arrives end)
 pair_reached net place lid None end is host carries all = cc
 pair_reached net place lid (Some there) end is host carries all =
     let same : there ≡ end = same_Some there end is in

@@ -20,7 +20,8 @@ use Rattle.audit_net.specs.Lids.{aim_of}
 use Rattle.audit_routes.specs.Lines.{goes_to, is_fed, is_least, left_out_line, lid_text, line_by, loop_line, name_text, name_word, nobodys_line, stray_line, trouble_line, trouble_to, unplaced_line}
 use Rattle.audit_net.specs.Net.{NetState, table_at}
 use Rattle.audit_net.proofs.EndlessLemmas.{any_of}
-use Rattle.audit_net.proofs.EndlessLemmas.{is_listed, loops_never_end, turn_goes, way_there}
+use Rattle.audit_net.proofs.EndlessLemmas.{loops_never_end, turn_goes, way_there}
+use Rattle.audit_plan.proofs.PlaceLemmas.{is_listed}
 
 module _ (net : NetState) (lid : ℕ) where
   -- ---- what goes on for ever

@@ -1,20 +1,20 @@
 -- The lines of unknown entries: which switches they are of.
-use Rattle.std.proofs.Common.{◌≡◌, ◌∙◌, ◌⊎◌, inl, inr, ap, refl, subst, sym, ℕ, ◌<◌, Bool, true, false, not, ◌&&◌, ◌||◌, if◌then◌else◌, List, [], filter, codes, Option, Some, None, is_some}
+use Rattle.std.proofs.Common.{◌≡◌, ◌∙◌, ◌⊎◌, inl, inr, ap, refl, subst, sym, ℕ, Bool, true, false, not, ◌&&◌, if◌then◌else◌, List, [], filter, codes, Option, Some, None}
 use Rattle.std.specs.Option.{option_map_or}
-use Rattle.std.proofs.lemmas.Bool.{and_from, and_parts, cases_Bool, eq-eqb, false≢true, or_cases, or_left, or_right}
+use Rattle.std.proofs.lemmas.Bool.{and_from, and_parts, cases_Bool, false≢true, or_cases, or_left, or_right}
 use Rattle.fabric_parts.specs.declared.cable.PortRef.{PortRef}
 use Rattle.topo_file.specs.Connectivity.{switches}
 use Rattle.topo_file.specs.Node.{is_switch_at}
 use Rattle.audit_plan.specs.Plan.{is_host}
 use Rattle.audit_plan.proofs.SubsliceLemmas.{stands_itself, stands_of_all}
 use Rattle.audit_net.specs.declared.following.Turn.{Turn}
-use Rattle.audit_net.specs.Attached.{carries_host}
+use Rattle.audit_plan.specs.Attached.{carries_host}
 use Rattle.audit_net.specs.Following.{turn}
 use Rattle.audit_net.specs.Lids.{aim_of, aims, known_lids}
 use Rattle.audit_net.specs.Net.{NetState, has_table}
 use Rattle.audit_net.specs.OwnerLaws.{end_port_of}
 use Rattle.audit_net.specs.declared.lids.Aim.{Aim}
-use Rattle.audit_net.proofs.EndlessLemmas.{in_kept, is_listed}
+use Rattle.audit_plan.proofs.PlaceLemmas.{in_kept, is_listed}
 use Rattle.step_results.proofs.BoolLemmas.{not_true}
 use Rattle.audit_routes.specs.Deciding.{is_entered, is_hosts, lacking_entries, lacks_entry, unknown_line}
 use Rattle.audit_routes.specs.Laws.{IsSentByAHost, IsSentByASwitch, LacksTheEntry, NamesUnknown, PrintsUnknown, UnknownEntriesAreNamed}
@@ -52,16 +52,16 @@ host_there net o end named host = ap (λ (o : Option PortRef). option_map_or (λ
 
 enters : (net : NetState) (lid place : ℕ) → IsSentByAHost net lid place ⊎ IsSentByASwitch net lid place → is_entered net (aim_of net lid) place ≡ true
 enters net lid place (inl host) =
-    or_left (is_hosts net (aim_of net lid) && carries_host net place) (is_fed net place lid)
-    (and_from (is_hosts net (aim_of net lid)) (carries_host net place) (host_there net (end_port_of net lid) host.1.0 host.1.1 host.1.2) (carries net place host.0))
+    or_left (is_hosts net (aim_of net lid) && carries_host net.plan place) (is_fed net place lid)
+    (and_from (is_hosts net (aim_of net lid)) (carries_host net.plan place) (host_there net (end_port_of net lid) host.1.0 host.1.1 host.1.2) (carries net place host.0))
 enters net lid place (inr sent) =
-    or_right (is_hosts net (aim_of net lid) && carries_host net place) (is_fed net place lid) (fed_there net lid sent.0 place sent.1 sent.2)
+    or_right (is_hosts net (aim_of net lid) && carries_host net.plan place) (is_fed net place lid) (fed_there net lid sent.0 place sent.1 sent.2)
 
 sent : (net : NetState) (lid place : ℕ) → is_switch_at net.plan.nodes place ≡ true → is_entered net (aim_of net lid) place ≡ true
     → IsSentByAHost net lid place ⊎ IsSentByASwitch net lid place
-sent net lid place switch entered = elim (or_cases (is_hosts net (aim_of net lid) && carries_host net place) (is_fed net place lid) entered) [
+sent net lid place switch entered = elim (or_cases (is_hosts net (aim_of net lid) && carries_host net.plan place) (is_fed net place lid) entered) [
   | inl own ↦
-      let parts = and_parts (is_hosts net (aim_of net lid)) (carries_host net place) own in
+      let parts = and_parts (is_hosts net (aim_of net lid)) (carries_host net.plan place) own in
       inl (carried net place switch parts.1, host_named net (end_port_of net lid) parts.0)
   | inr fed ↦ inr (sent_from net lid place fed)
 ]

@@ -1,5 +1,5 @@
 -- What wrong rules report of two switches.
-use Rattle.std.proofs.Common.{◌≡◌, ◌∙◌, ◌==◌, ◌≤◌, ◌<◌, ◌+◌, ◌||◌, inl, inr, ℕ, zero, suc, nat_le, nat_lt, true, false, List, Option, Some, None, is_some, ap, filter, lit<, map, refl, subst, sym, [], ◌∷◌, arith}
+use Rattle.std.proofs.Common.{◌≡◌, ◌∙◌, ◌==◌, ◌≤◌, ◌+◌, ◌||◌, inl, inr, ℕ, zero, suc, nat_le, nat_lt, true, false, List, Option, Some, None, is_some, ap, filter, lit<, map, refl, subst, sym, [], ◌∷◌, arith}
 use Rattle.std.specs.List.{list_all, list_any, range_with_len}
 use Rattle.std.proofs.lemmas.Bool.{cases_Bool, false≢true}
 use Rattle.std.proofs.lemmas.Bool.Decides.{nat_tests}
@@ -27,7 +27,7 @@ use Rattle.audit_plan.specs.declared.ends.LidGuid.{LidGuid}
 use Rattle.audit_routes.specs.WrongRules.{ClosingLidsCountThere, LoopsOfAggregationDecideNothing, LoopsOfHostsDecide, aggregations_aim, an_aggregations_loop, by_all_entries, is_no_aggregations, two_aims, two_loops, without_aggregation}
 use Rattle.audit_routes.specs.WrongRules.{AggregationDecidesNothing, CreditLoopsAreApart, UnknownEntriesDecide, an_aggregations_hole, an_unknown_entry, to_each_adapter, with_unknown, EachStepHasItsLid, LidsGoOnRound, LostPairsAreAReason, ReasonsHold, all_three, both_ways, one_way, three_ways, HolesAreCounted, HolesHaveALine, LidsAreAsked, LoopsHaveALine, NobodysLoopsHaveALine, NobodysRowsHaveALine, OtherLidsDecide, OtherPortsDecide, OtherTablesDecide, OthersHolesHaveALine, RowsLeftOutHaveALine, TransitDecidesNothing, WaysAreAsked, a_row_left_out, nobodys_row_left_out, a_hole_at_home, a_loop, a_nobodys_loop, a_routers_hole, a_routers_loop, a_third_table, another_adapter, another_row, by_adapters_lids, from_each_switch, is_going, is_hole, no_lids, silent_of_nobody, silent_where, with_other_ports, with_other_tables, without_lids, without_ways}
 use Rattle.audit_net.specs.SmallNets.{a_hole, adapters_row, two_with, with_rows}
-use Rattle.audit_net.proofs.LidLemmas.{filter_alike}
+use Rattle.audit_plan.proofs.PlaceLemmas.{filter_alike}
 use Rattle.audit_routes.proofs.SafeLemmas.{reported_is_safe, reported_leads}
 
 pub holes_are_counted : HolesAreCounted

@@ -1,7 +1,6 @@
 -- Wrong rules for the lines of what decides.
-use Rattle.std.proofs.Common.{◌≡◌, ◌∙◌, ap, inl, inr, refl, subst, sym, ℕ, zero, suc, ◌+◌, ◌≤◌, ◌==◌, true, List, [], ◌∷◌, ◌++◌, codes, count_by, decimal, filter, get_or, is_some, length, lit<, arith, Some}
+use Rattle.std.proofs.Common.{◌≡◌, ◌∙◌, ap, inl, inr, refl, subst, sym, ℕ, zero, suc, ◌+◌, ◌≤◌, ◌==◌, true, List, [], ◌∷◌, ◌++◌, codes, count_by, decimal, filter, get_or, is_some, length, lit<, arith}
 use Rattle.std.specs.Fmt.{digits}
-use Rattle.std.specs.List.{list_any}
 use Rattle.std.proofs.lemmas.Bool.{eq-eqb, false≢true, or_left}
 use Rattle.std.proofs.lemmas.List.{length-append}
 use Rattle.std.proofs.lemmas.Option.{same_Some}
@@ -10,7 +9,7 @@ use Rattle.topo_file.specs.Node.{is_switch_at}
 use Rattle.audit_net.specs.declared.following.Turn.{Turn}
 use Rattle.audit_net.specs.declared.following.Turn.TheVariants as turns
 use Rattle.audit_net.specs.Following.{turn}
-use Rattle.audit_net.specs.Laws.{EndsBy, IsWay}
+use Rattle.audit_net.specs.Laws.{EndsBy}
 use Rattle.audit_net.specs.Net.{NetState}
 use Rattle.audit_net.specs.SmallNets.{a_hole}
 use Rattle.audit_plan.proofs.SubsliceLemmas.{no_longer}
@@ -20,10 +19,10 @@ use Rattle.audit_net.specs.Lids.{aim_of, aims}
 use Rattle.audit_routes.specs.Audit.{body_by, counts_by, decides_nothing, findings_of, lines_by}
 use Rattle.audit_routes.specs.Loops.{credit_loop, loops_of}
 use Rattle.audit_routes.specs.Deciding.{counted_line, switches_words, unreached_line}
-use Rattle.audit_routes.specs.Laws.{AreThose, CarriesAHost, HasUnreachedLine, IsLostFrom, LacksTheEntry, NamesLost, NamesUnknown, SaysWhich, verdict_of, whole_text}
-use Rattle.audit_routes.specs.Lines.{lid_text, troubles_by}
+use Rattle.audit_routes.specs.Laws.{AreThose, CarriesAHost, IsLostFrom, LacksTheEntry, NamesLost, NamesUnknown, SaysWhich, verdict_of}
+use Rattle.audit_routes.specs.Lines.{lid_text}
 use Rattle.audit_routes.specs.Pairs.{pairs_by}
-use Rattle.audit_routes.specs.WrongRules.{AllSwitchesAreCounted, HostsSwitchesCount, LinesAreCounted, LostPairsHaveALine, MissingTablesDoNotCount, PacketsHaveToCome, ReasonsHaveALine, UnknownIsNotLost, a_hole_at_home, a_row_left_out, a_table_missing, at_nine, from_anywhere, lacking_where, lacks_anything, lacks_in_vain, nine_holes, of_eight, troubles_alone, unknown_is_lost, with_bytes}
+use Rattle.audit_routes.specs.WrongRules.{AllSwitchesAreCounted, HostsSwitchesCount, LinesAreCounted, LostPairsHaveALine, MissingTablesDoNotCount, PacketsHaveToCome, ReasonsHaveALine, UnknownIsNotLost, a_hole_at_home, a_row_left_out, a_table_missing, at_nine, from_anywhere, lacking_where, lacks_anything, lacks_in_vain, nine_holes, of_eight, troubles_alone, unknown_is_lost}
 use Rattle.audit_routes.proofs.CarriesLemmas.{carries}
 use Rattle.audit_routes.proofs.DecidingLemmas.{is_in, kept_back}
 use Rattle.audit_routes.proofs.WrongLemmas.{few_aims}

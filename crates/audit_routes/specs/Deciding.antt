@@ -5,7 +5,7 @@ use Rattle.std.specs.Option.{option_map_or}
 use Rattle.fabric_parts.specs.declared.cable.PortRef.{PortRef}
 use Rattle.topo_file.specs.Connectivity.{switches}
 use Rattle.audit_plan.specs.Plan.{is_host}
-use Rattle.audit_net.specs.Attached.{carries_host}
+use Rattle.audit_plan.specs.Attached.{carries_host}
 use Rattle.audit_net.specs.Following.{fate, turn}
 use Rattle.audit_net.specs.Net.{NetState, has_table}
 use Rattle.audit_net.specs.declared.lids.Aim.{Aim}
@@ -27,7 +27,7 @@ places_line word joint net aim (place ∷ places) = word ++ lid_text net aim.lid
 
 -- ---- `unreached 5 (h5/1) from 3 switches: A B C`: the switches with a host from which packets to the port of a host are lost
 abbrev pub host_switches : NetState → List ℕ
-host_switches net = filter (carries_host net) (switches net.plan.nodes)
+host_switches net = filter (carries_host net.plan) (switches net.plan.nodes)
 
 abbrev pub losing : NetState → ℕ → PortRef → List ℕ
 losing net lid end = filter (λ place. is_lost_by (fate net lid end place)) (host_switches net)
@@ -51,7 +51,7 @@ is_hosts net aim = option_map_or (λ end. is_host net.plan end.node) aim.end fal
 
 -- a host of the switch sends them to a host, or another switch sends them
 abbrev pub is_entered : NetState → Aim → ℕ → Bool
-is_entered net aim place = (is_hosts net aim && carries_host net place) || is_fed net place aim.lid
+is_entered net aim place = (is_hosts net aim && carries_host net.plan place) || is_fed net place aim.lid
 
 abbrev pub lacks_entry : NetState → Aim → ℕ → Bool
 lacks_entry net aim place = has_table net place && (is_unknown (turn net aim.lid place) && is_entered net aim place)

@@ -19,7 +19,7 @@ use Rattle.audit_routes.specs.declared.pairs.Pair.{Pair}
 use Rattle.audit_routes.specs.declared.verdict.Verdict.{Verdict}
 use Rattle.audit_routes.specs.Audit.{audit_of, findings_of, port_word}
 use Rattle.audit_routes.specs.Loops.{behind, closing, courses_of, credit_loop, lids_of}
-use Rattle.audit_loops.specs.Channels.{deadlock, deadlock_on, depends, leads_to, leaves_by, channels}
+use Rattle.audit_loops.specs.Channels.{deadlock, deadlock_on, depends, leads_to, leaves_by}
 use Rattle.audit_net.specs.Following.{fate}
 use Rattle.audit_net.specs.Lids.{aim_of, aims, is_known_lid, owner_of}
 use Rattle.audit_routes.specs.Verdict.{is_aggregations, is_others, leads, reasons, verdict_by, verdict_is_safe, verdict_line}

@@ -1,5 +1,5 @@
 -- The credit loops of a fabric: that which decides, and those that decide nothing.
-use Rattle.std.specs.Prelude.{ℕ, ◌+◌, ◌&&◌, ◌||◌, nat_lt, Bool, true, false, not, List, filter, find, get_or, length, map, if◌then◌else◌, Option, Some, None}
+use Rattle.std.specs.Prelude.{ℕ, ◌+◌, ◌&&◌, ◌||◌, nat_lt, Bool, not, List, filter, find, get_or, length, map, if◌then◌else◌, Option, Some, None}
 use Rattle.fabric_parts.specs.Cable.{port}
 use Rattle.fabric_parts.specs.declared.cable.PortRef.{PortRef}
 use Rattle.audit_net.specs.Hosts.{hosts_come}

@@ -8,7 +8,7 @@ use Rattle.audit_net.specs.declared.following.Fate.{Fate}
 use Rattle.audit_net.specs.declared.following.Fate.TheVariants as fates
 use Rattle.audit_net.specs.declared.lids.Aim.{Aim}
 use Rattle.audit_routes.specs.declared.pairs.Pair.{Pair}
-use Rattle.audit_net.specs.Attached.{carries_host}
+use Rattle.audit_plan.specs.Attached.{carries_host}
 use Rattle.audit_net.specs.Following.{fate}
 use Rattle.audit_net.specs.Lids.{aims}
 use Rattle.audit_net.specs.Net.{NetState}
@@ -27,7 +27,7 @@ is_fate _ _ = false
 -- ---- a switch and a LID; of LIDs whose end port the fabric lacks there is none
 abbrev pub pair_to : NetState → ℕ → ℕ → Option PortRef → List Pair
 pair_to net place lid (Some end) = record {
-  from_hosts = carries_host net place;
+  from_hosts = carries_host net.plan place;
   to_host = is_host net.plan end.node;
   to_switch = is_switch_at net.plan.nodes end.node;
   fate = fate net lid end place;

@@ -48,7 +48,7 @@ fn lacks_row(net: &Net<'_>, place: usize, aim: &Aim) -> bool
 fn may_lack_rows(net: &Net<'_>, place: usize) -> bool
     ensures { result ≡ may_lack_rows net.now place }
 {
-    is_wide(ports_at(net.nodes(), place)) && net.table_at(place).is_some()
+    is_wide(ports_at(net.plan().nodes(), place)) && net.table_at(place).is_some()
 }
 
 fn some_lack_rows(net: &Net<'_>, aims: &[Aim], place: usize) -> bool

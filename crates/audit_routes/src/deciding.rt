@@ -78,7 +78,7 @@ fn host_switches(net: &Net<'_>, alloc: Global) -> Result<Vec<usize>, AllocError>
     net.switches()
         .iter()
         .copied()
-        .filter(|place| net.carries_host(*place))
+        .filter(|place| net.links().carries_host(*place))
         .collect(alloc)
 }
 
@@ -110,7 +110,7 @@ fn losers(
     ensures { IfOk result (λ some. some.items ≡ losers net.now aim) }
 {
     match aim.end {
-        Some(end) if net.is_host(end.node) => losing(net, alloc, places, aim.lid, end),
+        Some(end) if net.plan().is_host(end.node) => losing(net, alloc, places, aim.lid, end),
         _ => Ok(Vec::new(alloc)),
     }
 }
@@ -151,7 +151,7 @@ fn is_hosts(net: &Net<'_>, aim: Aim) -> bool
     ensures { result ≡ is_hosts net.now aim }
 {
     match aim.end {
-        Some(end) => net.is_host(end.node),
+        Some(end) => net.plan().is_host(end.node),
         None => false,
     }
 }
@@ -160,7 +160,7 @@ fn is_hosts(net: &Net<'_>, aim: Aim) -> bool
 fn is_entered(net: &Net<'_>, aim: Aim, place: usize) -> bool
     ensures { result ≡ is_entered net.now aim place }
 {
-    (is_hosts(net, aim) && net.carries_host(place)) || is_fed(net, place, aim.lid)
+    (is_hosts(net, aim) && net.links().carries_host(place)) || is_fed(net, place, aim.lid)
 }
 
 fn has_table(net: &Net<'_>, place: usize) -> bool

@@ -120,14 +120,14 @@ fn push_passed_words(text: &mut Vec<u8>) -> Result<(), AllocError>
 pub fn push_name(net: &Net<'_>, text: &mut Vec<u8>, place: usize) -> Result<(), AllocError>
     ensures { OnOk result (text.new.items ≡ text.old.items ++ name_text net.now place) }
 {
-    text.extend_from_slice(name_at(net.nodes(), place))
+    text.extend_from_slice(name_at(net.plan().nodes(), place))
 }
 
 /// Adds a port by the name of its node, as `A/3`.
 pub fn push_port(net: &Net<'_>, text: &mut Vec<u8>, port: PortRef) -> Result<(), AllocError>
     ensures { OnOk result (text.new.items ≡ text.old.items ++ port_text net.now port) }
 {
-    push_port_name(text, name_at(net.nodes(), port.node), port.port)
+    push_port_name(text, name_at(net.plan().nodes(), port.node), port.port)
 }
 
 fn push_owner(net: &Net<'_>, text: &mut Vec<u8>, end: Option<PortRef>) -> Result<(), AllocError>
@@ -170,7 +170,7 @@ fn push_apart(net: &Net<'_>, text: &mut Vec<u8>, cable: Cable) -> Result<(), All
 fn push_all_apart(net: &Net<'_>, text: &mut Vec<u8>) -> Result<(), AllocError>
     ensures { OnOk result (text.new.items ≡ text.old.items ++ flat_map (apart_line net.now) net.now.plan.apart) }
 {
-    for cable in net.apart() {
+    for cable in net.plan().apart() {
         push_apart(net, text, *cable)?;
     }
     Ok(())
@@ -209,7 +209,7 @@ fn push_no_tables(net: &Net<'_>, text: &mut Vec<u8>) -> Result<(), AllocError>
 fn push_no_switch(net: &Net<'_>, text: &mut Vec<u8>, table: &Table) -> Result<(), AllocError>
     ensures { OnOk result (text.new.items ≡ text.old.items ++ no_switch_line net.now table.now) }
 {
-    if !has_switch(table.guid, net.nodes()) {
+    if !has_switch(table.guid, net.plan().nodes()) {
         text.extend_from_slice(b"no-switch ")?;
         push_guid(text, table.guid)?;
         text.push(b'\n')?;
@@ -257,7 +257,7 @@ fn push_no_lids_of(
 fn push_no_lids(net: &Net<'_>, text: &mut Vec<u8>, aims: &[Aim]) -> Result<(), AllocError>
     ensures { OnOk result (text.new.items ≡ text.old.items ++ flat_map (no_lid_lines net.now aims.now) net.now.plan.cables) }
 {
-    for cable in net.cables() {
+    for cable in net.plan().cables() {
         push_no_lids_of(net, text, aims, *cable)?;
     }
     Ok(())

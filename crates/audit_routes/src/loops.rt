@@ -68,7 +68,7 @@ pub fn is_others(net: &Net<'_>, aim: &Aim) -> bool
     ensures { result ≡ is_others net.now aim.now }
 {
     match aim.end {
-        Some(end) => !net.is_switch_at(end.node),
+        Some(end) => !net.plan().is_switch_at(end.node),
         None => true,
     }
 }
@@ -76,7 +76,7 @@ pub fn is_others(net: &Net<'_>, aim: &Aim) -> bool
 fn is_reducing(net: &Net<'_>, end: PortRef) -> bool
     ensures { result ≡ is_reducing net.now end }
 {
-    !net.is_switch_at(end.node) && !net.is_host(end.node)
+    !net.plan().is_switch_at(end.node) && !net.plan().is_host(end.node)
 }
 
 fn is_aggregations(net: &Net<'_>, aim: &Aim) -> bool

@@ -2,7 +2,7 @@
 
 ghost use Rattle.std.specs.Prelude.{◌≡◌, ◌++◌, true, filter, IfOk, OnOk};
 ghost use Rattle.audit_routes.specs.Pairs.{all_reached, between_hosts, count_of, in_transit, is_fate, pair_at, pairs_at, pairs_by, to_aggregation, to_switches};
-ghost use Rattle.audit_net.specs.Attached.{carries_host};
+ghost use Rattle.audit_plan.specs.Attached.{carries_host};
 ghost use Rattle.audit_routes.specs.Verdict.{is_lost, is_lost_by, some_lost, some_unknown};
 
 use audit_net::{Aim, Fate, Net};
@@ -28,15 +28,15 @@ fn push_pair(
     from_hosts: bool,
     aim: &Aim,
 ) -> Result<(), AllocError>
-    requires { from_hosts ≡ carries_host net.now place }
+    requires { from_hosts ≡ carries_host net.now.plan place }
     ensures { OnOk result (pairs.new.items ≡ pairs.old.items ++ pair_at net.now place aim.now) }
 {
     let aim = *aim;
     if let Some(end) = aim.end {
         pairs.push(Pair {
             from_hosts,
-            to_host: net.is_host(end.node),
-            to_switch: net.is_switch_at(end.node),
+            to_host: net.plan().is_host(end.node),
+            to_switch: net.plan().is_switch_at(end.node),
             fate: net.fate(aim.lid, end, place),
         })?;
     }
@@ -51,7 +51,7 @@ fn push_pairs(
 ) -> Result<(), AllocError>
     ensures { OnOk result (pairs.new.items ≡ pairs.old.items ++ pairs_at net.now aims.now place) }
 {
-    let from_hosts = net.carries_host(place);
+    let from_hosts = net.links().carries_host(place);
     for aim in aims {
         push_pair(net, pairs, place, from_hosts, aim)?;
     }

@@ -141,7 +141,8 @@ pub(crate) fn push_verdict(
 fn all_have_lids(net: &Net<'_>, aims: &[Aim]) -> bool
     ensures { result ≡ list_all (have_lids net.now aims.now) net.now.plan.cables }
 {
-    net.cables()
+    net.plan()
+        .cables()
         .iter()
         .all(|cable| have_lids(net, aims, *cable))
 }
@@ -163,7 +164,7 @@ fn all_have_tables(net: &Net<'_>) -> bool
 fn is_known(net: &Net<'_>, table: &Table) -> bool
     ensures { result ≡ is_known net.now table.now }
 {
-    has_switch(table.guid, net.nodes())
+    has_switch(table.guid, net.plan().nodes())
 }
 
 fn all_are_known(net: &Net<'_>) -> bool

@@ -51,15 +51,16 @@ use Rattle.cable_cuts.specs.declared.fate.Cut.{Cut}
 use Rattle.cable_cuts.specs.declared.fate.Cut.TheVariants.{Keeps, Stops}
 use Rattle.cable_cuts.specs.declared.fate.Stop.{Stop}
 use Rattle.cable_cuts.specs.declared.fate.Stop.TheVariants.{Apart, TooFar, NoLegalPath}
+use Rattle.updn_routes.specs.declared.tie_rule.TieRule.{TieRule}
 
 -- ---- over one good fabric
 module _ (fabric : FabricState) (good : IsGood fabric) where
   tables_meet : (roots : List ℕ) (one other : RoutesState) → ArePlannedOver fabric roots one → ArePlannedOver fabric roots other
-      → entry_by other ≡ entry_by one
-  tables_meet roots one other planned planned_too =
+      → other.between.rule ≡ one.between.rule → entry_by other ≡ entry_by one
+  tables_meet roots one other planned planned_too ruled =
       let lids = same_lids fabric good one.graph other.graph one.lids other.lids planned.laid.layout planned_too.laid.layout planned.assigned planned_too.assigned in
       let hops = λ (guid lid : ℕ). next_hops_are_the_fabrics fabric one other roots guid lid good planned.laid.layout planned_too.laid.layout
-      planned.chosen planned_too.chosen lids in
+      planned.chosen planned_too.chosen lids ruled in
       λ i guid lid. unwrap_or (hops guid lid i) 255
 
   one_pair : (roots : List ℕ) (a b c d : ℕ) → HasNoPathFrom fabric roots a b → HasNoPathFrom fabric roots c d → (a ≡ c) × (b ≡ d)
@@ -104,11 +105,12 @@ module _ (plan : TopologyState) (routes : RoutesState) (cable : Cable) (sound : 
   abbrev over : FabricState
   over = cut_fabric plan routes cable sound up can
 
-  tables_are : (one other : RoutesState) → ArePlannedFor left one → ArePlannedFor left other → entry_by other ≡ entry_by one
-  tables_are one other planned planned_too =
+  tables_are : (one other : RoutesState) → ArePlannedFor left one → ArePlannedFor left other → other.between.rule ≡ one.between.rule
+      → entry_by other ≡ entry_by one
+  tables_are one other planned planned_too ruled =
       let alike = left_alike plan routes cable sound up can in
       tables_meet over (good_cut plan routes cable sound up can) (root_guids plan) one other
-      (planned_alike (fabric_of left) over (root_guids plan) one alike planned) (planned_alike (fabric_of left) over (root_guids plan) other alike planned_too)
+      (planned_alike (fabric_of left) over (root_guids plan) one alike planned) (planned_alike (fabric_of left) over (root_guids plan) other alike planned_too) ruled
 
   masks_are : (ports : List SubnetPort) (one other : RoutesState) → ArePlannedFor left one → ArePlannedFor left other
       → mask_by ports other ≡ mask_by ports one
@@ -141,19 +143,20 @@ module _ (plan : TopologyState) (routes : RoutesState) (cable : Cable) (sound : 
       let second = same.1 in
       sym (λ i. NoLegalPath (first i) (second i))
 
-  one_fate : (one other : Cut) → IsFate left one → IsFate left other → ReportTheSame one other
-  one_fate (Keeps one) (Keeps other) is too = (tables_are one other is.1 too.1, λ ports. masks_are ports one other is.1 too.1)
-  one_fate (Keeps one) (Stops stop) is too = absurd (never_up left stop too is.0)
-  one_fate (Stops stop) (Keeps other) is too = absurd (never_up left stop is too.0)
-  one_fate (Stops one) (Stops other) is too = one_stop one other is too
+  one_fate : (rule : TieRule) (one other : Cut) → IsFate rule left one → IsFate rule left other → ReportTheSame one other
+  one_fate rule (Keeps one) (Keeps other) is too =
+      (tables_are one other is.1 too.1 (too.2 ∙ sym is.2), λ ports. masks_are ports one other is.1 too.1)
+  one_fate rule (Keeps one) (Stops stop) is too = absurd (never_up left stop too is.0)
+  one_fate rule (Stops stop) (Keeps other) is too = absurd (never_up left stop is too.0)
+  one_fate rule (Stops one) (Stops other) is too = one_stop one other is too
 
 pub one_fate_is_reported : OneFateIsReported
-one_fate_is_reported plan routes cable one other sound up can is too = one_fate plan routes cable sound up can one other is too
+one_fate_is_reported plan routes cable one other sound up can is too = one_fate plan routes cable sound up can routes.between.rule one other is too
 
 pub kept_is_what_comes_up : KeptIsWhatComesUp
 kept_is_what_comes_up plan configuration routes cable outcome is = by is.fate is.fate_is is.outcome_is
   where
-    by : (fate : Cut) → IsFate (without_cable cable plan) fate → outcome ≡ outcome_of configuration routes fate
+    by : (fate : Cut) → IsFate routes.between.rule (without_cable cable plan) fate → outcome ≡ outcome_of configuration routes fate
         → (keeps outcome ≡ true) ↔ CanComeUp (without_cable cable plan)
     by (Keeps others) fate outcome_is = (λ kept. fate.0, λ can. ap keeps outcome_is)
     by (Stops stop) fate outcome_is = (
@@ -162,13 +165,13 @@ kept_is_what_comes_up plan configuration routes cable outcome is = by is.fate is
     )
 
 pub changes_are_the_fabrics : ChangesAreTheFabrics
-changes_are_the_fabrics plan ports cable keys other_keys routes others fabric left sound by can planned up_too =
+changes_are_the_fabrics plan ports cable keys other_keys routes others fabric left sound by can planned up_too ruled =
     let here : entry_by routes ≡ entry_in fabric = λ i guid lid. sym (entry_is plan keys routes fabric by guid lid) i in
     let there : entry_by up_too.routes ≡ entry_in left =
     λ i guid lid. sym (entry_is (without_cable cable plan) other_keys up_too.routes left up_too.by guid lid) i in
     let up : HaveBroughtUp plan routes = record { keys = keys; fabric = fabric; by = by } in
     let more = tables_are plan routes cable sound up can up_too.routes others
-    (planned_of (without_cable cable plan) other_keys up_too.routes left up_too.by) planned in
+    (planned_of (without_cable cable plan) other_keys up_too.routes left up_too.by) planned ruled in
     let all = more ∙ there in
     λ i. changes ports (here i) (all i)
 

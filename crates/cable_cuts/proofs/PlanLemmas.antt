@@ -37,6 +37,7 @@ use Rattle.cable_cuts.specs.Cables.{can_be_cut, without_cable}
 use Rattle.cable_cuts.specs.Fate.{HaveBroughtUp, IsFate, IsStop}
 use Rattle.cable_cuts.specs.declared.fate.Cut.TheVariants.{Keeps, Stops}
 use Rattle.cable_cuts.specs.declared.fate.Stop.TheVariants.{Apart, TooFar, NoLegalPath}
+use Rattle.subnet_fabric.specs.SetUp.{IsByRule}
 
 module _ (plan : TopologyState) (routes : RoutesState) (cable : Cable) (sound : IsSound plan) (up : HaveBroughtUp plan routes)
     (can : can_be_cut plan cable ≡ true) where
@@ -118,8 +119,11 @@ module _ (plan : TopologyState) (routes : RoutesState) (cable : Cable) (sound : 
       )
 
   -- ---- what is planned for it becomes of the topology's
-  pub is_fate : (others : RoutesState) → IsPlan cut_fabric (root_guids plan) (Routed others) → IsFate left (Keeps others)
-  is_fate others is = plan_alike cut_fabric (fabric_of left) (root_guids plan) (Routed others) cut_alike is
+  pub is_fate : (others : RoutesState) → IsPlan cut_fabric (root_guids plan) (Routed others) → IsByRule routes.between.rule others
+      → IsFate routes.between.rule left (Keeps others)
+  is_fate others is ruled =
+      let there = plan_alike cut_fabric (fabric_of left) (root_guids plan) (Routed others) cut_alike is in
+      (there.0, there.1, ruled)
 
-  pub is_stop : (switch port : ℕ) → IsPlan cut_fabric (root_guids plan) (NoPath switch port) → IsFate left (Stops (NoLegalPath switch port))
+  pub is_stop : (switch port : ℕ) → IsPlan cut_fabric (root_guids plan) (NoPath switch port) → IsFate routes.between.rule left (Stops (NoLegalPath switch port))
   is_stop switch port is = plan_alike cut_fabric (fabric_of left) (root_guids plan) (NoPath switch port) cut_alike is

@@ -13,6 +13,8 @@ use Rattle.cable_cuts.specs.declared.fate.Cut.{Cut}
 use Rattle.cable_cuts.specs.declared.fate.Cut.TheVariants.{Keeps, Stops}
 use Rattle.cable_cuts.specs.declared.fate.Stop.{Stop}
 use Rattle.cable_cuts.specs.declared.fate.Stop.TheVariants.{Apart, TooFar, NoLegalPath}
+use Rattle.subnet_fabric.specs.SetUp.{IsByRule}
+use Rattle.updn_routes.specs.declared.tie_rule.TieRule.{TieRule}
 
 -- ---- routes
 -- these brought the fabric up, with whatever keys
@@ -32,6 +34,7 @@ IsStop plan Apart = is_connected plan.nodes plan.cables ≡ false
 IsStop plan TooFar = (is_connected plan.nodes plan.cables ≡ true) × IsTooFar (fabric_of plan)
 IsStop plan (NoLegalPath switch port) = HasNoPath plan switch port
 
-abbrev pub IsFate : TopologyState → Cut → Type 0
-IsFate plan (Keeps routes) = CanComeUp plan × ArePlannedFor plan routes
-IsFate plan (Stops stop) = IsStop plan stop
+-- routes are by that rule of ties
+abbrev pub IsFate : TieRule → TopologyState → Cut → Type 0
+IsFate rule plan (Keeps routes) = CanComeUp plan × ArePlannedFor plan routes × IsByRule rule routes
+IsFate rule plan (Stops stop) = IsStop plan stop

@@ -52,12 +52,14 @@ ChangesAreWhatDiffers =
     (ports : List SubnetPort) (one other : Tables) (change : Change)
     → Contains (changes ports one other) change ↔ IsDifference ports one other change
 
--- and the tables are those that the two fabrics hold: that of the topology, and that of the topology without the cable, brought up
+-- and the tables are those that the two fabrics hold: that of the topology, and that of the topology without the cable, brought up by
+-- the same rule of ties
 abbrev pub ChangesAreTheFabrics : Type 0
 ChangesAreTheFabrics =
     (plan : TopologyState) (ports : List SubnetPort) (cable : Cable) (keys other_keys : List (List ℕ)) (routes others : RoutesState)
     (fabric left : FabricState) → IsSound plan → IsBroughtUpBy plan keys routes fabric → can_be_cut plan cable ≡ true
-    → ArePlannedFor (without_cable cable plan) others → IsBroughtUpOf (without_cable cable plan) other_keys left
+    → ArePlannedFor (without_cable cable plan) others → (up : IsBroughtUpOf (without_cable cable plan) other_keys left)
+    → others.between.rule ≡ up.routes.between.rule
     → changes ports (entry_by routes) (entry_by others) ≡ changes ports (entry_in fabric) (entry_in left)
 
 -- of these, entries of one switch for one LID are the same
@@ -177,7 +179,8 @@ ReportTheSame (Stops one) (Keeps other) = ⊥
 abbrev pub OneFateIsReported : Type 0
 OneFateIsReported =
     (plan : TopologyState) (routes : RoutesState) (cable : Cable) (one other : Cut) → IsSound plan → HaveBroughtUp plan routes
-    → can_be_cut plan cable ≡ true → IsFate (without_cable cable plan) one → IsFate (without_cable cable plan) other → ReportTheSame one other
+    → can_be_cut plan cable ≡ true → IsFate routes.between.rule (without_cable cable plan) one
+    → IsFate routes.between.rule (without_cable cable plan) other → ReportTheSame one other
 
 -- so each text is one
 abbrev pub OneTextIsReported : Type 0

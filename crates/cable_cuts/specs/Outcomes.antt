@@ -45,10 +45,10 @@ outcome_of configuration routes (cut.Keeps others) =
 outcome_of configuration routes (cut.Stops stop) = Stops stop
 
 -- ---- each cable
--- it is what becomes of the fabric of the topology without that cable
+-- it is what becomes of the fabric of the topology without that cable, by the rule of ties of these routes
 pub record IsOutcome (plan : TopologyState) (configuration : ConfigurationState) (routes : RoutesState) (cable : Cable) (outcome : Outcome) : Type 0 where
   pub fate : Cut
-  pub fate_is : IsFate (without_cable cable plan) fate
+  pub fate_is : IsFate routes.between.rule (without_cable cable plan) fate
   pub outcome_is : outcome ≡ outcome_of configuration routes fate
 
 -- one for each of these cables, in their order

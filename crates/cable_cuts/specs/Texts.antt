@@ -105,5 +105,5 @@ lines_of_one nodes configuration routes cable fate =
 -- the text is that of what becomes of the fabric without that cable
 pub record ReportsOne (plan : TopologyState) (configuration : ConfigurationState) (routes : RoutesState) (cable : Cable) (text : List ℕ) : Type 0 where
   pub fate : Cut
-  pub fate_is : IsFate (without_cable cable plan) fate
+  pub fate_is : IsFate routes.between.rule (without_cable cable plan) fate
   pub text_is : text ≡ lines_of_one plan.nodes configuration routes cable fate

@@ -14,7 +14,7 @@ use topo_file::{Topology, is_connected};
 use updn_routes::Routes;
 
 /// What becomes of the fabric of a topology without one of its cables between switches. These routes brought the fabric up as it
-/// is. It can only run out of memory.
+/// is; those that are planned are by the same rule of ties. It can only run out of memory.
 pub fn cut(
     alloc: Global,
     topology: &Topology,
@@ -23,7 +23,7 @@ pub fn cut(
 ) -> Result<Cut, AllocError>
     requires up { HaveBroughtUp topology.now routes.now }
     requires cable { can_be_cut topology.now cable ≡ true }
-    ensures { IfOk result (IsFate (without_cable cable topology.now)) }
+    ensures { IfOk result (IsFate routes.now.between.rule (without_cable cable topology.now)) }
 {
     topology.known_sound();
     match plan(alloc, topology, routes, cable, false)? {

@@ -1,5 +1,5 @@
 -- The names of files are words as they stand.
-use Rattle.std.proofs.Common.{ℕ, ◌≡◌, ◌∙◌, Ok, ap, Bool, true, false, List, [], ◌∷◌, Option, Some, None, option_map, codes, refl, subst, if◌then◌else◌}
+use Rattle.std.proofs.Common.{ℕ, ◌≡◌, ◌∙◌, Ok, ap, Bool, true, false, not, List, [], ◌∷◌, Option, Some, None, option_map, codes, refl, subst, if◌then◌else◌}
 use Rattle.std.specs.List.{All}
 use Rattle.std.specs.Option.{option_to_list}
 use Rattle.std.specs.Str.{bytes_eq}
@@ -8,8 +8,8 @@ use Rattle.clap.specs.Words.{Row, Text, first_of}
 use Rattle.clap.proofs.OnLiterals.{clap_on_literals}
 use Rattle.code_texts.specs.Codes.{code_of}
 use Rattle.code_texts.specs.declared.code.Code.{Code}
-use Rattle.cli_args.specs.Laws.{FilesAreNamedAsGiven, FilesStandInOrder, IsWordOf, NamesKeepTheirBlanks}
-use Rattle.cli_args.specs.Words.{Names, audit_by, audit_keys_by, audit_keys_with, audit_three, audit_with, asked_by, asked_by_command, asked_of, asked_or, call_in, compare_by, cuts_by, diff_by, explain_by, file_in, graph_with, guid_by, import_by, is_given, in_subnet, inspect_by, load_by, load_with, manage_by, opened_for, roots_by, run_by, scripts_by, smps_by}
+use Rattle.cli_args.specs.Laws.{FilesAreNamedAsGiven, FilesStandInOrder, IsWordOf, NamesKeepTheirBlanks, RoutesAreAsAsked}
+use Rattle.cli_args.specs.Words.{Names, audit_by, audit_keys_by, audit_keys_with, audit_three, audit_with, asked_by, asked_by_command, asked_of, asked_or, call_in, compare_by, cuts_by, diff_by, explain_by, file_in, graph_with, guid_by, import_by, is_balanced, is_given, in_subnet, inspect_by, load_by, load_with, manage_by, opened_for, roots_by, run_by, scripts_by, smps_by}
 use Rattle.cli_args.specs.Words.{subcommand_in, text_for, trace_by, work_names}
 use Rattle.cli_args.specs.declared.call.Call.{Call}
 use Rattle.cli_args.specs.declared.call.CutView.TheVariants.{All as AllCuts, One, Picture}
@@ -82,13 +82,13 @@ run_given rows asked e = by (first_of (codes "SCRIPT") rows) refl e
         let same : Run word ≡ asked = cc in
         subst (λ (w : Work Text Text Text). All (IsWordOf rows) (work_names w)) same (All-cons (IsWordOf rows) word [] (codes "SCRIPT", at) (All-nil (IsWordOf rows)))
 
-manage_given : (rows : List Row) → WorkIsGiven rows (manage_by (first_of (codes "REPLIES") rows))
-manage_given rows asked e = by (first_of (codes "REPLIES") rows) refl e
+manage_given : (rows : List Row) (least : Bool) → WorkIsGiven rows (manage_by (first_of (codes "REPLIES") rows) least)
+manage_given rows least asked e = by (first_of (codes "REPLIES") rows) refl e
   where
-    by : (replies : Option Text) → first_of (codes "REPLIES") rows ≡ replies → manage_by replies ≡ Some asked → All (IsWordOf rows) (work_names asked)
+    by : (replies : Option Text) → first_of (codes "REPLIES") rows ≡ replies → manage_by replies least ≡ Some asked → All (IsWordOf rows) (work_names asked)
     by None at is = absurd cc
     by (Some word) at is =
-        let same : Manage word ≡ asked = cc in
+        let same : Manage word (not least) ≡ asked = cc in
         subst (λ (w : Work Text Text Text). All (IsWordOf rows) (work_names w)) same (All-cons (IsWordOf rows) word [] (codes "REPLIES", at) (All-nil (IsWordOf rows)))
 
 smps_given : (rows : List Row) → WorkIsGiven rows (smps_by (first_of (codes "SMPS") rows) (first_of (codes "SCRIPT") rows))
@@ -106,30 +106,33 @@ smps_given rows asked e = by (first_of (codes "SMPS") rows) refl (first_of (code
         (All-cons (IsWordOf rows) script (word ∷ []) (codes "SCRIPT", behind)
         (All-cons (IsWordOf rows) word [] (codes "SMPS", at) (All-nil (IsWordOf rows))))
 
-cuts_given : (rows : List Row) (first second : Option Text) → WorkIsGiven rows (cuts_by first second)
-cuts_given rows None None asked e = without_file rows (Cuts AllCuts) refl asked e
-cuts_given rows (Some first) (Some second) asked e = without_file rows (Cuts (One first second)) refl asked e
-cuts_given rows (Some first) None asked e = absurd cc
-cuts_given rows None (Some second) asked e = absurd cc
+cuts_given : (rows : List Row) (first second : Option Text) (balanced : Bool) → WorkIsGiven rows (cuts_by first second balanced)
+cuts_given rows None None balanced asked e = without_file rows (Cuts AllCuts balanced) refl asked e
+cuts_given rows (Some first) (Some second) balanced asked e = without_file rows (Cuts (One first second) balanced) refl asked e
+cuts_given rows (Some first) None balanced asked e = absurd cc
+cuts_given rows None (Some second) balanced asked e = absurd cc
 
-inspect_given : (rows : List Row) (seen : Option (Inspection Text)) → WorkIsGiven rows (inspect_by rows seen)
-inspect_given rows None asked e = absurd cc
-inspect_given rows (Some what) asked e =
-    let same : Inspect what (first_of (codes "SCRIPT") rows) ≡ asked = cc in
+look_given : (rows : List Row) (what : Inspection Text) (balanced : Bool) → WorkIsGiven rows (Some (Inspect what (first_of (codes "SCRIPT") rows) balanced))
+look_given rows what balanced asked e =
+    let same : Inspect what (first_of (codes "SCRIPT") rows) balanced ≡ asked = cc in
     subst (λ (w : Work Text Text Text). All (IsWordOf rows) (work_names w)) same (by (first_of (codes "SCRIPT") rows) refl)
   where
     by : (script : Option Text) → first_of (codes "SCRIPT") rows ≡ script → All (IsWordOf rows) (option_to_list script)
     by None at = All-nil (IsWordOf rows)
     by (Some word) at = All-cons (IsWordOf rows) word [] (codes "SCRIPT", at) (All-nil (IsWordOf rows))
 
-graph_given : (rows : List Row) (cuts load all : Bool) → WorkIsGiven rows (graph_with cuts load all (first_of (codes "SCRIPT") rows))
-graph_given rows cuts load all asked e = by cuts load all (first_of (codes "SCRIPT") rows) refl e
+inspect_given : (rows : List Row) (seen : Option (Inspection Text)) → WorkIsGiven rows (inspect_by rows seen)
+inspect_given rows None asked e = absurd cc
+inspect_given rows (Some what) asked e = look_given rows what (is_balanced rows) asked e
+
+graph_given : (rows : List Row) (cuts load all balanced : Bool) → WorkIsGiven rows (graph_with cuts load all balanced (first_of (codes "SCRIPT") rows))
+graph_given rows cuts load all balanced asked e = by cuts load all (first_of (codes "SCRIPT") rows) refl e
   where
-    by : (cuts load all : Bool) (script : Option Text) → first_of (codes "SCRIPT") rows ≡ script → graph_with cuts load all script ≡ Some asked
+    by : (cuts load all : Bool) (script : Option Text) → first_of (codes "SCRIPT") rows ≡ script → graph_with cuts load all balanced script ≡ Some asked
         → All (IsWordOf rows) (work_names asked)
-    by true false false None at is = without_file rows (Cuts Picture) refl asked is
-    by false true all script at is = inspect_given rows (Some (LoadGraph all)) asked (rw at is)
-    by false false false script at is = inspect_given rows (Some Graph) asked (rw at is)
+    by true false false None at is = without_file rows (Cuts Picture balanced) refl asked is
+    by false true all script at is = look_given rows (LoadGraph all) balanced asked (rw at is)
+    by false false false script at is = look_given rows Graph balanced asked (rw at is)
     by true true all script at is = absurd cc
     by true false true script at is = absurd cc
     by true false false (Some word) at is = absurd cc
@@ -192,29 +195,30 @@ audit_given rows call is =
 load_given : (rows : List Row) → IsGiven rows (load_by rows)
 load_given rows call is =
     by (first_of (codes "FABRIC") rows) refl (first_of (codes "PARTS") rows) refl (first_of (codes "SCRIPT") rows) refl (first_of (codes "DUMP") rows) refl
-    (is_given rows (codes "ALL")) is
+    (is_given rows (codes "ALL")) (is_balanced rows) is
   where
     script_given : (script : Option Text) → first_of (codes "SCRIPT") rows ≡ script → All (IsWordOf rows) (option_to_list script)
     script_given None s = All-nil (IsWordOf rows)
     script_given (Some word) s = All-cons (IsWordOf rows) word [] (codes "SCRIPT", s) (All-nil (IsWordOf rows))
 
     by : (fabric : Option Text) → first_of (codes "FABRIC") rows ≡ fabric → (partitions : Option Text) → first_of (codes "PARTS") rows ≡ partitions
-        → (script : Option Text) → first_of (codes "SCRIPT") rows ≡ script → (tables : Option Text) → first_of (codes "DUMP") rows ≡ tables → (all : Bool)
-        → load_with fabric partitions script tables all ≡ Some call → All (IsWordOf rows) (opened_for (Ok call))
-    by (Some fabric) f None p None s (Some tables) d false is =
+        → (script : Option Text) → first_of (codes "SCRIPT") rows ≡ script → (tables : Option Text) → first_of (codes "DUMP") rows ≡ tables
+        → (all balanced : Bool) → load_with fabric partitions script tables all balanced ≡ Some call → All (IsWordOf rows) (opened_for (Ok call))
+    by (Some fabric) f None p None s (Some tables) d false false is =
         subst (λ (asked : Call Names Text). All (IsWordOf rows) (opened_for (Ok asked))) (same_call _ call is)
         (All-cons (IsWordOf rows) fabric (tables ∷ []) (codes "FABRIC", f)
         (All-cons (IsWordOf rows) tables [] (codes "DUMP", d) (All-nil (IsWordOf rows))))
-    by (Some fabric) f (Some partitions) p script s None d all is =
+    by (Some fabric) f (Some partitions) p script s None d all balanced is =
         subst (λ (asked : Call Names Text). All (IsWordOf rows) (opened_for (Ok asked))) (same_call _ call is)
         (All-cons (IsWordOf rows) fabric _ (codes "FABRIC", f)
         (All-append (IsWordOf rows) _ _ (file_given rows partitions (codes "PARTS", p)) (script_given script s)))
-    by None f None p None s (Some tables) d false is = absurd cc
-    by None f (Some partitions) p script s None d all is = absurd cc
-    by fabric f None p (Some script) s tables d all is = absurd cc
-    by fabric f None p None s None d all is = absurd cc
-    by fabric f None p None s (Some tables) d true is = absurd cc
-    by fabric f (Some partitions) p script s (Some tables) d all is = absurd cc
+    by None f None p None s (Some tables) d false false is = absurd cc
+    by None f (Some partitions) p script s None d all balanced is = absurd cc
+    by fabric f None p (Some script) s tables d all balanced is = absurd cc
+    by fabric f None p None s None d all balanced is = absurd cc
+    by fabric f None p None s (Some tables) d true balanced is = absurd cc
+    by fabric f None p None s (Some tables) d false true is = absurd cc
+    by fabric f (Some partitions) p script s (Some tables) d all balanced is = absurd cc
 
 audit_keys_given : (rows : List Row) → IsGiven rows (audit_keys_by rows)
 audit_keys_given rows call is =
@@ -246,18 +250,19 @@ explain_given rows (Some word) call e = by (code_of word) e
         subst (λ (asked : Call Names Text). All (IsWordOf rows) (opened_for (Ok asked))) (same_call _ call e) (All-nil (IsWordOf rows))
 
 command_given : (given : Subcommand) (rows : List Row) → IsGiven rows (call_in given rows)
-command_given command.Check rows = subnet_given rows _ (without_file rows Check refl)
+command_given command.Check rows = subnet_given rows _ (without_file rows (Check (is_balanced rows)) refl)
 command_given command.Shares rows = subnet_given rows _ (without_file rows (Shares (first_of (codes "PORT") rows)) refl)
 command_given command.Diff rows = subnet_given rows _ (diff_given rows)
 command_given command.Tables rows = subnet_given rows _ (inspect_given rows (Some Tables))
 command_given command.Keys rows = subnet_given rows _ (inspect_given rows (Some Keys))
 command_given command.Trace rows = subnet_given rows _ (inspect_given rows (trace_by rows))
-command_given command.Graph rows = subnet_given rows _ (graph_given rows (is_given rows (codes "CUTS")) (is_given rows (codes "LOAD")) (is_given rows (codes "ALL")))
+command_given command.Graph rows = subnet_given rows _ (graph_given rows (is_given rows (codes "CUTS")) (is_given rows (codes "LOAD")) (is_given rows (codes "ALL"))
+    (is_balanced rows))
 command_given command.Run rows = subnet_given rows _ (run_given rows)
 command_given command.Smp rows = subnet_given rows _ (smps_given rows)
-command_given command.Manage rows = subnet_given rows _ (manage_given rows)
+command_given command.Manage rows = subnet_given rows _ (manage_given rows (is_given rows (codes "LEAST_PORT")))
 command_given command.Compare rows = subnet_given rows _ (compare_given rows)
-command_given command.Cuts rows = subnet_given rows _ (cuts_given rows (first_of (codes "PORT") rows) (first_of (codes "PORT2") rows))
+command_given command.Cuts rows = subnet_given rows _ (cuts_given rows (first_of (codes "PORT") rows) (first_of (codes "PORT2") rows) (is_balanced rows))
 command_given command.Import rows = import_given rows (guid_by (first_of (codes "SM") rows)) (roots_by (first_of (codes "ROOTS") rows))
 command_given command.Audit rows = audit_given rows
 command_given command.Load rows = load_given rows
@@ -307,4 +312,27 @@ files_stand_in_order = record {
   load = refl;
   loads = refl;
   audit_keys = refl;
+}
+
+pub routes_are_as_asked : RoutesAreAsAsked
+unfolding clap_on_literals asked_of
+routes_are_as_asked = record {
+  least = refl;
+  check = refl;
+  before = refl;
+  tables = refl;
+  after = refl;
+  keys = refl;
+  trace = refl;
+  graph = refl;
+  picture = refl;
+  loads = refl;
+  cuts = refl;
+  one = refl;
+  load = refl;
+  least_load = refl;
+  dump = refl;
+  manage = refl;
+  managed_least = refl;
+  no_flag = refl;
 }

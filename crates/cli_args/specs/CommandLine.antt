@@ -20,8 +20,12 @@ optional name = record (new_rule name) { action = Some Set }
 abbrev pub subnet_command : Text → App
 subnet_command name = with_rule (with_rule (new_app name) (wanted (codes "TOPO"))) (wanted (codes "PARTS"))
 
+-- `--balanced`
+abbrev pub balanced_flag : Rule
+balanced_flag = record (new_rule (codes "BALANCED")) { long = Some (codes "balanced"); action = Some SetTrue }
+
 abbrev pub check_command : App
-check_command = subnet_command (codes "check")
+check_command = with_rule (subnet_command (codes "check")) balanced_flag
 
 abbrev pub shares_command : App
 shares_command = with_rule (subnet_command (codes "shares")) (optional (codes "PORT"))
@@ -30,7 +34,7 @@ abbrev pub diff_command : App
 diff_command = with_rule (subnet_command (codes "diff")) (wanted (codes "PARTS2"))
 
 abbrev pub tables_command : App
-tables_command = with_rule (subnet_command (codes "tables")) (optional (codes "SCRIPT"))
+tables_command = with_rule (with_rule (subnet_command (codes "tables")) (optional (codes "SCRIPT"))) balanced_flag
 
 abbrev pub keys_command : App
 keys_command = with_rule (subnet_command (codes "keys")) (optional (codes "SCRIPT"))
@@ -39,7 +43,7 @@ abbrev pub trace_command : App
 trace_command =
     let from = with_rule (subnet_command (codes "trace")) (wanted (codes "PORT")) in
     let packet = with_rule (with_rule from (wanted (codes "DLID"))) (wanted (codes "PKEY")) in
-    with_rule packet (optional (codes "SCRIPT"))
+    with_rule (with_rule packet (optional (codes "SCRIPT"))) balanced_flag
 
 -- `--cuts`
 abbrev pub cuts_flag : Rule
@@ -54,7 +58,7 @@ load_flag = record (new_rule (codes "LOAD")) { long = Some (codes "load"); actio
 abbrev pub graph_command : App
 graph_command =
     let drawn = with_rule (subnet_command (codes "graph")) (optional (codes "SCRIPT")) in
-    with_rule (with_rule (with_rule drawn cuts_flag) load_flag) all_flag
+    with_rule (with_rule (with_rule (with_rule drawn cuts_flag) load_flag) all_flag) balanced_flag
 
 abbrev pub run_command : App
 run_command = with_rule (subnet_command (codes "run")) (wanted (codes "SCRIPT"))
@@ -66,8 +70,12 @@ script_option = record (new_rule (codes "SCRIPT")) { long = Some (codes "script"
 abbrev pub smp_command : App
 smp_command = with_rule (with_rule (subnet_command (codes "smp")) (wanted (codes "SMPS"))) script_option
 
+-- `--least-port`
+abbrev pub least_port_flag : Rule
+least_port_flag = record (new_rule (codes "LEAST_PORT")) { long = Some (codes "least-port"); action = Some SetTrue }
+
 abbrev pub manage_command : App
-manage_command = with_rule (subnet_command (codes "manage")) (wanted (codes "REPLIES"))
+manage_command = with_rule (with_rule (subnet_command (codes "manage")) (wanted (codes "REPLIES"))) least_port_flag
 
 abbrev pub compare_command : App
 compare_command =
@@ -75,7 +83,9 @@ compare_command =
     with_rule scripts (wanted (codes "PORT"))
 
 abbrev pub cuts_command : App
-cuts_command = with_rule (with_rule (subnet_command (codes "cuts")) (optional (codes "PORT"))) (optional (codes "PORT2"))
+cuts_command =
+    let ends = with_rule (with_rule (subnet_command (codes "cuts")) (optional (codes "PORT"))) (optional (codes "PORT2")) in
+    with_rule ends balanced_flag
 
 -- `--sm GUID`
 abbrev pub manager_option : Rule
@@ -109,7 +119,7 @@ dump_option = record (new_rule (codes "DUMP")) { long = Some (codes "dump"); act
 abbrev pub load_command : App
 load_command =
     let files = with_rule (with_rule (new_app (codes "load")) (wanted (codes "FABRIC"))) (optional (codes "PARTS")) in
-    with_rule (with_rule (with_rule files (optional (codes "SCRIPT"))) dump_option) all_flag
+    with_rule (with_rule (with_rule (with_rule files (optional (codes "SCRIPT"))) dump_option) all_flag) balanced_flag
 
 abbrev pub audit_keys_command : App
 audit_keys_command =

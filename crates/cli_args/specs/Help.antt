@@ -140,6 +140,12 @@ help_of_all_lines = codes "Prints each line by switch and LID, which are counted
 abbrev pub help_of_all_pairs : List ℕ
 help_of_all_pairs = codes "Counts all pairs, also those that may not talk"
 
+abbrev pub help_of_balanced : List ℕ
+help_of_balanced = codes "Spreads routes over the ports that lead equally far; without it the least is taken"
+
+abbrev pub help_of_least_port : List ℕ
+help_of_least_port = codes "Of the ports that lead equally far the least is taken; without it routes spread over them"
+
 abbrev pub help_of_netdiscover : List ℕ
 help_of_netdiscover = codes "What ibnetdiscover printed of the fabric"
 

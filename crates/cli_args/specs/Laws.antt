@@ -1,10 +1,15 @@
 -- What holds of all command lines: the statements of the laws of `src/laws.rt`.
-use Rattle.std.specs.Prelude.{◌≡◌, ◌∷◌, [], List, Option, Ok, Err, Some, None, codes}
+use Rattle.std.specs.Prelude.{◌≡◌, ◌∷◌, [], true, false, List, Option, Ok, Err, Some, None, codes}
 use Rattle.std.specs.List.{All}
 use Rattle.clap.specs.Words.{Row, Text, first_of}
-use Rattle.cli_args.specs.Words.{Names, asked_by_clap, asked_in, asked_of, opened_for}
+use Rattle.cli_args.specs.Words.{Asking, Names, asked_by_clap, asked_in, asked_of, opened_for}
 use Rattle.cli_args.specs.declared.call.Call.{Call}
-use Rattle.cli_args.specs.declared.call.Call.TheVariants.{Version}
+use Rattle.cli_args.specs.declared.call.Call.TheVariants.{Subnet, Version}
+use Rattle.cli_args.specs.declared.call.CutView.TheVariants.{All as AllCuts, One, Picture}
+use Rattle.cli_args.specs.declared.call.Inspection.TheVariants.{Graph, Keys, Load, LoadGraph, Tables, Trace}
+use Rattle.cli_args.specs.declared.call.Work.{Work}
+use Rattle.cli_args.specs.declared.call.Work.TheVariants.{Check, Cuts, Inspect, Manage}
+use Rattle.cli_args.specs.declared.help.TheConstants.{PARTS_OR_DUMP}
 
 -- the name is the value of an argument, unchanged
 abbrev pub IsWordOf : List Row → Text → Type 0
@@ -22,6 +27,44 @@ pub record VersionIsRequested : Type 0 where
   pub short : (shown : List Text → Option Text) (program : Text) (rest : List Text) → asked_of shown (program ∷ codes "-V" ∷ rest) ≡ Ok Version
   pub behind_help : asked_by_clap (codes "fabric" ∷ codes "--help" ∷ codes "--version" ∷ []) ≡ Err None
   pub behind_a_command : asked_by_clap (codes "fabric" ∷ codes "check" ∷ codes "--version" ∷ []) ≡ Err None
+
+-- the work that these arguments ask for behind a topology and no partitions, if they ask for one
+abbrev pub work_by : List Text → Asking
+work_by words = asked_by_clap (codes "fabric" ∷ words)
+
+abbrev pub Does : Work Text Text Text → Asking
+Does work = Ok (Subnet (record { topology = codes "net"; partitions = None; work = work }))
+
+-- routes of a simulated fabric are balanced if and only if that is asked for, and those of a fabric that is managed unless the least
+-- port is. LFTs of a dump are as they are
+pub record RoutesAreAsAsked : Type 0 where
+  pub least : work_by (codes "check" ∷ codes "net" ∷ codes "-" ∷ []) ≡ Does (Check false)
+  pub check : work_by (codes "check" ∷ codes "net" ∷ codes "-" ∷ codes "--balanced" ∷ []) ≡ Does (Check true)
+  pub before : work_by (codes "check" ∷ codes "--balanced" ∷ codes "net" ∷ codes "-" ∷ []) ≡ Does (Check true)
+  pub tables : work_by (codes "tables" ∷ codes "net" ∷ codes "-" ∷ codes "--balanced" ∷ [])
+      ≡ Does (Inspect Tables None true)
+  pub after : work_by (codes "tables" ∷ codes "net" ∷ codes "-" ∷ codes "sends" ∷ codes "--balanced" ∷ [])
+      ≡ Does (Inspect Tables (Some (codes "sends")) true)
+  pub keys : work_by (codes "keys" ∷ codes "net" ∷ codes "-" ∷ []) ≡ Does (Inspect Keys None false)
+  pub trace : work_by (codes "trace" ∷ codes "net" ∷ codes "-" ∷ codes "h1/1" ∷ codes "5" ∷ codes "7" ∷ codes "--balanced" ∷ [])
+      ≡ Does (Inspect (Trace (codes "h1/1") 5 7) None true)
+  pub graph : work_by (codes "graph" ∷ codes "net" ∷ codes "-" ∷ codes "--balanced" ∷ [])
+      ≡ Does (Inspect Graph None true)
+  pub picture : work_by (codes "graph" ∷ codes "net" ∷ codes "-" ∷ codes "--cuts" ∷ codes "--balanced" ∷ [])
+      ≡ Does (Cuts Picture true)
+  pub loads : work_by (codes "graph" ∷ codes "net" ∷ codes "-" ∷ codes "--load" ∷ codes "--balanced" ∷ [])
+      ≡ Does (Inspect (LoadGraph false) None true)
+  pub cuts : work_by (codes "cuts" ∷ codes "net" ∷ codes "-" ∷ codes "--balanced" ∷ []) ≡ Does (Cuts AllCuts true)
+  pub one : work_by (codes "cuts" ∷ codes "net" ∷ codes "-" ∷ codes "A/1" ∷ codes "B/1" ∷ codes "--balanced" ∷ [])
+      ≡ Does (Cuts (One (codes "A/1") (codes "B/1")) true)
+  pub load : work_by (codes "load" ∷ codes "net" ∷ codes "-" ∷ codes "--balanced" ∷ [])
+      ≡ Does (Inspect (Load false) None true)
+  pub least_load : work_by (codes "load" ∷ codes "net" ∷ codes "-" ∷ []) ≡ Does (Inspect (Load false) None false)
+  pub dump : work_by (codes "load" ∷ codes "net" ∷ codes "--dump" ∷ codes "lfts" ∷ codes "--balanced" ∷ []) ≡ Err (Some PARTS_OR_DUMP.now)
+  pub manage : work_by (codes "manage" ∷ codes "net" ∷ codes "-" ∷ codes "-" ∷ []) ≡ Does (Manage (codes "-") true)
+  pub managed_least : work_by (codes "manage" ∷ codes "net" ∷ codes "-" ∷ codes "-" ∷ codes "--least-port" ∷ [])
+      ≡ Does (Manage (codes "-") false)
+  pub no_flag : work_by (codes "run" ∷ codes "net" ∷ codes "-" ∷ codes "sends" ∷ codes "--balanced" ∷ []) ≡ Err None
 
 -- the names that are opened if the arguments after the program's own name are these
 abbrev pub opened_by : List Text → List Text

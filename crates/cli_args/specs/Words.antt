@@ -1,7 +1,7 @@
 -- What the arguments of the program ask for.
 use Rattle.std.specs.Prelude.{List, [], ◌∷◌, ◌++◌, codes, map, string_bytes, Option, Some, None, option_map, Result, Ok, Err}
 use Rattle.std.specs.Prelude.{String}
-use Rattle.std.specs.Prelude.{if◌then◌else◌, ◌^◌, Bool, true, false, ℕ}
+use Rattle.std.specs.Prelude.{if◌then◌else◌, ◌^◌, not, Bool, true, false, ℕ}
 use Rattle.std.specs.Global.{Global}
 use Rattle.std.specs.Option.{option_and_then, option_map_or, option_to_list}
 use Rattle.std.specs.Str.{bytes_eq}
@@ -52,14 +52,14 @@ named_view (One first second) = One first.now second.now
 named_view Picture = Picture
 
 abbrev pub named_work : Work (Bor Text) (Bor Text) (Bor Text) → Work Text Text Text
-named_work Check = Check
+named_work (Check balanced) = Check balanced
 named_work (Shares port) = Shares (option_map (λ word. word.now) port)
 named_work (Diff second) = Diff (option_map (λ word. word.now) second)
-named_work (Inspect what script) = Inspect (named_inspection what) (option_map (λ name. name.now) script)
-named_work (Cuts view) = Cuts (named_view view)
+named_work (Inspect what script balanced) = Inspect (named_inspection what) (option_map (λ name. name.now) script) balanced
+named_work (Cuts view balanced) = Cuts (named_view view) balanced
 named_work (Run script) = Run script.now
 named_work (Smps script smps) = Smps (option_map (λ name. name.now) script) smps.now
-named_work (Manage replies) = Manage replies.now
+named_work (Manage replies balanced) = Manage replies.now balanced
 named_work (Compare first second port) = Compare first.now second.now port.now
 
 abbrev pub names : Asked → Names
@@ -95,16 +95,17 @@ abbrev pub diff_by : Option Text → Option (Work Text Text Text)
 diff_by second = option_map (λ word. Diff (file_in word)) second
 
 -- all cables, or the one that two ports name; one port alone asks for nothing
-abbrev pub cuts_by : Option Text → Option Text → Option (Work Text Text Text)
-cuts_by None None = Some (Cuts All)
-cuts_by (Some first) (Some second) = Some (Cuts (One first second))
-cuts_by _ _ = None
+abbrev pub cuts_by : Option Text → Option Text → (balanced : Bool) → Option (Work Text Text Text)
+cuts_by None None balanced = Some (Cuts All balanced)
+cuts_by (Some first) (Some second) balanced = Some (Cuts (One first second) balanced)
+cuts_by _ _ balanced = None
 
 abbrev pub run_by : Option Text → Option (Work Text Text Text)
 run_by script = option_map (λ name. Run name) script
 
-abbrev pub manage_by : Option Text → Option (Work Text Text Text)
-manage_by replies = option_map (λ name. Manage name) replies
+-- routes of a fabric that is managed are balanced, unless the least port is asked for
+abbrev pub manage_by : Option Text → (least : Bool) → Option (Work Text Text Text)
+manage_by replies least = option_map (λ name. Manage name (not least)) replies
 
 -- SMPs, after the commands of a script if one is given
 abbrev pub smps_by : Option Text → Option Text → Option (Work Text Text Text)
@@ -121,24 +122,29 @@ compare_by rows = scripts_by (first_of (codes "S1") rows) (first_of (codes "S2")
 abbrev pub u16_by : Option Text → Option ℕ
 u16_by word = option_and_then u16_in word
 
--- a look at this, after the commands of a script if one is given: here `-` is the name of a script
-abbrev pub inspect_by : List Row → Option (Inspection Text) → Option (Work Text Text Text)
-inspect_by rows seen = option_map (λ what. Inspect what (first_of (codes "SCRIPT") rows)) seen
-
 -- a flag that is given has the value `true`
 abbrev pub is_given : List Row → Text → Bool
 is_given rows name = option_map_or (λ value. bytes_eq value (codes "true")) (first_of name rows) false
 
+-- whether routes are to be balanced: commands without that flag take the least port
+abbrev pub is_balanced : List Row → Bool
+is_balanced rows = is_given rows (codes "BALANCED")
+
+-- a look at this, after the commands of a script if one is given: here `-` is the name of a script
+abbrev pub inspect_by : List Row → Option (Inspection Text) → Option (Work Text Text Text)
+inspect_by rows seen = option_map (λ what. Inspect what (first_of (codes "SCRIPT") rows) (is_balanced rows)) seen
+
 -- a picture; with `--cuts` it takes neither a script nor `--load`, and it takes `--all` with `--load` alone
-abbrev pub graph_with : (cuts load all : Bool) → Option Text → Option (Work Text Text Text)
-graph_with true false false None = Some (Cuts Picture)
-graph_with false true all script = Some (Inspect (LoadGraph all) script)
-graph_with false false false script = Some (Inspect Graph script)
-graph_with _ _ _ _ = None
+abbrev pub graph_with : (cuts load all balanced : Bool) → Option Text → Option (Work Text Text Text)
+graph_with true false false balanced None = Some (Cuts Picture balanced)
+graph_with false true all balanced script = Some (Inspect (LoadGraph all) script balanced)
+graph_with false false false balanced script = Some (Inspect Graph script balanced)
+graph_with _ _ _ balanced _ = None
 
 abbrev pub graph_by : List Row → Option (Work Text Text Text)
 graph_by rows =
-    graph_with (is_given rows (codes "CUTS")) (is_given rows (codes "LOAD")) (is_given rows (codes "ALL")) (first_of (codes "SCRIPT") rows)
+    graph_with (is_given rows (codes "CUTS")) (is_given rows (codes "LOAD")) (is_given rows (codes "ALL")) (is_balanced rows)
+    (first_of (codes "SCRIPT") rows)
 
 abbrev pub packet_by : Option Text → Option ℕ → Option ℕ → Option (Inspection Text)
 packet_by (Some port) (Some dlid) (Some p_key) = Some (Trace port dlid p_key)
@@ -194,19 +200,19 @@ audit_by rows =
     (is_given rows (codes "ALL"))
 
 -- loads, after the commands of a script if one is given
-abbrev pub loads_in : (script : Option Text) → (all : Bool) → Work Text Text Text
-loads_in script all = Inspect (Load all) script
+abbrev pub loads_in : (script : Option Text) → (all balanced : Bool) → Work Text Text Text
+loads_in script all balanced = Inspect (Load all) script balanced
 
 -- by a dump alone, or in the subnet of a topology and of partitions
-abbrev pub load_with : (fabric partitions script dump : Option Text) → (all : Bool) → Option (Call Names Text)
-load_with fabric None None (Some dump) false = dumped_by dump_view.Load fabric (Some dump)
-load_with fabric (Some partitions) script None all = asked_by fabric (Some partitions) (Some (loads_in script all))
-load_with fabric _ _ _ _ = None
+abbrev pub load_with : (fabric partitions script dump : Option Text) → (all balanced : Bool) → Option (Call Names Text)
+load_with fabric None None (Some dump) false false = dumped_by dump_view.Load fabric (Some dump)
+load_with fabric (Some partitions) script None all balanced = asked_by fabric (Some partitions) (Some (loads_in script all balanced))
+load_with fabric _ _ _ _ _ = None
 
 abbrev pub load_by : List Row → Option (Call Names Text)
 load_by rows =
     load_with (first_of (codes "FABRIC") rows) (first_of (codes "PARTS") rows) (first_of (codes "SCRIPT") rows) (first_of (codes "DUMP") rows)
-    (is_given rows (codes "ALL"))
+    (is_given rows (codes "ALL")) (is_balanced rows)
 
 -- a discovery, answers of smpquery and partitions
 abbrev pub audit_keys_with : Option Text → Option Text → Option Text → Option (Option ℕ) → (all : Bool) → Option (Call Names Text)
@@ -223,13 +229,13 @@ abbrev pub explain_by : Option Text → Option (Call Names Text)
 explain_by None = Some (Explain None)
 explain_by (Some word) = option_map (λ code. Explain (Some code)) (code_of word)
 
--- `check` takes no more arguments than its subnet's, `shares` takes a port, and `tables`, `keys`, `trace` and `graph` take a
+-- `check` takes no more arguments than its subnet's but a flag, `shares` takes a port, and `tables`, `keys`, `trace` and `graph` take a
 -- script, `cuts` two ports; `diff` needs other partitions, `trace` a packet, `run` a script, `smp` SMPs, `manage` replies, and
 -- `compare` two scripts and a port; `import` needs a file of its own and takes a GUID and roots, `audit` needs a fabric and a dump,
 -- and takes MFTs or lanes, and `load` these or a topology and partitions, and takes a script; `audit-keys` two files of its own and
 -- partitions, and takes a GUID, and `explain` takes a code
 abbrev pub call_in : Subcommand → List Row → Option (Call Names Text)
-call_in command.Check rows = in_subnet rows (Some Check)
+call_in command.Check rows = in_subnet rows (Some (Check (is_balanced rows)))
 call_in command.Shares rows = in_subnet rows (Some (Shares (first_of (codes "PORT") rows)))
 call_in command.Diff rows = in_subnet rows (diff_by (first_of (codes "PARTS2") rows))
 call_in command.Tables rows = in_subnet rows (inspect_by rows (Some Tables))
@@ -238,9 +244,9 @@ call_in command.Trace rows = in_subnet rows (inspect_by rows (trace_by rows))
 call_in command.Graph rows = in_subnet rows (graph_by rows)
 call_in command.Run rows = in_subnet rows (run_by (first_of (codes "SCRIPT") rows))
 call_in command.Smp rows = in_subnet rows (smps_by (first_of (codes "SMPS") rows) (first_of (codes "SCRIPT") rows))
-call_in command.Manage rows = in_subnet rows (manage_by (first_of (codes "REPLIES") rows))
+call_in command.Manage rows = in_subnet rows (manage_by (first_of (codes "REPLIES") rows) (is_given rows (codes "LEAST_PORT")))
 call_in command.Compare rows = in_subnet rows (compare_by rows)
-call_in command.Cuts rows = in_subnet rows (cuts_by (first_of (codes "PORT") rows) (first_of (codes "PORT2") rows))
+call_in command.Cuts rows = in_subnet rows (cuts_by (first_of (codes "PORT") rows) (first_of (codes "PORT2") rows) (is_balanced rows))
 call_in command.Import rows =
     import_by (first_of (codes "NETDISCOVER") rows) (guid_by (first_of (codes "SM") rows)) (roots_by (first_of (codes "ROOTS") rows))
 call_in command.Audit rows = audit_by rows
@@ -342,14 +348,14 @@ asked_by_given (Some words) = asked_by_clap words
 
 -- ---- the names that are opened, in order
 abbrev pub work_names : Work Text Text Text → List Text
-work_names Check = []
+work_names (Check balanced) = []
 work_names (Shares port) = []
 work_names (Diff second) = option_to_list second
-work_names (Inspect what script) = option_to_list script
-work_names (Cuts view) = []
+work_names (Inspect what script balanced) = option_to_list script
+work_names (Cuts view balanced) = []
 work_names (Run script) = script ∷ []
 work_names (Smps script smps) = option_to_list script ++ smps ∷ []
-work_names (Manage replies) = replies ∷ []
+work_names (Manage replies balanced) = replies ∷ []
 work_names (Compare first second port) = first ∷ second ∷ []
 
 abbrev pub all_names : Names → List Text

@@ -49,7 +49,10 @@ pub enum Subcommand {
 #[derive(Drop)]
 pub enum Work<W, S, R> {
     /// List its ports and the members of its partitions.
-    Check,
+    Check {
+        /// Whether routes are to be balanced.
+        balanced: bool,
+    },
     /// List which ports may talk to each other; of one port alone, if it is given.
     Shares(Option<W>),
     /// List what another partition file changes; none for `-`.
@@ -60,9 +63,16 @@ pub enum Work<W, S, R> {
         what: Inspection<W>,
         /// The script that runs before; without one, the state is that after bring-up.
         script: Option<S>,
+        /// Whether routes are to be balanced.
+        balanced: bool,
     },
     /// Print what the loss of cables between switches would do.
-    Cuts(CutView<W>),
+    Cuts {
+        /// What to print about it.
+        view: CutView<W>,
+        /// Whether routes are to be balanced.
+        balanced: bool,
+    },
     /// Run a script.
     Run(R),
     /// Answer SMPs at the SM port.
@@ -72,8 +82,13 @@ pub enum Work<W, S, R> {
         /// The SMPs.
         smps: R,
     },
-    /// Bring up the fabric that answers the SMPs that are written: the replies to them.
-    Manage(R),
+    /// Bring up the fabric that answers the SMPs that are written.
+    Manage {
+        /// The replies to them.
+        replies: R,
+        /// Whether routes are to be balanced.
+        balanced: bool,
+    },
     /// Compare two scripts for a port.
     Compare {
         /// The first script.

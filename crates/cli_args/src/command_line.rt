@@ -7,14 +7,14 @@ ghost use Rattle.cli_args.specs.CommandLine.{Reads};
 ghost use Rattle.cli_args.specs.CommandLine.{audit_command, audit_keys_command, check_command, compare_command, diff_command, explain_command, fabric_command, graph_command};
 ghost use Rattle.cli_args.specs.CommandLine.{all_flag, cuts_command, cuts_flag, dump_option, import_command, load_command, load_flag, keys_command, lanes_option, manager_option, mfts_option, optional, roots_option, run_command, script_option, shares_command};
 ghost use Rattle.cli_args.specs.CommandLine.{manage_command, smp_command, subnet_command, tables_command, trace_command};
-ghost use Rattle.cli_args.specs.CommandLine.{wanted, with_audits, with_cables, with_listings, with_runs};
+ghost use Rattle.cli_args.specs.CommandLine.{balanced_flag, least_port_flag, wanted, with_audits, with_cables, with_listings, with_runs};
 ghost use Rattle.cli_args.specs.Help.{about_audit, about_audit_keys, about_check, about_compare, about_cuts, about_diff, about_explain, about_graph, about_import, about_keys, about_load};
 ghost use Rattle.cli_args.specs.Help.{about_manage, about_program, about_run, about_smp};
 ghost use Rattle.cli_args.specs.Help.{about_shares, about_tables, about_trace, help_of_code, help_of_dlid, help_of_key};
 ghost use Rattle.cli_args.specs.Help.{help_of_compared, help_of_first_script, help_of_partitions, help_of_second_script};
 ghost use Rattle.cli_args.specs.Help.{help_of_all, help_of_all_lines, help_of_all_pairs, help_of_cuts, help_of_dump, help_of_lanes, help_of_mfts, help_of_first_end, help_of_load, help_of_second_end};
 ghost use Rattle.cli_args.specs.Help.{help_of_fabric, help_of_manager, help_of_netdiscover, help_of_pkeys, help_of_port, help_of_replies, help_of_roots, help_of_script, help_of_script_before, help_of_smps};
-ghost use Rattle.cli_args.specs.Help.{help_of_second_partitions, help_of_sender, help_of_topology};
+ghost use Rattle.cli_args.specs.Help.{help_of_balanced, help_of_least_port, help_of_second_partitions, help_of_sender, help_of_topology};
 ghost use Rattle.cli_args.specs.Help.{program_name, program_version, text_in};
 ghost use Rattle.cli_args.specs.Refusals.{IsShown};
 ghost use Rattle.cli_args.specs.Words.{asked_if_parsed, asked_of};
@@ -237,6 +237,30 @@ fn load_flag<'a>(alloc: Global) -> Arg<'a>
         .help("Draws cables in the width and colour of their loads")
 }
 
+fn balanced_flag<'a>(alloc: Global) -> Arg<'a>
+    ensures global { result.global ≡ false }
+    ensures rule { rule_of result ≡ balanced_flag }
+    ensures help { text_in result.help ≡ Some help_of_balanced }
+{
+    Arg::new(alloc, "BALANCED")
+        .long("balanced")
+        .action(ArgAction::SetTrue)
+        .help("Spreads routes over the ports that lead equally far; without it the least is taken")
+}
+
+fn least_port_flag<'a>(alloc: Global) -> Arg<'a>
+    ensures global { result.global ≡ false }
+    ensures rule { rule_of result ≡ least_port_flag }
+    ensures help { text_in result.help ≡ Some help_of_least_port }
+{
+    Arg::new(alloc, "LEAST_PORT")
+        .long("least-port")
+        .action(ArgAction::SetTrue)
+        .help(
+            "Of the ports that lead equally far the least is taken; without it routes spread over them",
+        )
+}
+
 fn wanted_fabric<'a>(alloc: Global) -> Arg<'a>
     ensures global { result.global ≡ false }
     ensures rule { rule_of result ≡ wanted (codes "FABRIC") }
@@ -456,7 +480,8 @@ fn check_command<'a>(alloc: Global) -> Result<Command<'a>, AllocError>
     ensures about { IfOk result (λ command. text_in (fields_of command).about ≡ Some about_check) }
     ensures help { IfOk result (λ command. text_in (fields_of command).after_help ≡ Some LISTING.now) }
 {
-    described(subnet_command(alloc, "check"), ABOUT_CHECK, LISTING)
+    let command = with_arg(subnet_command(alloc, "check"), balanced_flag(alloc));
+    described(command, ABOUT_CHECK, LISTING)
 }
 
 /// The command that lists which ports may talk to each other in a subnet.
@@ -488,7 +513,8 @@ fn tables_command<'a>(alloc: Global) -> Result<Command<'a>, AllocError>
     ensures about { IfOk result (λ command. text_in (fields_of command).about ≡ Some about_tables) }
     ensures help { IfOk result (λ command. text_in (fields_of command).after_help ≡ Some TABLES.now) }
 {
-    let command = with_arg(subnet_command(alloc, "tables"), optional_script(alloc));
+    let scripts = with_arg(subnet_command(alloc, "tables"), optional_script(alloc));
+    let command = with_arg(scripts, balanced_flag(alloc));
     described(command, ABOUT_TABLES, TABLES)
 }
 
@@ -510,7 +536,9 @@ fn trace_command<'a>(alloc: Global) -> Result<Command<'a>, AllocError>
 {
     let sent = with_arg(subnet_command(alloc, "trace"), wanted_port(alloc));
     let packet = with_arg(with_arg(sent, wanted_dlid(alloc)), wanted_key(alloc));
-    described(with_arg(packet, optional_script(alloc)), ABOUT_TRACE, TRACE)
+    let scripts = with_arg(packet, optional_script(alloc));
+    let command = with_arg(scripts, balanced_flag(alloc));
+    described(command, ABOUT_TRACE, TRACE)
 }
 
 /// The command that draws a fabric.
@@ -522,7 +550,8 @@ fn graph_command<'a>(alloc: Global) -> Result<Command<'a>, AllocError>
     let drawn = with_arg(subnet_command(alloc, "graph"), optional_script(alloc));
     let cuts = with_arg(drawn, cuts_flag(alloc));
     let loads = with_arg(cuts, load_flag(alloc));
-    let command = with_arg(loads, all_pairs_flag(alloc));
+    let pairs = with_arg(loads, all_pairs_flag(alloc));
+    let command = with_arg(pairs, balanced_flag(alloc));
     described(command, ABOUT_GRAPH, GRAPH)
 }
 
@@ -552,7 +581,8 @@ fn manage_command<'a>(alloc: Global) -> Result<Command<'a>, AllocError>
     ensures about { IfOk result (λ command. text_in (fields_of command).about ≡ Some about_manage) }
     ensures help { IfOk result (λ command. text_in (fields_of command).after_help ≡ Some MANAGE.now) }
 {
-    let command = with_arg(subnet_command(alloc, "manage"), wanted_replies(alloc));
+    let replies = with_arg(subnet_command(alloc, "manage"), wanted_replies(alloc));
+    let command = with_arg(replies, least_port_flag(alloc));
     described(command, ABOUT_MANAGE, MANAGE)
 }
 
@@ -578,11 +608,9 @@ fn cuts_command<'a>(alloc: Global) -> Result<Command<'a>, AllocError>
     ensures help { IfOk result (λ command. text_in (fields_of command).after_help ≡ Some CUTS.now) }
 {
     let first = with_arg(subnet_command(alloc, "cuts"), optional_first_end(alloc));
-    described(
-        with_arg(first, optional_second_end(alloc)),
-        ABOUT_CUTS,
-        CUTS,
-    )
+    let ends = with_arg(first, optional_second_end(alloc));
+    let command = with_arg(ends, balanced_flag(alloc));
+    described(command, ABOUT_CUTS, CUTS)
 }
 
 /// The command that makes a topology from a real fabric.
@@ -619,7 +647,8 @@ fn load_command<'a>(alloc: Global) -> Result<Command<'a>, AllocError>
     let found = with_arg(Ok(Command::new(alloc, "load")), wanted_fabric(alloc));
     let files = with_arg(found, optional_partitions(alloc));
     let runs = with_arg(files, optional_script(alloc));
-    let command = with_arg(with_arg(runs, dump_option(alloc)), all_pairs_flag(alloc));
+    let pairs = with_arg(with_arg(runs, dump_option(alloc)), all_pairs_flag(alloc));
+    let command = with_arg(pairs, balanced_flag(alloc));
     described(command, ABOUT_LOAD, LOAD)
 }
 

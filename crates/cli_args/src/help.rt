@@ -289,9 +289,10 @@ The next line of REPLIES is its reply as it comes to the SM port, or `none`:
   none
 
 Empty lines and comments of REPLIES are passed over. Whatever answers is brought up: discovered, its
-ports named by LIDs, its P_Key tables and LFTs written, its ports set to Active. It must have the end
-ports and the SM port of TOPO, else the error is SW2, and nothing is written to it. At the end the
-lines of `check` are printed, and:
+ports named by LIDs, its P_Key tables and LFTs written, its ports set to Active. The LFTs are those that
+`fabric tables --balanced` prints, with --least-port those without that flag. It must have the end ports
+and the SM port of TOPO, else the error is SW2, and nothing is written to it. At the end the lines of
+`check` are printed, and:
   up: N switches, N ports, N exchanges, N switch ports that do not enforce
 How many end ports it has, how many SMPs were printed, and at how many switch ports in front of a CA
 port only the CA port keeps partitions apart.
@@ -327,7 +328,7 @@ For more information, try 'fabric audit --help'.
 ";
 
 pub(crate) const PARTS_OR_DUMP: &str =
-    "error: either PARTS is needed, or --dump DUMP without PARTS, SCRIPT and --all
+    "error: either PARTS is needed, or --dump DUMP without PARTS, SCRIPT, --all and --balanced
 
 For more information, try 'fabric load --help'.
 ";

@@ -15,5 +15,7 @@ pub use crate::call::{
     Asked, Call, CutView, DumpView, Inspection, NamedWork, Refused, Subcommand, ThirdFile, Work,
 };
 pub use crate::command_line::{Clap, Parser};
-pub use crate::laws::{files_are_named_as_given, the_version_is_requested_by_its_flags};
+pub use crate::laws::{
+    balanced_routes_are_asked_for, files_are_named_as_given, the_version_is_requested_by_its_flags,
+};
 pub use crate::words::{given_words, read_words, version_line};

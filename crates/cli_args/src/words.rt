@@ -7,7 +7,7 @@ ghost use Rattle.cli_args.specs.Refusals.{IsOfGiven, IsOfWords, ReportsAll};
 ghost use Rattle.cli_args.specs.Words.{asked_by, asked_in, asked_of, audit_by, audit_three, audit_with, call_in, compare_by, cuts_by, diff_by, dumped_by, explain_by, file_in, given_items, guid_by};
 ghost use Rattle.cli_args.specs.Words.{audit_keys_by, import_by, in_subnet, roots_by};
 ghost use Rattle.text_words.specs.Number.{if_under, number_in};
-ghost use Rattle.cli_args.specs.Words.{graph_by, graph_with, inspect_by, is_given, load_by, load_with, loads_in, named_call, named_found, named_inspection};
+ghost use Rattle.cli_args.specs.Words.{graph_by, graph_with, inspect_by, is_balanced, is_given, load_by, load_with, loads_in, named_call, named_found, named_inspection};
 ghost use Rattle.cli_args.specs.Words.{manage_by, named_work, run_by, smps_by, subcommand_in, text_for, trace_by, u16_by};
 
 use crate::call::{
@@ -139,7 +139,10 @@ fn call_of<'a>(command: Subcommand, found: &ArgMatches<'a>) -> Option<Call<Asked
     ensures { option_map named_call result ≡ call_in command (rows_of (found_of found.now)) }
 {
     match command {
-        Subcommand::Check => in_subnet(found, Some(Work::Check)),
+        Subcommand::Check => {
+            let balanced = is_balanced(found);
+            in_subnet(found, Some(Work::Check { balanced }))
+        }
         Subcommand::Shares => in_subnet(found, Some(Work::Shares(word_of(found, "PORT")))),
         Subcommand::Diff => in_subnet(found, diff_by(word_of(found, "PARTS2"))),
         Subcommand::Tables => in_subnet(found, inspect_by(found, Some(Inspection::Tables))),
@@ -151,11 +154,14 @@ fn call_of<'a>(command: Subcommand, found: &ArgMatches<'a>) -> Option<Call<Asked
             let smps = smps_by(word_of(found, "SMPS"), word_of(found, "SCRIPT"));
             in_subnet(found, smps)
         }
-        Subcommand::Manage => in_subnet(found, manage_by(word_of(found, "REPLIES"))),
+        Subcommand::Manage => {
+            let least = is_given(found, "LEAST_PORT");
+            in_subnet(found, manage_by(word_of(found, "REPLIES"), least))
+        }
         Subcommand::Compare => in_subnet(found, compared(found)),
         Subcommand::Cuts => {
-            let ends = cuts_by(word_of(found, "PORT"), word_of(found, "PORT2"));
-            in_subnet(found, ends)
+            let (first, second) = (word_of(found, "PORT"), word_of(found, "PORT2"));
+            in_subnet(found, cuts_by(first, second, is_balanced(found)))
         }
         Subcommand::Import => {
             let manager = guid_by(word_of(found, "SM"));
@@ -215,12 +221,23 @@ fn diff_by(second: Option<&str>) -> Option<NamedWork<'_>>
 }
 
 /// The loss of all cables, or of the one between two given ports; nothing if one port alone is given.
-fn cuts_by<'a>(first: Option<&'a str>, second: Option<&'a str>) -> Option<NamedWork<'a>>
-    ensures { option_map named_work result ≡ cuts_by (option_map (λ word. word.now) first.entry) (option_map (λ word. word.now) second.entry) }
+fn cuts_by<'a>(
+    first: Option<&'a str>,
+    second: Option<&'a str>,
+    balanced: bool,
+) -> Option<NamedWork<'a>>
+    ensures { option_map named_work result
+        ≡ cuts_by (option_map (λ word. word.now) first.entry) (option_map (λ word. word.now) second.entry) balanced }
 {
     match (first, second) {
-        (None, None) => Some(Work::Cuts(CutView::All)),
-        (Some(first), Some(second)) => Some(Work::Cuts(CutView::One { first, second })),
+        (None, None) => Some(Work::Cuts {
+            view: CutView::All,
+            balanced,
+        }),
+        (Some(first), Some(second)) => Some(Work::Cuts {
+            view: CutView::One { first, second },
+            balanced,
+        }),
         _ => None,
     }
 }
@@ -231,10 +248,13 @@ fn run_by(script: Option<&str>) -> Option<NamedWork<'_>>
     Some(Work::Run(script?))
 }
 
-fn manage_by(replies: Option<&str>) -> Option<NamedWork<'_>>
-    ensures { option_map named_work result ≡ manage_by (option_map (λ word. word.now) replies.entry) }
+fn manage_by(replies: Option<&str>, least: bool) -> Option<NamedWork<'_>>
+    ensures { option_map named_work result ≡ manage_by (option_map (λ word. word.now) replies.entry) least }
 {
-    Some(Work::Manage(replies?))
+    Some(Work::Manage {
+        replies: replies?,
+        balanced: !least,
+    })
 }
 
 /// SMPs, after the commands of a script if one is given.
@@ -257,6 +277,7 @@ fn inspect_by<'a>(
     Some(Work::Inspect {
         what: what?,
         script: word_of(found, "SCRIPT"),
+        balanced: is_balanced(found),
     })
 }
 
@@ -267,7 +288,13 @@ fn graph_by<'a>(found: &ArgMatches<'a>) -> Option<NamedWork<'a>>
     let cuts = is_given(found, "CUTS");
     let load = is_given(found, "LOAD");
     let all = is_given(found, "ALL");
-    graph_with(cuts, load, all, word_of(found, "SCRIPT"))
+    graph_with(
+        cuts,
+        load,
+        all,
+        is_balanced(found),
+        word_of(found, "SCRIPT"),
+    )
 }
 
 /// Whether a flag is given.
@@ -280,18 +307,36 @@ fn is_given<'a>(found: &ArgMatches<'a>, name: &str) -> bool
     }
 }
 
-fn graph_with(cuts: bool, load: bool, all: bool, script: Option<&str>) -> Option<NamedWork<'_>>
-    ensures { option_map named_work result ≡ graph_with cuts load all (option_map (λ word. word.now) script.entry) }
+/// Whether routes are to be balanced.
+fn is_balanced<'a>(found: &ArgMatches<'a>) -> bool
+    ensures { result ≡ is_balanced (rows_of (found_of found.now)) }
+{
+    is_given(found, "BALANCED")
+}
+
+fn graph_with(
+    cuts: bool,
+    load: bool,
+    all: bool,
+    balanced: bool,
+    script: Option<&str>,
+) -> Option<NamedWork<'_>>
+    ensures { option_map named_work result ≡ graph_with cuts load all balanced (option_map (λ word. word.now) script.entry) }
 {
     match (cuts, load, all, script) {
-        (true, false, false, None) => Some(Work::Cuts(CutView::Picture)),
+        (true, false, false, None) => Some(Work::Cuts {
+            view: CutView::Picture,
+            balanced,
+        }),
         (false, true, all, script) => Some(Work::Inspect {
             what: Inspection::LoadGraph { all },
             script,
+            balanced,
         }),
         (false, false, false, script) => Some(Work::Inspect {
             what: Inspection::Graph,
             script,
+            balanced,
         }),
         _ => None,
     }
@@ -436,7 +481,8 @@ fn load_by<'a>(found: &ArgMatches<'a>) -> Option<Call<Asked<'a>, &'a str>>
     let partitions = word_of(found, "PARTS");
     let script = word_of(found, "SCRIPT");
     let dump = word_of(found, "DUMP");
-    load_with(fabric, partitions, script, dump, is_given(found, "ALL"))
+    let all = is_given(found, "ALL");
+    load_with(fabric, partitions, script, dump, all, is_balanced(found))
 }
 
 fn load_with<'a>(
@@ -445,24 +491,28 @@ fn load_with<'a>(
     script: Option<&'a str>,
     dump: Option<&'a str>,
     all: bool,
+    balanced: bool,
 ) -> Option<Call<Asked<'a>, &'a str>>
     ensures { option_map named_call result ≡ load_with (option_map (λ word. word.now) fabric.entry)
         (option_map (λ word. word.now) partitions.entry) (option_map (λ word. word.now) script.entry)
-        (option_map (λ word. word.now) dump.entry) all }
+        (option_map (λ word. word.now) dump.entry) all balanced }
 {
-    match (partitions, script, dump, all) {
+    match (partitions, script, dump, all || balanced) {
         (None, None, Some(_), false) => dumped_by(DumpView::Load, fabric, dump),
-        (Some(_), script, None, all) => asked_by(fabric, partitions, loads_in(script, all)),
+        (Some(_), script, None, _) => {
+            asked_by(fabric, partitions, loads_in(script, all, balanced))
+        }
         _ => None,
     }
 }
 
-fn loads_in(script: Option<&str>, all: bool) -> Option<NamedWork<'_>>
-    ensures { option_map named_work result ≡ Some (loads_in (option_map (λ word. word.now) script.entry) all) }
+fn loads_in(script: Option<&str>, all: bool, balanced: bool) -> Option<NamedWork<'_>>
+    ensures { option_map named_work result ≡ Some (loads_in (option_map (λ word. word.now) script.entry) all balanced) }
 {
     Some(Work::Inspect {
         what: Inspection::Load { all },
         script,
+        balanced,
     })
 }
 

@@ -241,7 +241,6 @@ pub fn read(alloc: Global, text: &[u8]) -> Result<Dump, DumpFault>
 {
     let draft = read_lines(alloc, text, Draft::new(alloc))?;
     let dump = draft.finish(alloc)?;
-    dump.known_sound();
     Ok(dump)
 }
 

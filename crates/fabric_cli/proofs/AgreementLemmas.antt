@@ -34,18 +34,18 @@ module _ (file other : Contents) where
       ap (λ (read : Result (List ℕ) Ending). read >>= λ bytes. Ok (Some bytes)) (bytes_alike name (All-head (λ one. file one ≡ other one) name [] same))
 
   work_alike : (asked : Work (List ℕ) (List ℕ) (List ℕ)) → agree (work_names asked) → work_of file asked ≡ work_of other asked
-  work_alike work.Check same = refl
+  work_alike (work.Check balanced) same = refl
   work_alike (work.Shares port) same = refl
   work_alike (work.Diff None) same = refl
   work_alike (work.Diff (Some name)) same = rw (bytes_alike name (All-head (λ one. file one ≡ other one) name [] same)) refl
-  work_alike (work.Inspect what None) same = refl
-  work_alike (work.Inspect what (Some name)) same = rw (bytes_alike name (All-head (λ one. file one ≡ other one) name [] same)) refl
-  work_alike (work.Cuts view) same = refl
+  work_alike (work.Inspect what None balanced) same = refl
+  work_alike (work.Inspect what (Some name) balanced) same = rw (bytes_alike name (All-head (λ one. file one ≡ other one) name [] same)) refl
+  work_alike (work.Cuts view balanced) same = refl
   work_alike (work.Run name) same = rw (bytes_alike name (All-head (λ one. file one ≡ other one) name [] same)) refl
   work_alike (work.Smps script name) same =
       let more = named_alike script (name ∷ []) same in
       rw (more.0, bytes_alike name (All-head (λ one. file one ≡ other one) name [] more.1)) refl
-  work_alike (work.Manage name) same = rw (bytes_alike name (All-head (λ one. file one ≡ other one) name [] same)) refl
+  work_alike (work.Manage name balanced) same = rw (bytes_alike name (All-head (λ one. file one ≡ other one) name [] same)) refl
   work_alike (work.Compare first second port) same =
       let more = All-tail (λ one. file one ≡ other one) first (second ∷ []) same in
       rw (

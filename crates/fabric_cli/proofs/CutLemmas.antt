@@ -17,7 +17,7 @@ use Rattle.topo_file.specs.Topology.{TopologyState}
 
 -- ---- what is reported of cables
 pub brought_up : (subnet : SubnetState) → IsStarted subnet → HaveBroughtUp subnet.inventory.plan subnet.routes
-brought_up subnet started = record { keys = all_keys subnet.inventory.configuration.ports; fabric = subnet.fabric; by = started.up }
+brought_up subnet started = record { keys = all_keys subnet.inventory.configuration.ports; fabric = subnet.fabric; by = started.up.0 }
 
 -- the ends of a cable that words name are those of a cable that can be cut
 end_there : (cables : List Cable) (here there : PortRef) → far_end cables here ≡ Some there → list_any (is_between here there) cables ≡ true

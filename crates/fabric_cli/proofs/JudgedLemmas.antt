@@ -14,7 +14,7 @@ use Rattle.subnet_core.specs.After.{IsLeftBy, TurnsAfter, left_from, script_read
 use Rattle.subnet_core.specs.BringUp.{Becomes, IsStarted, SubnetState, Turns, stop_of, up_in}
 use Rattle.subnet_core.specs.Fate.{FailsWith, WithFabric, up_from}
 use Rattle.subnet_core.specs.Listing.{listing_text}
-use Rattle.subnet_core.specs.Inventory.{InventoryState, fault_in, inventoried, of_text, partitions_for, inventory_of, large_inventory_of}
+use Rattle.subnet_core.specs.Inventory.{InventoryState, fault_in, inventoried, of_text, partitions_for, inventory_by, inventory_of, large_inventory_of}
 use Rattle.subnet_core.specs.Comparison.{Compares, TwoRunsState, TwoScriptsState, of_port, two_runs_of, two_scripts_of}
 use Rattle.subnet_core.specs.declared.comparing.Comparison.{Comparison}
 use Rattle.script_lines.specs.NamedPort.{named_adapter_port}
@@ -26,7 +26,7 @@ use Rattle.subnet_fabric.specs.BringUp.{BroughtUpState}
 use Rattle.subnet_model.specs.declared.command.Command.{Command}
 use Rattle.sweep.specs.declared.fault.SweepFault.TheVariants as sweep
 use Rattle.fabric_cli.specs.Faults.{port_line, run_line, run_status, IsOfRun}
-use Rattle.fabric_cli.specs.Serving.{Answers, AppendsSome, BreaksOff, Comes, ComesTo, CutComes, CutsAreReported, Ending, Finding, ForEnding, Judged, ManageStop, RunStops, Stops, ReportsCuts, managed_by, managed_in, cut_reported, cuts_in, comparison_text, complete, ending_over, faulted, looked_at, run_in, seen_after, smps_seen, second_stop, shares_in, changes_in, texts_with, ended, to_judge}
+use Rattle.fabric_cli.specs.Serving.{rule_of, asked_inventory, Answers, AppendsSome, BreaksOff, Comes, ComesTo, CutComes, CutsAreReported, Ending, Finding, ForEnding, Judged, ManageStop, RunStops, Stops, ReportsCuts, managed_by, managed_in, cut_reported, cuts_in, comparison_text, complete, ending_over, faulted, looked_at, run_in, seen_after, smps_seen, second_stop, shares_in, changes_in, texts_with, ended, to_judge}
 use Rattle.cli_args.specs.declared.call.Inspection.{Inspection}
 use Rattle.fabric_cli.specs.declared.faults.Stop.{Stop}
 use Rattle.fabric_cli.specs.declared.faults.Stop.TheVariants.{Words, NoMemory, Unread, Unwritten, Run, Second, Unmanaged, Unheard, Unsent, Foreign}
@@ -37,6 +37,9 @@ use Rattle.std.specs.Io.KnownBytes.{Keeps}
 use Rattle.cli_args.specs.declared.call.Work.{Work}
 use Rattle.fabric_cli.specs.declared.answering.Answer.{Answer}
 use Rattle.cli_args.specs.declared.call.Work.TheVariants as work
+use Rattle.updn_routes.specs.Routes.{routes_with}
+use Rattle.updn_routes.specs.declared.tie_rule.TieRule.{TieRule}
+use Rattle.updn_routes.specs.declared.tie_rule.TieRule.TheVariants.{LeastPort}
 
 -- ---- no fault of a text or of its fabric has another status than 1
 of_text_at_one : {X Cause : Type 0} (make : ℕ → Cause → RunFault) → ((line : ℕ) (cause : Cause) → run_status (make line cause) ≡ 1)
@@ -49,22 +52,23 @@ partitions_at_one None fault is = absurd cc
 partitions_at_one (Some text) fault is = of_text_at_one run.Partitions (λ line cause. refl) _ fault is
 
 -- a topology or partitions that are at fault
-texts_at_one : (read : Result TopologyState RunFault) (all : Result (List Partition) RunFault) (fault : RunFault) → ((other : RunFault) → read ≡ Err other → run_status other ≡ 1)
-    → ((other : RunFault) → all ≡ Err other → run_status other ≡ 1) → (read >>= λ plan. all >>= λ some. Ok (inventoried plan some)) ≡ Err fault → run_status fault ≡ 1
-texts_at_one (Err other) all fault one two is = let same : other ≡ fault = same_err _ _ is in one fault (ap Err same)
-texts_at_one (Ok plan) (Err other) fault one two is = let same : other ≡ fault = same_err _ _ is in two fault (ap Err same)
-texts_at_one (Ok plan) (Ok all) fault one two is = absurd cc
+texts_at_one : (rule : TieRule) (read : Result TopologyState RunFault) (all : Result (List Partition) RunFault) (fault : RunFault) → ((other : RunFault) → read ≡ Err other → run_status other ≡ 1)
+    → ((other : RunFault) → all ≡ Err other → run_status other ≡ 1) → (read >>= λ plan. all >>= λ some. Ok (inventoried rule plan some)) ≡ Err fault → run_status fault ≡ 1
+texts_at_one rule (Err other) all fault one two is = let same : other ≡ fault = same_err _ _ is in one fault (ap Err same)
+texts_at_one rule (Ok plan) (Err other) fault one two is = let same : other ≡ fault = same_err _ _ is in two fault (ap Err same)
+texts_at_one rule (Ok plan) (Ok all) fault one two is = absurd cc
 
-pub inventory_at_one : (topology : List ℕ) (partitions : Option (List ℕ)) (fault : RunFault) → inventory_of topology partitions ≡ Err fault → run_status fault ≡ 1
-unfolding inventory_of
-inventory_at_one topology partitions fault is =
-    texts_at_one (of_text run.Topology (topology_of topology)) (partitions_for partitions) fault
+pub inventory_at_one : (rule : TieRule) (topology : List ℕ) (partitions : Option (List ℕ)) (fault : RunFault) → inventory_by rule topology partitions ≡ Err fault
+    → run_status fault ≡ 1
+unfolding inventory_by
+inventory_at_one rule topology partitions fault is =
+    texts_at_one rule (of_text run.Topology (topology_of topology)) (partitions_for partitions) fault
     (λ other e. of_text_at_one run.Topology (λ line cause. refl) _ other e) (partitions_at_one partitions) is
 
 pub large_inventory_at_one : (topology : List ℕ) (partitions : Option (List ℕ)) (fault : RunFault) → large_inventory_of topology partitions ≡ Err fault → run_status fault ≡ 1
 unfolding large_inventory_of
 large_inventory_at_one topology partitions fault is =
-    texts_at_one (of_text run.Topology (topology_within Large topology)) (partitions_for partitions) fault
+    texts_at_one LeastPort (of_text run.Topology (topology_within Large topology)) (partitions_for partitions) fault
     (λ other e. of_text_at_one run.Topology (λ line cause. refl) _ other e) (partitions_at_one partitions) is
 
 stop_at_one : (inventory : InventoryState) (fault : RunFault) → Becomes (Ok inventory) (Some fault) → run_status fault ≡ 1
@@ -84,13 +88,13 @@ stop_at_one inventory (run.SecondScript line cause) is = absurd is
 stop_at_one inventory run.Read is = absurd is
 stop_at_one inventory run.Write is = absurd is
 
-up_at_one : (topology : List ℕ) (partitions : Option (List ℕ)) (stop : Option RunFault) (fault : RunFault) → Becomes (inventory_of topology partitions) stop
-    → up_from (inventory_of topology partitions) stop ≡ Err fault → run_status fault ≡ 1
+up_at_one : (rule : TieRule) (topology : List ℕ) (partitions : Option (List ℕ)) (stop : Option RunFault) (fault : RunFault)
+    → Becomes (inventory_by rule topology partitions) stop → up_from (inventory_by rule topology partitions) stop ≡ Err fault → run_status fault ≡ 1
 unfolding up_from
-up_at_one topology partitions stop fault becomes is = by (inventory_of topology partitions) refl stop refl
+up_at_one rule topology partitions stop fault becomes is = by (inventory_by rule topology partitions) refl stop refl
   where
-    by : (given : Result InventoryState RunFault) → inventory_of topology partitions ≡ given → (s : Option RunFault) → stop ≡ s → run_status fault ≡ 1
-    by (Err other) e s at = let same : other ≡ fault = same_err _ _ (rw e at is) in inventory_at_one topology partitions fault (e ∙ ap Err same)
+    by : (given : Result InventoryState RunFault) → inventory_by rule topology partitions ≡ given → (s : Option RunFault) → stop ≡ s → run_status fault ≡ 1
+    by (Err other) e s at = let same : other ≡ fault = same_err _ _ (rw e at is) in inventory_at_one rule topology partitions fault (e ∙ ap Err same)
     by (Ok inventory) e None at = let none : Ok inventory ≡ Err fault = rw (e, at) at is in absurd cc
     by (Ok inventory) e (Some other) at =
         let same : other ≡ fault = same_err _ _ (rw (e, at) at is) in
@@ -127,7 +131,7 @@ two_runs_at_one topology partitions first second port stop fault becomes is = by
     scripts_by inventory e (Ok scripts) c = let none : Ok _ ≡ Err fault = rw (e, c) at is in absurd cc
 
     by : (up : Result InventoryState RunFault) → up_from (inventory_of topology partitions) stop ≡ up → run_status fault ≡ 1
-    by (Err other) e = let same : other ≡ fault = same_err _ _ (rw e at is) in up_at_one topology partitions stop fault becomes (e ∙ ap Err same)
+    by (Err other) e = let same : other ≡ fault = same_err _ _ (rw e at is) in up_at_one LeastPort topology partitions stop fault becomes (e ∙ ap Err same)
     by (Ok inventory) e = scripts_by inventory e (two_scripts_of inventory.plan first second port) refl
 
 -- ---- one ending
@@ -174,7 +178,7 @@ nothing_up = record {
   routes = record {
     graph = record { manager = 0; switches = []; rows = []; ports = [] };
     lids = [];
-    between = record { rows = []; guids = []; ranks = []; depths = []; places = []; tables = []; homes = [] };
+    between = routes_with [] [] [] [] [] [] [] LeastPort [];
   };
   fabric = record { nodes = []; cables = []; cut = []; manager = nothing_at };
 }
@@ -283,25 +287,145 @@ cuts_turn (Ok inventory) (Some other) fault view becomes is =
     (Err fault, rw (same_err other fault is) at becomes, tt, refl)
 cuts_turn (Err other) stop fault view becomes is = (Err fault, tt, tt, rw (same_err other fault is) refl)
 
+-- ---- by the rule of ties that is asked for
+module _ (balanced : Bool) (topology : List ℕ) (partitions : Option (List ℕ)) where
+  abbrev asked : Result InventoryState RunFault
+  asked = asked_inventory balanced topology partitions
+
+  -- ---- a listing
+  pub listing_stops : (fault : RunFault) → FailsWith (Becomes asked) (fault_in fault) (up_from asked)
+      → RunStops (texts_with topology partitions (work.Check balanced)) fault
+  listing_stops fault fails =
+      stopped_by (texts_with topology partitions (work.Check balanced)) fault (λ reported.
+      let up : WithFabric (Becomes asked) (λ stop. up_from asked stop ≡ Err fault) = rw reported at fails in
+      let turns = outcome_of asked up.stop up.becomes in
+      let one : run_status fault ≡ 1 = up_at_one (rule_of balanced) topology partitions up.stop fault up.becomes up.is in
+      (one, record { outcome = turns.0; finding = nothing_found; comes = turns.1; is = rw (turns.2, up.is, one) refl }))
+
+  pub is_listed : (inventory : InventoryState) (text : List ℕ) → WithFabric (Becomes asked) (λ stop. up_from asked stop ≡ Ok inventory) → text ≡ listing_text inventory.configuration
+      → ForEnding (texts_with topology partitions (work.Check balanced)) (λ ending. ending ≡ complete text)
+  is_listed inventory text up reported =
+      let turns = outcome_of asked up.stop up.becomes in
+      record { outcome = turns.0; finding = nothing_found; comes = turns.1; is = rw (turns.2, up.is, reported) refl }
+
+  -- ---- the loss of cables
+  pub cuts_stop : (view : CutView (List ℕ)) (fault : RunFault) → FailsWith (Becomes asked) (fault_in fault) (up_from asked)
+      → RunStops (texts_with topology partitions (work.Cuts view balanced)) fault
+  cuts_stop view fault fails =
+      stopped_by (texts_with topology partitions (work.Cuts view balanced)) fault (λ reported.
+      let up : WithFabric (Becomes asked) (λ stop. up_from asked stop ≡ Err fault) = rw reported at fails in
+      let turns = cuts_turn asked up.stop fault view up.becomes up.is in
+      let one : run_status fault ≡ 1 = up_at_one (rule_of balanced) topology partitions up.stop fault up.becomes up.is in (
+        one,
+        record {
+          outcome = turns.0;
+          finding = nothing_found;
+          comes = (turns.1, turns.2);
+          is = turns.3 ∙ ap (λ (status : ℕ). faulted status (run_line fault)) one;
+        },
+      ))
+
+  pub cuts_come : (view : CutView (List ℕ)) (subnet : SubnetState) (result : Result (Vec ℕ Global) Stop)
+      → WithFabric (Becomes asked) (λ stop. up_from asked stop ≡ Ok subnet.inventory) → IsStarted subnet → CutComes subnet.inventory (up_in subnet) view result
+      → ComesTo (λ text. text.items) (texts_with topology partitions (work.Cuts view balanced)) result
+  unfolding up_from
+  cuts_come view subnet result up started comes = by result comes
+    where
+      is : asked ≡ Ok subnet.inventory
+      is = same_inventory asked up.stop subnet.inventory up.is
+
+      finding : List ℕ → Finding
+      finding reported = record nothing_found { cuts = reported }
+
+      said_so : (reported : List ℕ) → ReportsCuts subnet.inventory (up_in subnet) view reported
+          → Comes topology partitions (work.Cuts view balanced) (Ok (up_in subnet)) (finding reported)
+      said_so reported reports = (rw is started.up, rw is reports)
+
+      ends_so : (reported : List ℕ) → ending_over topology partitions (work.Cuts view balanced) (Ok (up_in subnet)) (finding reported) ≡ cut_reported subnet.inventory.plan reported view
+      ends_so reported = rw is refl
+
+      by : (r : Result (Vec ℕ Global) Stop) → CutComes subnet.inventory (up_in subnet) view r
+          → ComesTo (λ text. text.items) (texts_with topology partitions (work.Cuts view balanced)) r
+      by (Ok text) reported = record {
+        outcome = Ok (up_in subnet);
+        finding = finding text.items;
+        comes = said_so text.items reported.0;
+        is = ends_so text.items ∙ reported.1;
+      }
+      by (Err stop) (inl memory) = rw memory tt
+      by (Err stop) (inr none) =
+          let reports : ReportsCuts subnet.inventory (up_in subnet) view [] = rw (none.view_is, none.named) tt in
+          let ending : cut_reported subnet.inventory.plan [] view ≡ faulted 1 (port_line (script_code none.cause)) = rw (none.view_is, none.named) refl in
+          rw none.stop_is (refl, record { outcome = Ok (up_in subnet); finding = finding []; comes = said_so [] reports; is = ends_so [] ∙ ending })
+
+  -- ---- what a fabric holds, after a script, if there is one
+  left_turns : (found : Result InventoryState RunFault) (script : Option (List ℕ)) (left : SubnetState) → found ≡ Ok left.inventory → IsLeftBy script left
+      → TurnsAfter found script (Ok (up_in left)) × ((see : InventoryState → BroughtUpState → Ending) → seen_after found see script (Ok (up_in left)) ≡ see left.inventory (up_in left))
+  left_turns found None left is by = (rw is by.up, λ see. rw is refl)
+  left_turns found (Some script) left is by = (rw (is, by.1) by.2.up, λ see. rw (is, by.1) refl)
+
+  pub is_inspected : (what : Inspection (List ℕ)) (script : Option (List ℕ)) (left : SubnetState) (result : Result (Vec ℕ Global) Stop)
+      → asked ≡ Ok left.inventory → IsLeftBy script left → ComesTo (λ text. text.items) (ended (looked_at left.inventory (up_in left) what)) result
+      → ComesTo (λ text. text.items) (texts_with topology partitions (work.Inspect what script balanced)) result
+  is_inspected what script left result is by comes =
+      let turns = left_turns asked script left is by in
+      comes_over topology partitions (work.Inspect what script balanced) (Ok (up_in left)) nothing_found turns.0 result (rw (turns.1 (λ inventory up. looked_at inventory up what)) comes)
+
+  script_at_one : (plan : TopologyState) (script : Option (List ℕ)) (fault : RunFault) → script_read plan script ≡ Err fault → run_status fault ≡ 1
+  script_at_one plan None fault is = absurd cc
+  script_at_one plan (Some script) fault is = of_text_at_one run.Script (λ line cause. refl) (commands_in plan script) fault is
+
+  left_at_one : (script : Option (List ℕ)) (stop : Option RunFault) (fault : RunFault) → Becomes asked stop → left_from asked script stop ≡ Err fault
+      → run_status fault ≡ 1
+  unfolding left_from
+  left_at_one script stop fault becomes is = by (up_from asked stop) refl
+    where
+      by : (up : Result InventoryState RunFault) → up_from asked stop ≡ up → run_status fault ≡ 1
+      by (Err other) e = let same : other ≡ fault = same_err _ _ (rw e at is) in up_at_one (rule_of balanced) topology partitions stop fault becomes (e ∙ ap Err same)
+      by (Ok inventory) e = script_at_one inventory.plan script fault (rw e at is)
+
+  seen_stops : (task : Work (List ℕ) (List ℕ) (List ℕ)) (see : InventoryState → BroughtUpState → Ending) (script : Option (List ℕ)) (fault : RunFault)
+      → ((outcome : Result BroughtUpState RunFault) → TurnsAfter asked script outcome → Comes topology partitions task outcome nothing_found)
+      → ((outcome : Result BroughtUpState RunFault) → ending_over topology partitions task outcome nothing_found ≡ seen_after asked see script outcome)
+      → FailsWith (Becomes asked) (fault_in fault) (left_from asked script) → RunStops (texts_with topology partitions task) fault
+  seen_stops task see script fault comes over fails =
+      stopped_by (texts_with topology partitions task) fault (λ reported.
+      let up : WithFabric (Becomes asked) (λ stop. left_from asked script stop ≡ Err fault) = rw reported at fails in
+      let one : run_status fault ≡ 1 = left_at_one script up.stop fault up.becomes up.is in
+      let turns = stop_turns asked script up.stop fault up.becomes up.is in (
+        one,
+        record {
+          outcome = turns.0;
+          finding = nothing_found;
+          comes = comes turns.0 turns.1;
+          is = over turns.0 ∙ turns.2 see ∙ ap (λ (status : ℕ). faulted status (run_line fault)) one;
+        },
+      ))
+
+  pub inspection_stops : (what : Inspection (List ℕ)) (script : Option (List ℕ)) (fault : RunFault) → FailsWith (Becomes asked) (fault_in fault) (left_from asked script)
+      → RunStops (texts_with topology partitions (work.Inspect what script balanced)) fault
+  inspection_stops what script fault fails =
+      seen_stops (work.Inspect what script balanced) (λ inventory up. looked_at inventory up what) script fault (λ outcome turns. turns) (λ outcome. refl) fails
+
+  -- ---- bring-up by SMPs, which takes no fabric of ours
+  pub manage_stops : (read : List ℕ) (fault : RunFault) → Fails (fault_in fault) asked → RunStops (texts_with topology partitions (work.Manage read balanced)) fault
+  manage_stops read fault fails =
+      run_over topology partitions (work.Manage read balanced) (Err run.NoMemory) nothing_found tt fault
+      (stopped_by (ended (managed_in asked None)) fault (λ reported.
+      let at : asked ≡ Err fault = rw reported at fails in
+      let one : run_status fault ≡ 1 = inventory_at_one (rule_of balanced) topology partitions fault at in
+      let same : managed_in asked None ≡ faulted (run_status fault) (run_line fault) = rw at refl in
+      (one, same ∙ ap (λ (status : ℕ). faulted status (run_line fault)) one)))
+
+  pub manage_over : (read : List ℕ) (stop : Option ManageStop) (inventory : InventoryState) → asked ≡ Ok inventory → (Is : Ending → Type 0) → Is (managed_by stop)
+      → ForEnding (texts_with topology partitions (work.Manage read balanced)) Is
+  manage_over read stop inventory is Is so =
+      let same : managed_in asked stop ≡ managed_by stop = rw is refl in
+      record { outcome = Err run.NoMemory; finding = record nothing_found { managed = stop }; comes = tt; is = subst Is (sym same) so }
+
 module _ (topology : List ℕ) (partitions : Option (List ℕ)) where
   abbrev given : Result InventoryState RunFault
   given = inventory_of topology partitions
-
-  -- ---- a listing
-  pub listing_stops : (fault : RunFault) → FailsWith (Becomes given) (fault_in fault) (up_from given)
-      → RunStops (texts_with topology partitions work.Check) fault
-  listing_stops fault fails =
-      stopped_by (texts_with topology partitions work.Check) fault (λ reported.
-      let up : WithFabric (Becomes given) (λ stop. up_from given stop ≡ Err fault) = rw reported at fails in
-      let turns = outcome_of given up.stop up.becomes in
-      let one : run_status fault ≡ 1 = up_at_one topology partitions up.stop fault up.becomes up.is in
-      (one, record { outcome = turns.0; finding = nothing_found; comes = turns.1; is = rw (turns.2, up.is, one) refl }))
-
-  pub is_listed : (inventory : InventoryState) (text : List ℕ) → WithFabric (Becomes given) (λ stop. up_from given stop ≡ Ok inventory) → text ≡ listing_text inventory.configuration
-      → ForEnding (texts_with topology partitions work.Check) (λ ending. ending ≡ complete text)
-  is_listed inventory text up reported =
-      let turns = outcome_of given up.stop up.becomes in
-      record { outcome = turns.0; finding = nothing_found; comes = turns.1; is = rw (turns.2, up.is, reported) refl }
 
   -- ---- a run
   pub run_stops : (script : List ℕ) (fault : RunFault) → FailsWith (Becomes given) (fault_in fault) (up_from given)
@@ -310,7 +434,7 @@ module _ (topology : List ℕ) (partitions : Option (List ℕ)) where
       stopped_by (texts_with topology partitions (work.Run script)) fault (λ reported.
       let up : WithFabric (Becomes given) (λ stop. up_from given stop ≡ Err fault) = rw reported at fails in
       let turns = outcome_of given up.stop up.becomes in
-      let one : run_status fault ≡ 1 = up_at_one topology partitions up.stop fault up.becomes up.is in
+      let one : run_status fault ≡ 1 = up_at_one LeastPort topology partitions up.stop fault up.becomes up.is in
       (one, record { outcome = turns.0; finding = nothing_found; comes = turns.1; is = rw (turns.2, up.is, one) refl }))
 
   pub run_ends_so : (script : List ℕ) (inventory : InventoryState) (Is : Ending → Type 0) → WithFabric (Becomes given) (λ stop. up_from given stop ≡ Ok inventory)
@@ -342,135 +466,20 @@ module _ (topology : List ℕ) (partitions : Option (List ℕ)) where
         is = rw (turns.2, up.is, reported) refl;
       }
 
-  -- ---- the loss of cables
-  pub cuts_stop : (view : CutView (List ℕ)) (fault : RunFault) → FailsWith (Becomes given) (fault_in fault) (up_from given)
-      → RunStops (texts_with topology partitions (work.Cuts view)) fault
-  cuts_stop view fault fails =
-      stopped_by (texts_with topology partitions (work.Cuts view)) fault (λ reported.
-      let up : WithFabric (Becomes given) (λ stop. up_from given stop ≡ Err fault) = rw reported at fails in
-      let turns = cuts_turn given up.stop fault view up.becomes up.is in
-      let one : run_status fault ≡ 1 = up_at_one topology partitions up.stop fault up.becomes up.is in (
-        one,
-        record {
-          outcome = turns.0;
-          finding = nothing_found;
-          comes = (turns.1, turns.2);
-          is = turns.3 ∙ ap (λ (status : ℕ). faulted status (run_line fault)) one;
-        },
-      ))
-
-  pub cuts_come : (view : CutView (List ℕ)) (subnet : SubnetState) (result : Result (Vec ℕ Global) Stop)
-      → WithFabric (Becomes given) (λ stop. up_from given stop ≡ Ok subnet.inventory) → IsStarted subnet → CutComes subnet.inventory (up_in subnet) view result
-      → ComesTo (λ text. text.items) (texts_with topology partitions (work.Cuts view)) result
-  unfolding up_from
-  cuts_come view subnet result up started comes = by result comes
-    where
-      is : given ≡ Ok subnet.inventory
-      is = same_inventory given up.stop subnet.inventory up.is
-
-      finding : List ℕ → Finding
-      finding reported = record nothing_found { cuts = reported }
-
-      said_so : (reported : List ℕ) → ReportsCuts subnet.inventory (up_in subnet) view reported
-          → Comes topology partitions (work.Cuts view) (Ok (up_in subnet)) (finding reported)
-      said_so reported reports = (rw is started.up, rw is reports)
-
-      ends_so : (reported : List ℕ) → ending_over topology partitions (work.Cuts view) (Ok (up_in subnet)) (finding reported) ≡ cut_reported subnet.inventory.plan reported view
-      ends_so reported = rw is refl
-
-      by : (r : Result (Vec ℕ Global) Stop) → CutComes subnet.inventory (up_in subnet) view r
-          → ComesTo (λ text. text.items) (texts_with topology partitions (work.Cuts view)) r
-      by (Ok text) reported = record {
-        outcome = Ok (up_in subnet);
-        finding = finding text.items;
-        comes = said_so text.items reported.0;
-        is = ends_so text.items ∙ reported.1;
-      }
-      by (Err stop) (inl memory) = rw memory tt
-      by (Err stop) (inr none) =
-          let reports : ReportsCuts subnet.inventory (up_in subnet) view [] = rw (none.view_is, none.named) tt in
-          let ending : cut_reported subnet.inventory.plan [] view ≡ faulted 1 (port_line (script_code none.cause)) = rw (none.view_is, none.named) refl in
-          rw none.stop_is (refl, record { outcome = Ok (up_in subnet); finding = finding []; comes = said_so [] reports; is = ends_so [] ∙ ending })
-
-  -- ---- what a fabric holds, after a script, if there is one
-  left_turns : (found : Result InventoryState RunFault) (script : Option (List ℕ)) (left : SubnetState) → found ≡ Ok left.inventory → IsLeftBy script left
-      → TurnsAfter found script (Ok (up_in left)) × ((see : InventoryState → BroughtUpState → Ending) → seen_after found see script (Ok (up_in left)) ≡ see left.inventory (up_in left))
-  left_turns found None left is by = (rw is by.up, λ see. rw is refl)
-  left_turns found (Some script) left is by = (rw (is, by.1) by.2.up, λ see. rw (is, by.1) refl)
-
-  pub is_inspected : (what : Inspection (List ℕ)) (script : Option (List ℕ)) (left : SubnetState) (result : Result (Vec ℕ Global) Stop)
-      → given ≡ Ok left.inventory → IsLeftBy script left → ComesTo (λ text. text.items) (ended (looked_at left.inventory (up_in left) what)) result
-      → ComesTo (λ text. text.items) (texts_with topology partitions (work.Inspect what script)) result
-  is_inspected what script left result is by comes =
-      let turns = left_turns given script left is by in
-      comes_over topology partitions (work.Inspect what script) (Ok (up_in left)) nothing_found turns.0 result (rw (turns.1 (λ inventory up. looked_at inventory up what)) comes)
-
-  script_at_one : (plan : TopologyState) (script : Option (List ℕ)) (fault : RunFault) → script_read plan script ≡ Err fault → run_status fault ≡ 1
-  script_at_one plan None fault is = absurd cc
-  script_at_one plan (Some script) fault is = of_text_at_one run.Script (λ line cause. refl) (commands_in plan script) fault is
-
-  left_at_one : (script : Option (List ℕ)) (stop : Option RunFault) (fault : RunFault) → Becomes given stop → left_from given script stop ≡ Err fault
-      → run_status fault ≡ 1
-  unfolding left_from
-  left_at_one script stop fault becomes is = by (up_from given stop) refl
-    where
-      by : (up : Result InventoryState RunFault) → up_from given stop ≡ up → run_status fault ≡ 1
-      by (Err other) e = let same : other ≡ fault = same_err _ _ (rw e at is) in up_at_one topology partitions stop fault becomes (e ∙ ap Err same)
-      by (Ok inventory) e = script_at_one inventory.plan script fault (rw e at is)
-
-  seen_stops : (task : Work (List ℕ) (List ℕ) (List ℕ)) (see : InventoryState → BroughtUpState → Ending) (script : Option (List ℕ)) (fault : RunFault)
-      → ((outcome : Result BroughtUpState RunFault) → TurnsAfter given script outcome → Comes topology partitions task outcome nothing_found)
-      → ((outcome : Result BroughtUpState RunFault) → ending_over topology partitions task outcome nothing_found ≡ seen_after given see script outcome)
-      → FailsWith (Becomes given) (fault_in fault) (left_from given script) → RunStops (texts_with topology partitions task) fault
-  seen_stops task see script fault comes over fails =
-      stopped_by (texts_with topology partitions task) fault (λ reported.
-      let up : WithFabric (Becomes given) (λ stop. left_from given script stop ≡ Err fault) = rw reported at fails in
-      let one : run_status fault ≡ 1 = left_at_one script up.stop fault up.becomes up.is in
-      let turns = stop_turns given script up.stop fault up.becomes up.is in (
-        one,
-        record {
-          outcome = turns.0;
-          finding = nothing_found;
-          comes = comes turns.0 turns.1;
-          is = over turns.0 ∙ turns.2 see ∙ ap (λ (status : ℕ). faulted status (run_line fault)) one;
-        },
-      ))
-
-  pub inspection_stops : (what : Inspection (List ℕ)) (script : Option (List ℕ)) (fault : RunFault) → FailsWith (Becomes given) (fault_in fault) (left_from given script)
-      → RunStops (texts_with topology partitions (work.Inspect what script)) fault
-  inspection_stops what script fault fails =
-      seen_stops (work.Inspect what script) (λ inventory up. looked_at inventory up what) script fault (λ outcome turns. turns) (λ outcome. refl) fails
-
   -- ---- SMPs, after a script, if there is one
   pub smps_stop : (script : Option (List ℕ)) (smps : List ℕ) (fault : RunFault) → FailsWith (Becomes given) (fault_in fault) (left_from given script)
       → RunStops (texts_with topology partitions (work.Smps script smps)) fault
   smps_stop script smps fault fails =
-      seen_stops (work.Smps script smps) (λ inventory up. smps_seen up smps) script fault (λ outcome turns. turns) (λ outcome. refl) fails
+      seen_stops false topology partitions (work.Smps script smps) (λ inventory up. smps_seen up smps) script fault (λ outcome turns. turns) (λ outcome. refl) fails
 
   pub smps_over : (script : Option (List ℕ)) (smps : List ℕ) (left : SubnetState) (result : Result Answer Stop) (sure : Bool) (out out' : Option (List ℕ))
       → given ≡ Ok left.inventory → IsLeftBy script left → Answers (ended (smps_seen (up_in left) smps)) result sure out out'
       → Answers (texts_with topology partitions (work.Smps script smps)) result sure out out'
   smps_over script smps left result sure out out' is by answers =
-      let turns = left_turns given script left is by in
+      let turns = left_turns false topology partitions given script left is by in
       let same = turns.1 (λ inventory up. smps_seen up smps) in
       answers_over topology partitions (work.Smps script smps) (Ok (up_in left)) nothing_found turns.0 result sure out out'
       (subst (λ (ending : Ending). Answers (ended ending) result sure out out') (sym same) answers)
-
-  -- ---- bring-up by SMPs, which takes no fabric of ours
-  pub manage_stops : (read : List ℕ) (fault : RunFault) → Fails (fault_in fault) given → RunStops (texts_with topology partitions (work.Manage read)) fault
-  manage_stops read fault fails =
-      run_over topology partitions (work.Manage read) (Err run.NoMemory) nothing_found tt fault
-      (stopped_by (ended (managed_in given None)) fault (λ reported.
-      let at : given ≡ Err fault = rw reported at fails in
-      let one : run_status fault ≡ 1 = inventory_at_one topology partitions fault at in
-      let same : managed_in given None ≡ faulted (run_status fault) (run_line fault) = rw at refl in
-      (one, same ∙ ap (λ (status : ℕ). faulted status (run_line fault)) one)))
-
-  pub manage_over : (read : List ℕ) (stop : Option ManageStop) (inventory : InventoryState) → given ≡ Ok inventory → (Is : Ending → Type 0) → Is (managed_by stop)
-      → ForEnding (texts_with topology partitions (work.Manage read)) Is
-  manage_over read stop inventory is Is so =
-      let same : managed_in given stop ≡ managed_by stop = rw is refl in
-      record { outcome = Err run.NoMemory; finding = record nothing_found { managed = stop }; comes = tt; is = subst Is (sym same) so }
 
   -- ---- shares and changes, which take no fabric
   abbrev large : Result InventoryState RunFault

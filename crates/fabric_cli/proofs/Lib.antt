@@ -12,5 +12,6 @@ pub mod LineTextLemmas
 pub mod PortLineLemmas
 pub mod PrintedLemmas
 pub mod OneEndingLemmas
+pub mod RuleLemmas
 pub mod KeysLemmas
 pub mod LoadLemmas

@@ -7,7 +7,7 @@ use Rattle.std.specs.Io.KnownBytes.{Keeps}
 use Rattle.cli_args.specs.declared.call.Work.TheVariants as work
 use Rattle.fabric_cli.proofs.JudgedLemmas.{manage_over, manage_stops}
 use Rattle.fabric_cli.specs.Faults.{managed_stop, replies_stop}
-use Rattle.fabric_cli.specs.Serving.{Answers, Ending, ForEnding, GoesOut, IsOfManage, ManageStop, OfScript, managed_by, of_fabric, of_line, texts_with}
+use Rattle.fabric_cli.specs.Serving.{Answers, Ending, ForEnding, GoesOut, IsOfManage, ManageStop, OfScript, managed_by, of_fabric, of_line, texts_with, asked_inventory}
 use Rattle.fabric_cli.specs.declared.answering.Answer.{Answer}
 use Rattle.fabric_cli.specs.declared.answering.Answer.TheVariants.{Complete}
 use Rattle.fabric_cli.specs.declared.faults.Stop.{Stop}
@@ -15,23 +15,23 @@ use Rattle.fabric_cli.specs.declared.faults.Stop.TheVariants.{NoMemory, Run, Uns
 use Rattle.smp_lines.specs.declared.stop.SmpStop.{SmpStop}
 use Rattle.smp_lines.specs.declared.stop.SmpStop.TheVariants as smp
 use Rattle.step_results.specs.Gives.{Fails}
-use Rattle.subnet_core.specs.Inventory.{InventoryState, fault_in, inventory_of}
+use Rattle.subnet_core.specs.Inventory.{InventoryState, fault_in}
 use Rattle.subnet_core.specs.declared.fault.RunFault.{RunFault}
 use Rattle.subnet_core.specs.declared.fault.RunFault.TheVariants as run
 
-module _ (topology : List ℕ) (partitions : Option (List ℕ)) (read : List ℕ) (sure : Bool) (out out' : Option (List ℕ)) where
+module _ (balanced : Bool) (topology : List ℕ) (partitions : Option (List ℕ)) (read : List ℕ) (sure : Bool) (out out' : Option (List ℕ)) where
   abbrev answers : Result Answer Stop → Type 0
-  answers result = Answers (texts_with topology partitions (work.Manage read)) result sure out out'
+  answers result = Answers (texts_with topology partitions (work.Manage read balanced)) result sure out out'
 
-  module _ (inventory : InventoryState) (is : inventory_of topology partitions ≡ Ok inventory) where
+  module _ (inventory : InventoryState) (is : asked_inventory balanced topology partitions ≡ Ok inventory) where
     -- this is so of an ending with such a stop
-    by : (stop : Option ManageStop) (Is : Ending → Type 0) → Is (managed_by stop) → ForEnding (texts_with topology partitions (work.Manage read)) Is
-    by stop Is so = manage_over topology partitions read stop inventory is Is so
+    by : (stop : Option ManageStop) (Is : Ending → Type 0) → Is (managed_by stop) → ForEnding (texts_with topology partitions (work.Manage read balanced)) Is
+    by stop Is so = manage_over balanced topology partitions read stop inventory is Is so
 
     pub manage_done : answers (Ok Complete)
     manage_done = by None (λ ending. GoesOut Complete ending out out') (refl, refl)
 
-    ends : ForEnding (texts_with topology partitions (work.Manage read)) IsOfManage
+    ends : ForEnding (texts_with topology partitions (work.Manage read balanced)) IsOfManage
     ends = by None IsOfManage tt
 
     pub unsent : answers (Err Unsent)
@@ -60,9 +60,9 @@ module _ (topology : List ℕ) (partitions : Option (List ℕ)) (read : List ℕ
     fabric_fails run.Write place = inr (by (Some (of_fabric run.Write place.items)) _ (refl, refl, refl))
 
 -- an error of the files, before any SMP
-pub files_fail : (topology : List ℕ) (partitions : Option (List ℕ)) (read : List ℕ) (sure : Bool) (out : Option (List ℕ)) (fault : RunFault) → Keeps out out
-    → Fails (fault_in fault) (inventory_of topology partitions) → Answers (texts_with topology partitions (work.Manage read)) (let result : Result Answer Stop = Err (Run fault) in result) sure out out
-files_fail topology partitions read sure out fault same fails = inl (manage_stops topology partitions read fault fails, same)
+pub files_fail : (balanced : Bool) (topology : List ℕ) (partitions : Option (List ℕ)) (read : List ℕ) (sure : Bool) (out : Option (List ℕ)) (fault : RunFault) → Keeps out out
+    → Fails (fault_in fault) (asked_inventory balanced topology partitions) → Answers (texts_with topology partitions (work.Manage read balanced)) (let result : Result Answer Stop = Err (Run fault) in result) sure out out
+files_fail balanced topology partitions read sure out fault same fails = inl (manage_stops balanced topology partitions read fault fails, same)
 
 -- what is so whatever is read
 pub whatever_is_read : (known : Option (List ℕ)) (Is : List ℕ → Type 0) → ((read : List ℕ) → Is read) → OfScript known Is

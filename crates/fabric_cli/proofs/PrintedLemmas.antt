@@ -10,7 +10,8 @@ use Rattle.script_lines.specs.Script.{command_of}
 use Rattle.script_lines.specs.declared.script_cause.ScriptCause.{ScriptCause}
 use Rattle.subnet_core.specs.Fate.{up_from}
 use Rattle.subnet_core.specs.EventLines.{line_text}
-use Rattle.subnet_core.specs.Inventory.{InventoryState, of_text, partitions_for, inventory_of, inventoried}
+use Rattle.subnet_core.specs.Inventory.{InventoryState, of_text, partitions_for, inventory_by, inventory_of, inventoried}
+use Rattle.updn_routes.specs.declared.tie_rule.TieRule.TheVariants.{LeastPort}
 use Rattle.subnet_core.specs.Stream.{and_then_those, commands_before_fault, judged as judged_lines, reported_of_lines}
 use Rattle.subnet_core.specs.declared.fault.RunFault.TheVariants.{Topology}
 use Rattle.subnet_model.specs.Delivery.{port_with_guid}
@@ -35,14 +36,14 @@ record IsOf (inventory : InventoryState) : Type 0 where
   plan : TopologyState
   sound : IsSound plan
   partitions : List Partition
-  is : inventory ≡ inventoried plan partitions
+  is : inventory ≡ inventoried LeastPort plan partitions
 
 read_as : (found : Result TopologyState (AtLine TopologyCause)) (plan : TopologyState) → of_text Topology found ≡ Ok plan → found ≡ Ok plan
 read_as (Ok other) plan is = ap (λ (one : TopologyState). Ok one) (same_ok other plan is)
 read_as (Err at) plan is = absurd cc
 
 is_of : (topology : List ℕ) (partitions : Option (List ℕ)) (inventory : InventoryState) → inventory_of topology partitions ≡ Ok inventory → IsOf inventory
-unfolding inventory_of
+unfolding inventory_by
 is_of topology partitions inventory given =
     let plan = bind_ok (of_text Topology (topology_of topology)) _ inventory given in
     let all = bind_ok (partitions_for partitions) _ inventory plan.2 in
@@ -50,7 +51,7 @@ is_of topology partitions inventory given =
       plan = plan.0;
       sound = topology_is_sound topology plan.0 (read_as (topology_of topology) plan.0 plan.1);
       partitions = all.0;
-      is = sym (same_ok (inventoried plan.0 all.0) inventory all.2);
+      is = sym (same_ok (inventoried LeastPort plan.0 all.0) inventory all.2);
     }
 
 pub a_ports_lines_are_its_events : APortsLinesAreItsEvents

@@ -32,7 +32,7 @@ use Rattle.subnet_fabric.specs.BringUp.{BroughtUpState}
 use Rattle.subnet_core.specs.After.{TurnsAfter}
 use Rattle.subnet_core.specs.BringUp.{Turns, stop_of}
 use Rattle.subnet_core.specs.Fate.{up_from}
-use Rattle.subnet_core.specs.Inventory.{InventoryState, inventory_of, large_inventory_of}
+use Rattle.subnet_core.specs.Inventory.{InventoryState, inventory_by, inventory_of, large_inventory_of}
 use Rattle.subnet_core.specs.Comparison.{Compares, TwoRunsState, two_runs_of}
 use Rattle.subnet_core.specs.Run.{report_of}
 use Rattle.subnet_core.specs.declared.comparing.Comparison.{Comparison}
@@ -42,6 +42,8 @@ use Rattle.text_streams.specs.Reading.{IsEndless}
 use Rattle.text_streams.specs.Writing.{AppendsPart, Writes}
 use Rattle.text_words.specs.Lines.{lines}
 use Rattle.topo_file.specs.Topology.{TopologyState, topology_within}
+use Rattle.updn_routes.specs.declared.tie_rule.TieRule.{TieRule}
+use Rattle.updn_routes.specs.declared.tie_rule.TieRule.TheVariants.{LeastPort, Balanced}
 use Rattle.step_results.specs.declared.text_fault.TextFault.{TextFault}
 use Rattle.step_results.specs.declared.text_fault.TextFault.TheVariants as of_text
 use Rattle.step_results.specs.AtLine.{AtLine}
@@ -130,14 +132,14 @@ abbrev pub OpenWork : Type 0 → Type 0
 OpenWork I = Work (Bor (List ℕ)) (Vec ℕ Global) (OpenFile I)
 
 abbrev pub bytes_work : {I : Type 0} → List ℕ → OpenWork I → Work (List ℕ) (List ℕ) (List ℕ)
-bytes_work read work.Check = work.Check
+bytes_work read (work.Check balanced) = work.Check balanced
 bytes_work read (work.Shares port) = work.Shares (option_map (λ word. word.now) port)
 bytes_work read (work.Diff second) = work.Diff (option_map (λ bytes. bytes.items) second)
-bytes_work read (work.Inspect what before) = work.Inspect (named_inspection what) (option_map (λ bytes. bytes.items) before)
-bytes_work read (work.Cuts view) = work.Cuts (named_view view)
+bytes_work read (work.Inspect what before balanced) = work.Inspect (named_inspection what) (option_map (λ bytes. bytes.items) before) balanced
+bytes_work read (work.Cuts view balanced) = work.Cuts (named_view view) balanced
 bytes_work read (work.Run script) = work.Run read
 bytes_work read (work.Smps before smps) = work.Smps (option_map (λ bytes. bytes.items) before) read
-bytes_work read (work.Manage replies) = work.Manage read
+bytes_work read (work.Manage replies balanced) = work.Manage read balanced
 bytes_work read (work.Compare first second port) = work.Compare first.items second.items port.now
 
 abbrev pub texts_in : {I : Type 0} → List ℕ → Texts I → Bytes
@@ -151,7 +153,7 @@ texts_in read texts = record {
 abbrev pub left_in : {I : Type 0} → (I → Option (List ℕ)) → OpenWork I → Option (List ℕ)
 left_in remaining (work.Run script) = remaining script.input
 left_in remaining (work.Smps before smps) = remaining smps.input
-left_in remaining (work.Manage replies) = remaining replies.input
+left_in remaining (work.Manage replies balanced) = remaining replies.input
 left_in remaining _ = Some []
 
 -- these bytes, if they are known
@@ -185,17 +187,17 @@ bytes_if_named file None = Ok None
 bytes_if_named file (Some name) = bytes_of file name >>= λ bytes. Ok (Some bytes)
 
 abbrev pub work_of : Contents → Work (List ℕ) (List ℕ) (List ℕ) → Result (Work (List ℕ) (List ℕ) (List ℕ)) Ending
-work_of file work.Check = Ok work.Check
+work_of file (work.Check balanced) = Ok (work.Check balanced)
 work_of file (work.Shares port) = Ok (work.Shares port)
 work_of file (work.Diff name) = bytes_if_named file name >>= λ bytes. Ok (work.Diff bytes)
-work_of file (work.Inspect what script) = bytes_if_named file script >>= λ bytes. Ok (work.Inspect what bytes)
-work_of file (work.Cuts view) = Ok (work.Cuts view)
+work_of file (work.Inspect what script balanced) = bytes_if_named file script >>= λ bytes. Ok (work.Inspect what bytes balanced)
+work_of file (work.Cuts view balanced) = Ok (work.Cuts view balanced)
 work_of file (work.Run name) = bytes_of file name >>= λ bytes. Ok (work.Run bytes)
 work_of file (work.Smps script name) = do
   before ← bytes_if_named file script
   bytes ← bytes_of file name
   Ok (work.Smps before bytes)
-work_of file (work.Manage name) = bytes_of file name >>= λ bytes. Ok (work.Manage bytes)
+work_of file (work.Manage name balanced) = bytes_of file name >>= λ bytes. Ok (work.Manage bytes balanced)
 work_of file (work.Compare first second port) = do
   bytes ← bytes_of file first
   others ← bytes_of file second
@@ -209,10 +211,18 @@ texts_of file names = do
   work ← work_of file names.work
   Ok (record { topology = topology; partitions = partitions; work = work })
 
+-- by which rule routes are
+abbrev pub rule_of : (balanced : Bool) → TieRule
+rule_of true = Balanced
+rule_of false = LeastPort
+
+abbrev pub asked_inventory : (balanced : Bool) → List ℕ → Option (List ℕ) → Result InventoryState RunFault
+asked_inventory balanced topology partitions = inventory_by (rule_of balanced) topology partitions
+
 -- the listing of a subnet, and the report of a script in it, unless this error stops bring-up
-abbrev pub listed : List ℕ → Option (List ℕ) → Option RunFault → Result (List ℕ) RunFault
-listed topology partitions stop =
-    up_from (inventory_of topology partitions) stop >>= λ inventory. Ok (listing_text inventory.configuration)
+abbrev pub listed : (balanced : Bool) → List ℕ → Option (List ℕ) → Option RunFault → Result (List ℕ) RunFault
+listed balanced topology partitions stop =
+    up_from (asked_inventory balanced topology partitions) stop >>= λ inventory. Ok (listing_text inventory.configuration)
 
 abbrev pub report_or_error : List ℕ → Option (List ℕ) → List ℕ → Option RunFault → Result (List ℕ) RunFault
 report_or_error topology partitions script stop =
@@ -517,33 +527,36 @@ pub record Finding : Type 0 where
 
 -- by what becomes of the fabric: it is up, or this error stops bring-up; and by what depends on it
 abbrev pub ending_over : List ℕ → Option (List ℕ) → Work (List ℕ) (List ℕ) (List ℕ) → Result BroughtUpState RunFault → Finding → Ending
-ending_over topology partitions work.Check outcome finding = ending_by (listed topology partitions (stop_of outcome))
+ending_over topology partitions (work.Check balanced) outcome finding = ending_by (listed balanced topology partitions (stop_of outcome))
 ending_over topology partitions (work.Shares port) outcome finding = shares_in (large_inventory_of topology partitions) port
 ending_over topology partitions (work.Diff second) outcome finding =
     changes_in (large_inventory_of topology partitions) (large_inventory_of topology second)
-ending_over topology partitions (work.Inspect what script) outcome finding =
-    seen_after (inventory_of topology partitions) (λ inventory up. looked_at inventory up what) script outcome
-ending_over topology partitions (work.Cuts view) outcome finding =
-    cuts_in (up_from (inventory_of topology partitions) (stop_of outcome)) view finding.cuts
+ending_over topology partitions (work.Inspect what script balanced) outcome finding =
+    seen_after (asked_inventory balanced topology partitions) (λ inventory up. looked_at inventory up what) script outcome
+ending_over topology partitions (work.Cuts view balanced) outcome finding =
+    cuts_in (up_from (asked_inventory balanced topology partitions) (stop_of outcome)) view finding.cuts
 ending_over topology partitions (work.Run script) outcome finding =
     run_in (up_from (inventory_of topology partitions) (stop_of outcome)) script
 ending_over topology partitions (work.Smps script smps) outcome finding =
     seen_after (inventory_of topology partitions) (λ inventory up. smps_seen up smps) script outcome
-ending_over topology partitions (work.Manage replies) outcome finding = managed_in (inventory_of topology partitions) finding.managed
+ending_over topology partitions (work.Manage replies balanced) outcome finding =
+    managed_in (asked_inventory balanced topology partitions) finding.managed
 ending_over topology partitions (work.Compare first second port) outcome finding =
     ending_by (compared (two_runs_of topology partitions first second port (stop_of outcome)) finding.comparison)
 
 -- shares and changes need no fabric
 abbrev pub Comes : List ℕ → Option (List ℕ) → Work (List ℕ) (List ℕ) (List ℕ) → Result BroughtUpState RunFault → Finding → Type 0
-Comes topology partitions work.Check outcome finding = Turns (inventory_of topology partitions) outcome
+Comes topology partitions (work.Check balanced) outcome finding = Turns (asked_inventory balanced topology partitions) outcome
 Comes topology partitions (work.Shares port) outcome finding = Unit {0}
 Comes topology partitions (work.Diff second) outcome finding = Unit {0}
-Comes topology partitions (work.Inspect what script) outcome finding = TurnsAfter (inventory_of topology partitions) script outcome
-Comes topology partitions (work.Cuts view) outcome finding =
-    Turns (inventory_of topology partitions) outcome × CutsAreReported (inventory_of topology partitions) outcome view finding.cuts
+Comes topology partitions (work.Inspect what script balanced) outcome finding =
+    TurnsAfter (asked_inventory balanced topology partitions) script outcome
+Comes topology partitions (work.Cuts view balanced) outcome finding =
+    Turns (asked_inventory balanced topology partitions) outcome
+    × CutsAreReported (asked_inventory balanced topology partitions) outcome view finding.cuts
 Comes topology partitions (work.Run script) outcome finding = Turns (inventory_of topology partitions) outcome
 Comes topology partitions (work.Smps script smps) outcome finding = TurnsAfter (inventory_of topology partitions) script outcome
-Comes topology partitions (work.Manage replies) outcome finding = Unit {0}
+Comes topology partitions (work.Manage replies balanced) outcome finding = Unit {0}
 Comes topology partitions (work.Compare first second port) outcome finding =
     Turns (inventory_of topology partitions) outcome
     × IfOk (two_runs_of topology partitions first second port (stop_of outcome)) (λ runs. Compares runs finding.comparison)
@@ -600,14 +613,14 @@ judged_for file (Ok Version) = ended (complete version_line)
 
 -- what is to be done, whatever its files contain
 abbrev pub without_files : {W S R : Type 0} → Work W S R → Work W (Unit {0}) (Unit {0})
-without_files work.Check = work.Check
+without_files (work.Check balanced) = work.Check balanced
 without_files (work.Shares port) = work.Shares port
 without_files (work.Diff second) = work.Diff (option_map (λ file. tt) second)
-without_files (work.Inspect what script) = work.Inspect what (option_map (λ file. tt) script)
-without_files (work.Cuts view) = work.Cuts view
+without_files (work.Inspect what script balanced) = work.Inspect what (option_map (λ file. tt) script) balanced
+without_files (work.Cuts view balanced) = work.Cuts view balanced
 without_files (work.Run script) = work.Run tt
 without_files (work.Smps script smps) = work.Smps (option_map (λ file. tt) script) tt
-without_files (work.Manage replies) = work.Manage tt
+without_files (work.Manage replies balanced) = work.Manage tt balanced
 without_files (work.Compare first second port) = work.Compare tt tt port
 
 -- bytes for each of the files that are needed, and for no other

@@ -9,7 +9,7 @@ ghost use Rattle.fabric_cli.specs.Serving.{ForEnding, IsOpenAs, IsOpenScript, Of
 ghost use Rattle.subnet_core.specs.BringUp.{up_in};
 
 use crate::faults::{COMPLETE, FAULT, Stop};
-use crate::outputs::{DumpOutput, changed, compared, cut, inspected, listed, shared};
+use crate::outputs::{DumpOutput, changed, compared, cut, inspected, listed, rule_of, shared};
 use crate::reading::OpenFile;
 use crate::texts::Texts;
 use audit_routes::Audit;
@@ -20,6 +20,7 @@ use subnet_core::{
     Inventory, RunFault, Subnet, left_by, manage, read_inventory, run_stream, up_text,
 };
 use text_streams::{Output, Reader, write_whole};
+use updn_routes::TieRule;
 
 /// The result once the output is written.
 #[derive(Clone, Copy)]
@@ -60,25 +61,37 @@ pub fn answered_of_texts<'a, I: Reader + Drop, O: Output>(
     let topology = topology.as_slice();
     let partitions = slice_of(&partitions);
     match work {
-        Work::Check => written(out, listed(alloc, topology, partitions)),
+        Work::Check { balanced } => written(out, listed(alloc, topology, partitions, balanced)),
         Work::Shares(port) => written(out, shared(alloc, topology, partitions, port)),
         Work::Diff(second) => {
             let second = slice_of(&second);
             written(out, changed(alloc, topology, partitions, second))
         }
-        Work::Inspect { what, script } => {
+        Work::Inspect {
+            what,
+            script,
+            balanced,
+        } => {
             let script = slice_of(&script);
-            written(out, inspected(alloc, topology, partitions, &what, script))
+            written(
+                out,
+                inspected(alloc, topology, partitions, &what, script, balanced),
+            )
         }
-        Work::Cuts(view) => written(out, cut(alloc, topology, partitions, view)),
+        Work::Cuts { view, balanced } => {
+            written(out, cut(alloc, topology, partitions, view, balanced))
+        }
         Work::Run(script) => streamed(alloc, topology, partitions, script, out),
         Work::Smps { script, smps } => {
-            match left_by(alloc, topology, partitions, slice_of(&script)) {
+            let rule = TieRule::LeastPort;
+            match left_by(alloc, topology, partitions, rule, slice_of(&script)) {
                 Ok(subnet) => smps_answered(alloc, subnet, smps, out),
                 Err(fault) => Err(Stop::Run(fault)),
             }
         }
-        Work::Manage(replies) => managed(alloc, topology, partitions, replies, out),
+        Work::Manage { replies, balanced } => {
+            managed(alloc, topology, partitions, balanced, replies, out)
+        }
         Work::Compare {
             first,
             second,
@@ -195,14 +208,15 @@ fn managed<'a, R: Reader + Drop, O: Output>(
     alloc: Global,
     topology: &[u8],
     partitions: Option<&[u8]>,
+    balanced: bool,
     replies: OpenFile<'a, R>,
     out: &mut O,
 ) -> Result<Answer, Stop<'a>>
-    ensures exact { (read : List ℕ) → Answers (texts_with topology.now (option_copied partitions.entry) (work.Manage read)) result
+    ensures exact { (read : List ℕ) → Answers (texts_with topology.now (option_copied partitions.entry) (work.Manage read balanced)) result
         (O.is_sure out.old) (O.contents out.old) (O.contents out.new) }
     ensures unread { IfErr result (LeavesUnread (λ _. ⊥)) }
 {
-    let inventory = match read_inventory(alloc, topology, partitions) {
+    let inventory = match read_inventory(alloc, topology, partitions, rule_of(balanced)) {
         Ok(inventory) => inventory,
         Err(fault) => return Err(Stop::Run(fault)),
     };

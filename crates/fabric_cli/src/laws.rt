@@ -5,7 +5,7 @@ ghost use Rattle.std.specs.Prelude.{◌≡◌};
 ghost use Rattle.data_packet.specs.Refusal.{code_of as refusal_code};
 ghost use Rattle.data_packet.specs.declared.refusal.Refusal.{Refusal as AnyRefusal};
 ghost use Rattle.fabric_cli.specs.Explained.{IsExplained, NamesCode};
-ghost use Rattle.fabric_cli.specs.Laws.{FilesThatAgreeAreJudgedAlike, OneEndingComesOfTexts, RunsEndAsReports};
+ghost use Rattle.fabric_cli.specs.Laws.{FilesThatAgreeAreJudgedAlike, OneEndingComesOfTexts, RoutesAreAsAsked, RunsEndAsReports};
 ghost use Rattle.fabric_cli.specs.Printed.{APortsLinesAreItsEvents, FarLinesChangeNothing, PrintedLinesKeepPartitionsApart};
 ghost use Rattle.fabric_cli.specs.declared.faults.Stop.{Stop as AnyStop};
 
@@ -48,4 +48,10 @@ pub fn far_lines_change_nothing()
 /// is 3, the status and both outputs are one function of the arguments and of the files' contents.
 pub fn one_ending_comes_of_texts()
     ensures { OneEndingComesOfTexts }
+{}
+
+/// What is looked at with `--balanced` is a fabric whose routes are balanced, also after a script; without it each switch takes the
+/// least of the ports that lead equally far, and so it does in a run.
+pub fn routes_are_as_asked()
+    ensures { RoutesAreAsAsked }
 {}

@@ -19,7 +19,7 @@ pub use crate::files::{Files, MachineFiles};
 pub use crate::laws::{
     a_ports_lines_are_its_events, every_code_that_is_reported_is_explained,
     far_lines_change_nothing, files_that_agree_are_judged_alike, one_ending_comes_of_texts,
-    printed_lines_keep_partitions_apart, runs_end_as_reports,
+    printed_lines_keep_partitions_apart, routes_are_as_asked, runs_end_as_reports,
 };
 pub use crate::serving::{serve, serve_by, serve_given};
 pub use text_streams::{Output, Reader};

@@ -9,7 +9,7 @@ ghost use Rattle.cli_args.specs.declared.call.Work.TheVariants as work;
 ghost use Rattle.fabric_cli.specs.Faults.{IsOfRun};
 ghost use Rattle.fabric_cli.specs.Serving.{asked_port, changes_in, looked_at, second_stop, shares_in, texts_with, traced};
 ghost use Rattle.fabric_cli.specs.Serving.{ComesTo, CutComes, EndsIn, comparison_text, discovery_stop, dump_ending, dump_stop, found_ending, plan_ending, viewed, viewed_by, viewed_from, viewed_of, viewed_over};
-ghost use Rattle.fabric_cli.specs.Serving.{ended, import_stop, imported, imported_as, imported_by, topology_stop, yes_or_no};
+ghost use Rattle.fabric_cli.specs.Serving.{ended, import_stop, imported, imported_as, imported_by, rule_of, topology_stop, yes_or_no};
 ghost use Rattle.dump_file.specs.Dump.{dump_of};
 ghost use Rattle.fabric_parts.specs.declared.limits.Limits.TheVariants.{Large};
 ghost use Rattle.netdiscover_file.specs.Discovery.{discovery_of};
@@ -40,25 +40,38 @@ use rooted_import::rooted_topology_text;
 use script_lines::named_cable;
 use std::alloc::{AllocError, Global};
 use subnet_core::{
-    Comparison, LargeInventory, RunFault, ScriptCause, Subnet, bring_up, compare, left_by,
+    Comparison, LargeInventory, RunFault, ScriptCause, Subnet, bring_up_by, compare, left_by,
     read_large_inventory,
 };
 use topo_file::{LargeTopology, TopoFault};
 use topology_import::{ImportFault, topology_text};
+use updn_routes::TieRule;
 
 /// The listing of a subnet that is brought up.
 pub fn listed<'a>(
     alloc: Global,
     topology: &[u8],
     partitions: Option<&[u8]>,
+    balanced: bool,
 ) -> Result<Vec<u8>, Stop<'a>>
     ensures exact { ComesTo (λ text. text.items)
-        (texts_with topology.now (option_copied partitions.entry) work.Check) result }
+        (texts_with topology.now (option_copied partitions.entry) (work.Check balanced)) result }
     ensures fault { IfErr result IsOfRun }
 {
-    match bring_up(alloc, topology, partitions) {
+    match bring_up_by(alloc, topology, partitions, rule_of(balanced)) {
         Ok(subnet) => text_or_stop(subnet.listing()),
         Err(fault) => Err(Stop::Run(fault)),
+    }
+}
+
+/// The rule of ties by which routes are.
+pub fn rule_of(balanced: bool) -> TieRule
+    ensures { result ≡ rule_of balanced }
+{
+    if balanced {
+        TieRule::Balanced
+    } else {
+        TieRule::LeastPort
     }
 }
 
@@ -158,12 +171,13 @@ pub fn inspected<'a>(
     partitions: Option<&[u8]>,
     what: &Inspection<&str>,
     script: Option<&[u8]>,
+    balanced: bool,
 ) -> Result<Vec<u8>, Stop<'a>>
     ensures exact { ComesTo (λ text. text.items) (texts_with topology.now (option_copied partitions.entry)
-        (work.Inspect (named_inspection what.now) (option_copied script.entry))) result }
+        (work.Inspect (named_inspection what.now) (option_copied script.entry) balanced)) result }
     ensures fault { IfErr result IsOfRun }
 {
-    match left_by(alloc, topology, partitions, script) {
+    match left_by(alloc, topology, partitions, rule_of(balanced), script) {
         Ok(subnet) => looked_at(alloc, &subnet, what),
         Err(fault) => Err(Stop::Run(fault)),
     }
@@ -293,12 +307,13 @@ pub fn cut<'a>(
     topology: &[u8],
     partitions: Option<&[u8]>,
     view: CutView<&str>,
+    balanced: bool,
 ) -> Result<Vec<u8>, Stop<'a>>
     ensures exact { ComesTo (λ text. text.items)
-        (texts_with topology.now (option_copied partitions.entry) (work.Cuts (named_view view.entry))) result }
+        (texts_with topology.now (option_copied partitions.entry) (work.Cuts (named_view view.entry) balanced)) result }
     ensures fault { IfErr result IsOfRun }
 {
-    match bring_up(alloc, topology, partitions) {
+    match bring_up_by(alloc, topology, partitions, rule_of(balanced)) {
         Ok(subnet) => cuts_of(alloc, &subnet, view),
         Err(fault) => Err(Stop::Run(fault)),
     }

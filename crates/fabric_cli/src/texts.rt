@@ -103,20 +103,33 @@ fn work_of<'a, F: Files>(
         (F.opened files.old) (F.opened files.new) (work_names (named_work work.now))) }
 {
     match work {
-        Work::Check => Ok(Work::Check),
+        Work::Check { balanced } => Ok(Work::Check {
+            balanced: *balanced,
+        }),
         Work::Shares(port) => Ok(Work::Shares(*port)),
         Work::Diff(second) => Ok(Work::Diff(read_if_named(alloc, files, *second)?)),
-        Work::Inspect { what, script } => Ok(Work::Inspect {
+        Work::Inspect {
+            what,
+            script,
+            balanced,
+        } => Ok(Work::Inspect {
             what: *what,
             script: read_if_named(alloc, files, *script)?,
+            balanced: *balanced,
         }),
-        Work::Cuts(view) => Ok(Work::Cuts(*view)),
+        Work::Cuts { view, balanced } => Ok(Work::Cuts {
+            view: *view,
+            balanced: *balanced,
+        }),
         Work::Run(script) => Ok(Work::Run(open_file(files, *script)?)),
         Work::Smps { script, smps } => Ok(Work::Smps {
             script: read_if_named(alloc, files, *script)?,
             smps: open_file(files, *smps)?,
         }),
-        Work::Manage(replies) => Ok(Work::Manage(open_file(files, *replies)?)),
+        Work::Manage { replies, balanced } => Ok(Work::Manage {
+            replies: open_file(files, *replies)?,
+            balanced: *balanced,
+        }),
         Work::Compare {
             first,
             second,

@@ -21,6 +21,7 @@ use Rattle.topo_file.specs.Sound.{AreSound, shares_name, shares_port}
 use Rattle.topo_file.specs.Topology.{TopologyState}
 use Rattle.topo_file.specs.declared.node.Node.{Node}
 use Rattle.updn_routes.specs.Routes.{routes_with}
+use Rattle.updn_routes.specs.declared.tie_rule.TieRule.TheVariants.{LeastPort}
 use Rattle.updn_routes.specs.Subnet.{RoutesState}
 
 abbrev cable : (upper upper_port lower lower_port : ℕ) → Cable
@@ -125,7 +126,7 @@ abbrev routes : RoutesState
 routes = record {
   graph = graph_with 0 (found 1 ∷ found 2 ∷ found 3 ∷ found 4 ∷ []) [] [];
   lids = [];
-  between = routes_with [] [] (0 ∷ 0 ∷ 1 ∷ 1 ∷ []) [] [] [] [];
+  between = routes_with [] [] (0 ∷ 0 ∷ 1 ∷ 1 ∷ []) [] [] [] [] LeastPort [];
 }
 
 abbrev subnet : ConfigurationState

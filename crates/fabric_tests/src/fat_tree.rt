@@ -12,7 +12,7 @@ use std::process::Abort;
 use std::test::Fail;
 use sweep::{Graph, sweep};
 use test_fabrics::fat_tree_of;
-use updn_routes::{Routes, are_switches, routes};
+use updn_routes::{Routes, TieRule, are_switches, routes};
 
 /// Reads NodeInfo along 320 paths, of each as many hops as are asked for: to the leaf of the subnet
 /// manager, up to a spine, down to a leaf, and on to one of its adapters or spines.
@@ -116,7 +116,7 @@ fn routes_of(alloc: Global, graph: Graph, roots: &[u64]) -> Result<Routes, Fail>
     if !are_switches(&graph, roots) {
         return Err("roots that are switches")?;
     }
-    Ok(routes(alloc, graph, lids, roots).or(Err("routes"))?)
+    Ok(routes(alloc, graph, lids, roots, TieRule::LeastPort).or(Err("routes"))?)
 }
 
 /// The SM port is attached to port 1 of the first leaf. Each leaf knows the way there; a spine that has

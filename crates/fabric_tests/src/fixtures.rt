@@ -11,7 +11,7 @@ use subnet_model::GroupReceiver;
 use sweep::{Graph, sweep};
 use table_push::{PushFault, push_all, push_keys, push_linear, push_multicast, push_ports};
 use test_fabrics::two_switch_fabric;
-use updn_routes::{Routes, are_switches, routes};
+use updn_routes::{Routes, TieRule, are_switches, routes};
 
 /// One of the pushes, none, or the first three one after another.
 pub enum Push {
@@ -77,7 +77,7 @@ fn routes_of(alloc: Global, graph: Graph, roots: &[u64]) -> Result<Routes, Fail>
     if !are_switches(&graph, roots) {
         return Err("roots that are switches")?;
     }
-    Ok(routes(alloc, graph, lids, roots).or(Err("routes"))?)
+    Ok(routes(alloc, graph, lids, roots, TieRule::LeastPort).or(Err("routes"))?)
 }
 
 /// A table of one key.

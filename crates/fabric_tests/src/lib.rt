@@ -9,6 +9,8 @@
 #[cfg(test)]
 mod again;
 #[cfg(test)]
+mod balanced;
+#[cfg(test)]
 mod bring_up;
 #[cfg(test)]
 mod cables;

@@ -10,7 +10,7 @@ use std::test::Fail;
 use sweep::{Graph, SweepFault, sweep};
 use test_fabrics::TWO_SWITCHES;
 use topo_file::read;
-use updn_routes::{RouteFault, Routes, are_switches, routes};
+use updn_routes::{RouteFault, Routes, TieRule, are_switches, routes};
 
 fn fabric_of(alloc: Global, text: &[u8]) -> Option<Fabric> {
     let topology = read(alloc, text).ok()?;
@@ -35,7 +35,7 @@ fn routes_of(rt: &impl Abort, alloc: Global, graph: Graph) -> Option<Routes>
     if !are_switches(&graph, &[]) {
         return None;
     }
-    match routes(alloc, graph, lids, &[]) {
+    match routes(alloc, graph, lids, &[], TieRule::LeastPort) {
         Ok(routes) => Some(routes),
         Err(fault) => {
             assert!(rt; fault == RouteFault::NoMemory);

@@ -1,13 +1,10 @@
 -- Dumps with the same entries and the same end ports have the same loads.
-use Rattle.std.proofs.Common.{ℕ, zero, suc, ◌≡◌, ◌∙◌, ap, ap₂, refl, subst, sym, ◌+◌, if◌then◌else◌, Bool, true, false, ◌==◌, ◌&&◌, ◌||◌, List, [], ◌∷◌, ◌++◌, flat_map, length, map, Option, Some, None, not}
-use Rattle.std.specs.List.{AllByRecursion, list_any, range_with_len}
+use Rattle.std.proofs.Common.{ℕ, zero, suc, ◌≡◌, ◌∙◌, ap, ap₂, refl, subst, sym, ◌+◌, Bool, true, false, ◌==◌, ◌&&◌, List, [], ◌∷◌, ◌++◌, flat_map, length, map, Option, Some, None}
+use Rattle.std.specs.List.{AllByRecursion, range_with_len}
 use Rattle.std.proofs.lemmas.Option.{none-some, same_Some}
 use Rattle.dump_file.specs.Dump.{DumpState}
-use Rattle.std.specs.Option.{option_map_or}
-use Rattle.fabric_parts.specs.Cable.{far_end}
 use Rattle.fabric_parts.specs.declared.cable.PortRef.{PortRef}
-use Rattle.step_results.proofs.ElementLemmas.{each_always}
-use Rattle.topo_file.specs.Node.{is_switch_at, ports_at}
+use Rattle.topo_file.specs.Node.{is_switch_at}
 use Rattle.audit_net.proofs.EndlessLemmas.{turn_goes}
 use Rattle.audit_net.specs.declared.entry.Entry.{Entry}
 use Rattle.audit_net.specs.declared.entry.Entry.TheVariants.{Out, Missing, Unreported}
@@ -20,19 +17,17 @@ use Rattle.audit_net.specs.OwnerLaws.{end_port_of}
 use Rattle.audit_net.specs.Lids.{aims}
 use Rattle.audit_net.specs.Net.{NetState, entry}
 use Rattle.audit_routes.specs.Pairs.{is_fate}
-use Rattle.audit_plan.specs.Plan.{PlanState}
+use Rattle.audit_plan.specs.Plan.{PlanState, is_on}
 use Rattle.audit_loads.specs.Counts.{counts_of}
-use Rattle.audit_loads.specs.declared.levels.TheConstants.{LEVELS}
-use Rattle.audit_loads.specs.declared.levels.Way.{Way}
-use Rattle.audit_loads.specs.declared.levels.Way.TheVariants.{Across, Down, Up}
+use Rattle.audit_plan.specs.declared.levels.TheConstants.{LEVELS}
 use Rattle.audit_loads.specs.declared.loaded.Loaded.{Loaded}
-use Rattle.audit_loads.specs.Levels.{goes, goes_near, is_near, leads, leads_near, level_behind, level_of, of_level, some_lead}
 use Rattle.audit_loads.specs.Loads.{loaded, loads}
 use Rattle.audit_loads.specs.Order.{ordered}
 use Rattle.audit_loads.specs.Sources.{Pair, pairs_by}
-use Rattle.audit_loads.specs.Text.{levels_text, level_line, level_text, load_line, load_of_plan, load_text_of, pairs_line, summary, text_by, text_of, way_text}
-use Rattle.audit_net.specs.Ways.{is_on, then_on, way, way_within}
-use Rattle.audit_loads.specs.Ways.{fate_of, goes_over, is_lost, is_unknown, loses, passes}
+use Rattle.audit_loads.specs.Text.{levels_text, level_text, load_line, load_of_plan, load_text_of, pairs_line, summary, text_by, text_of}
+use Rattle.audit_net.specs.Ways.{then_on, way, way_within}
+use Rattle.audit_routes.specs.Verdict.{is_lost_by}
+use Rattle.audit_loads.specs.Ways.{fate_of, goes_over, is_lost, is_unknown, passes}
 use Rattle.audit_net.proofs.WayLemmas.{stays_in}
 use Rattle.joint_laws.specs.Alike.{AreAlike, net_of}
 use Rattle.joint_laws.specs.LoadLaws.{LoadsAreOfEntries}
@@ -92,62 +87,9 @@ module _ (plan : PlanState) (dump other : DumpState) where
   abbrev two : NetState
   two = net_of plan other
 
-  any_same : {X : Type 0} (p q : X → Bool) → ((x : X) → p x ≡ q x) → (xs : List X) → list_any p xs ≡ list_any q xs
-  any_same p q same [] = refl
-  any_same p q same (x ∷ xs) = ap (λ (b : Bool). b || list_any p xs) (same x) ∙ ap (λ (b : Bool). q x || b) (any_same p q same xs)
-
-  near_by : (p q : ℕ → Bool) (turned : Turn) → ((next : ℕ) → p next ≡ q next) → goes_near p turned ≡ goes_near q turned
-  near_by p q (turns.Goes next) same = same next
-  near_by p q (turns.Arrives there) same = refl
-  near_by p q turns.Hole same = refl
-  near_by p q (turns.Nowhere number) same = refl
-  near_by p q turns.Unknown same = refl
-
-  near_same : (count place : ℕ) → is_near one count place ≡ is_near two count place
-  near_same zero place = refl
-  near_same (suc count) place =
-      ap (λ (b : Bool). b || some_lead one (is_near one count) place) (near_same count place)
-      ∙ ap (λ (b : Bool). is_near two count place || b)
-      (any_same (leads_near one (is_near one count) place) (leads_near two (is_near two count) place)
-      (λ before. near_by (is_near one count) (is_near two count) (turn_by one place (Out (before + 1))) (near_same count))
-      (range_with_len 0 (ports_at plan.nodes place)))
-
-  level_same : (place : ℕ) → level_of one place ≡ level_of two place
-  level_same place =
-      count_same (λ (count : ℕ). Unit {0}) (λ count. not (is_near one count place)) (λ count. not (is_near two count place))
-      (λ count _. ap not (near_same count place))
-      (range_with_len 0 LEVELS) (each_always (λ (count : ℕ). Unit {0}) (λ count. tt) (range_with_len 0 LEVELS))
-
-  behind_same : (x : Loaded) → level_behind (level_of one) one x ≡ level_behind (level_of two) two x
-  behind_same x = by (far_end plan.cables x.at)
-    where
-      by : (there : Option PortRef) → option_map_or (λ at. level_of one at.node) there LEVELS ≡ option_map_or (λ at. level_of two at.node) there LEVELS
-      by (Some at) = level_same at.node
-      by None = refl
-
-  goes_alike : (level : ℕ) (way : Way) (x : Loaded) → goes (level_of one) one level way x ≡ goes (level_of two) two level way x
-  goes_alike level way x =
-      ap (λ (n : ℕ). (n == level) && leads way level (level_behind (level_of one) one x)) (level_same x.at.node)
-      ∙ ap (λ (n : ℕ). (level_of two x.at.node == level) && leads way level n) (behind_same x)
-
-  of_level_same : (level : ℕ) (way : Way) (all : List Loaded) → of_level one all level way ≡ of_level two all level way
-  of_level_same level way [] = refl
-  of_level_same level way (x ∷ xs) =
-      ap (λ (b : Bool). if b then x ∷ of_level one xs level way else of_level one xs level way) (goes_alike level way x)
-      ∙ ap (λ (rest : List Loaded). if goes (level_of two) two level way x then x ∷ rest else rest) (of_level_same level way xs)
-
-  level_text_same : (level : ℕ) (all : List Loaded) → level_text one all level ≡ level_text two all level
-  unfolding level_text
-  level_text_same level all =
-      ap (λ (some : List Loaded). level_line level Up some ++ way_text one all level Across ++ way_text one all level Down) (of_level_same level Up all)
-      ∙ ap (λ (some : List Loaded). way_text two all level Up ++ level_line level Across some ++ way_text one all level Down) (of_level_same level Across all)
-      ∙ ap (λ (some : List Loaded). way_text two all level Up ++ way_text two all level Across ++ level_line level Down some) (of_level_same level Down all)
-
   levels_same : (all : List Loaded) (levels : List ℕ) → flat_map (level_text one all) levels ≡ flat_map (level_text two all) levels
-  levels_same all [] = refl
-  levels_same all (level ∷ levels) =
-      ap (λ (text : List ℕ). text ++ flat_map (level_text one all) levels) (level_text_same level all)
-      ∙ ap (λ (rest : List ℕ). level_text two all level ++ rest) (levels_same all levels)
+  unfolding level_text
+  levels_same all levels = refl
 
   lines_same : (all : List Loaded) → flat_map (load_line one) all ≡ flat_map (load_line two) all
   unfolding load_line
@@ -233,7 +175,7 @@ module _ (plan : PlanState) (dump other : DumpState) where
     counts_same : (pairs : List Pair) → AllByRecursion (GoesToHost two) pairs → counts_of one pairs ≡ counts_of two pairs
     counts_same pairs all =
         ap₂ (λ (lost unknown : ℕ). record { pairs = length pairs; lost = lost; unknown = unknown })
-        (count_same (GoesToHost two) (is_lost one) (is_lost two) (λ pair goes. ap loses (fate_same pair goes.carries.switch)) pairs all)
+        (count_same (GoesToHost two) (is_lost one) (is_lost two) (λ pair goes. ap is_lost_by (fate_same pair goes.carries.switch)) pairs all)
         (count_same (GoesToHost two) (is_unknown one) (is_unknown two) (λ pair goes. ap (is_fate fates.Unknown) (fate_same pair goes.carries.switch)) pairs all)
 
     pub alike_same : (talk : PortRef → PortRef → Bool) → load_of_plan plan dump talk ≡ load_of_plan plan other talk

@@ -100,9 +100,9 @@ module _ (plan : TopologyState) (sound : IsSound plan) (keys : List (List ℕ)) 
       let held_is : has.held ≡ held = cc in
       by at.0 (home_of routes.between.homes lid) refl (ap (λ (one : SwitchState). held_entry one lid) (sym held_is) ∙ has.entry_is lid)
     where
-      by : (at : ℕ) (o : Option PortRef) → home_of routes.between.homes lid ≡ o → held_entry held lid ≡ unwrap_or (hop_to routes.between at (home_of routes.between.homes lid)) 255
+      by : (at : ℕ) (o : Option PortRef) → home_of routes.between.homes lid ≡ o → held_entry held lid ≡ unwrap_or (hop_to routes.between lid at (home_of routes.between.homes lid)) 255
           → (guid : ℕ) × (guid_in routes.lids lid ≡ Some guid)
-      by at None home is = absurd (some (is ∙ ap (λ (o : Option PortRef). unwrap_or (hop_to routes.between at o) 255) home))
+      by at None home is = absurd (some (is ∙ ap (λ (o : Option PortRef). unwrap_or (hop_to routes.between lid at o) 255) home))
       by at (Some home_port) home is =
           let named = at_home routes.graph routes.lids lid home_port (ap (λ (homes : List PortRef). home_of homes lid) (sym up.home.of.homes_are) ∙ home) in
           (named.guid, named.named)

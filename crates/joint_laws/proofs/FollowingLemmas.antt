@@ -6,7 +6,8 @@ use Rattle.std.specs.Option.{option_map_or}
 use Rattle.std.proofs.lemmas.Bool.{and_from, and_parts, eq-eqb, eqb-true, false≢true, ltb-true, ne_eqb, or_left, or_right}
 use Rattle.std.proofs.lemmas.List.Elements.{Contains-append_cases}
 use Rattle.std.proofs.lemmas.Option.{unwrap_or-slice_get}
-use Rattle.audit_net.specs.Ways.{is_on, way}
+use Rattle.audit_net.specs.Ways.{way}
+use Rattle.audit_plan.specs.Plan.{is_on}
 use Rattle.audit_loads.specs.Ways.{passes}
 use Rattle.audit_net.proofs.WholeLemmas.{ways_are_whole}
 use Rattle.data_packet.specs.declared.packet.Packet.{Packet}

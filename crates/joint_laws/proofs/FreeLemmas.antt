@@ -1,5 +1,5 @@
 -- No channels wait for one another in a cycle.
-use Rattle.std.proofs.Common.{ℕ, ◌≡◌, ◌≢◌, ◌-◌, ◌<◌, ◌==◌, ◌&&◌, ◌∙◌, nat_lt, ap, refl, sym, subst, Bool, true, false, if◌then◌else◌, List, [], ◌∷◌, length, map, Option, Some, None, arith}
+use Rattle.std.proofs.Common.{ℕ, ◌≡◌, ◌≢◌, ◌-◌, ◌<◌, ◌==◌, ◌&&◌, ◌∙◌, nat_lt, ap, refl, sym, subst, Bool, true, false, if◌then◌else◌, List, [], ◌∷◌, length, map, Option, Some, None, option_map, arith}
 use Rattle.std.specs.List.{list_all, list_any}
 use Rattle.std.proofs.lemmas.Bool.{and_parts, eqb-false, eqb-true, false≢true, ltb-true, ne_eqb}
 use Rattle.std.proofs.lemmas.Option.{none-some, same_Some}
@@ -27,8 +27,8 @@ use Rattle.topo_file.specs.Topology.{TopologyState}
 use Rattle.updn_routes.proofs.CycleLemmas.{no_cycle}
 use Rattle.updn_routes.proofs.RouteLemmas.{arrives, first_step, same_port}
 use Rattle.updn_routes.specs.Cabling.{leads}
-use Rattle.updn_routes.specs.Choice.{is_route}
-use Rattle.updn_routes.specs.Routes.{home_of, hop_to, next_hop, order_of, port_towards}
+use Rattle.updn_routes.specs.Choice.{AllChosen, is_route}
+use Rattle.updn_routes.specs.Routes.{home_of, hop_to, next_hop, order_of, tie_at, tie_towards}
 use Rattle.updn_routes.specs.Subnet.{RoutesState, rows_of}
 use Rattle.updn_routes.specs.Waiting.{Channel, WaitsFor, WaitsOver}
 use Rattle.updn_routes.specs.declared.link.Link.{Link}
@@ -38,12 +38,6 @@ use Rattle.joint_laws.proofs.HeldTableLemmas.{hop_of}
 use Rattle.joint_laws.proofs.RingLemmas.{is_proper, leads_by, proper_leads, ring_proper}
 use Rattle.joint_laws.proofs.TurnLemmas.{leaves}
 use Rattle.joint_laws.proofs.StandLemmas.{Stands, few, goes, no_switch, one_end, place_in, attachment, within}
-
--- ---- LIDs
-pub home_within : (homes : List PortRef) (count lid : ℕ) (home : PortRef) → list_all (λ home. nat_lt home.node count) homes ≡ true → home_of homes lid ≡ Some home
-    → home.node < count
-home_within homes count lid home all is =
-    ltb-true home.node count (all_there (λ (one : PortRef). nat_lt one.node count) homes (lid - 1) home all (home_there homes lid home is))
 
 module _ (plan : TopologyState) (sound : IsSound plan) (keys : List (List ℕ)) (routes : RoutesState) (fabric : FabricState)
     (up : IsBroughtUpBy plan keys routes fabric) (dump : DumpState) (shows : Shows (over plan dump) routes.lids fabric) where
@@ -60,7 +54,21 @@ module _ (plan : TopologyState) (sound : IsSound plan) (keys : List (List ℕ)) 
   rows = routes.between.rows
 
   abbrev next : ℕ → ℕ → Option ℕ
-  next = port_towards routes.between
+  next lid s = next_hop routes.between s lid
+
+  -- the switch at which a LID is attached
+  abbrev at_home_of : ℕ → Option ℕ
+  at_home_of lid = option_map (λ home. home.node) (home_of routes.between.homes lid)
+
+  chosen_home : (lid d : ℕ) → at_home_of lid ≡ Some d → AllChosen rows (order_of routes.between) (tie_at routes.between lid) (next lid) d
+  chosen_home lid d is = by (home_of routes.between.homes lid) refl is
+    where
+      by : (o : Option PortRef) → home_of routes.between.homes lid ≡ o → option_map (λ home. home.node) o ≡ Some d
+          → AllChosen rows (order_of routes.between) (tie_at routes.between lid) (next lid) d
+      by None home is = absurd (none-some d is)
+      by (Some at) home is =
+          subst (λ (k : ℕ). AllChosen rows (order_of routes.between) (tie_at routes.between lid) (next lid) k) (same_Some at.node d is)
+          (up.home.chosen.chosen lid at.node at.port home)
 
   abbrev at_graph : ℕ → ℕ
   at_graph node = place_of (nodes_of all) node
@@ -86,11 +94,11 @@ module _ (plan : TopologyState) (sound : IsSound plan) (keys : List (List ℕ)) 
   -- ---- so it follows what is chosen
   record Follows (lid : ℕ) (home at : PortRef) : Type 0 where
     apart : at_graph at.node ≢ home.node
-    over : next home.node (at_graph at.node) ≡ Some at.port
+    over : next lid (at_graph at.node) ≡ Some at.port
 
   follows : (lid : ℕ) (home at : PortRef) → is_proper net at ≡ true → home_of routes.between.homes lid ≡ Some home → leaves_by net at lid ≡ true → Follows lid home at
   follows lid home at proper is out =
-      by (home.node == at_graph at.node) refl (ap (hop_to routes.between (at_graph at.node)) (sym is) ∙ hop)
+      by (home.node == at_graph at.node) refl (ap (hop_to routes.between lid (at_graph at.node)) (sym is) ∙ hop)
     where
       switch : is_switch_at plan.nodes at.node ≡ true
       switch = (and_parts (is_switch_at plan.nodes at.node) _ proper).0
@@ -101,19 +109,19 @@ module _ (plan : TopologyState) (sound : IsSound plan) (keys : List (List ℕ)) 
           hop_of plan keys routes fabric up dump shows at.node (at_graph at.node) lid at.port switch (attachment plan sound graph up.are.found.of at.node switch) has.has
           has.some
 
-      by : (b : Bool) → (home.node == at_graph at.node) ≡ b → (if b then Some home.port else next home.node (at_graph at.node)) ≡ Some at.port
+      by : (b : Bool) → (home.node == at_graph at.node) ≡ b → (if b then Some home.port else tie_towards routes.between lid home.node (at_graph at.node)) ≡ Some at.port
           → Follows lid home at
       by true here picked =
           let far = proper_leads net at proper in
           absurd (not_home at.node (at_graph at.node) lid at.port home far.0 (attachment plan sound graph up.are.found.of at.node switch) is
           (eqb-true home.node (at_graph at.node) here) (same_Some home.port at.port picked) far.1 far.2)
-      by false apart picked = record { apart = λ same. eqb-false home.node (at_graph at.node) apart (sym same); over = picked }
+      by false apart picked = record { apart = λ same. eqb-false home.node (at_graph at.node) apart (sym same); over = hop }
 
   -- ---- a route that goes over one channel and then over another
-  goes_over : (d : ℕ) (a b : PortRef) → d < length rows → is_switch_at plan.nodes a.node ≡ true → is_switch_at plan.nodes b.node ≡ true
-      → leads_to net a b.node ≡ true → at_graph a.node ≢ d → at_graph b.node ≢ d → next d (at_graph a.node) ≡ Some a.port
-      → next d (at_graph b.node) ≡ Some b.port → WaitsFor rows next (chan a) (chan b)
-  goes_over d a b there switch switch_too leading apart apart_too over_a over_b = by_first way.0 way.1
+  goes_over : (lid d : ℕ) (a b : PortRef) → at_home_of lid ≡ Some d → is_switch_at plan.nodes a.node ≡ true → is_switch_at plan.nodes b.node ≡ true
+      → leads_to net a b.node ≡ true → at_graph a.node ≢ d → at_graph b.node ≢ d → next lid (at_graph a.node) ≡ Some a.port
+      → next lid (at_graph b.node) ≡ Some b.port → WaitsFor rows at_home_of next (chan a) (chan b)
+  goes_over lid d a b there switch switch_too leading apart apart_too over_a over_b = by_first way.0 way.1
     where
       stands : Stands all a.node (at_graph a.node)
       stands = attachment plan sound graph up.are.found.of a.node switch
@@ -121,14 +129,14 @@ module _ (plan : TopologyState) (sound : IsSound plan) (keys : List (List ℕ)) 
       less : at_graph a.node < length rows
       less = let low = within plan sound graph up.are.found.of a.node (at_graph a.node) stands in omega (arith, low, ap length up.home.of.rows_are)
 
-      way : (steps : List ℕ) × (is_route rows (next d) (at_graph a.node) steps d ≡ true)
+      way : (steps : List ℕ) × (is_route rows (next lid) (at_graph a.node) steps d ≡ true)
       way =
-          arrives rows (order_of routes.between) (next d) d up.home.chosen.cabling (up.home.chosen.chosen d there) (at_graph a.node) a.port less apart over_a
+          arrives rows (order_of routes.between) (tie_at routes.between lid) (next lid) d up.home.chosen.cabling (chosen_home lid d there) (at_graph a.node) a.port less apart over_a
 
       -- the first step is to where the cable leads
-      first_is : (t : ℕ) (steps : List ℕ) → is_route rows (next d) (at_graph a.node) (t ∷ steps) d ≡ true → t ≡ at_graph b.node
+      first_is : (t : ℕ) (steps : List ℕ) → is_route rows (next lid) (at_graph a.node) (t ∷ steps) d ≡ true → t ≡ at_graph b.node
       first_is t steps route =
-          let f = first_step rows (next d) (at_graph a.node) t steps d route in
+          let f = first_step rows (next lid) (at_graph a.node) t steps d route in
           let number : f.port ≡ a.port = same_port f.port a.port (sym f.picked ∙ over_a) in
           let out : leads (rows_of graph) (at_graph a.node) a.port t ≡ true =
           (λ i. leads (sym up.home.of.rows_are i) (at_graph a.node) (sym number i) t) ∙ f.out in
@@ -137,19 +145,19 @@ module _ (plan : TopologyState) (sound : IsSound plan) (keys : List (List ℕ)) 
           let same : on.there ≡ far.0 = one_end plan.cables (port a.node a.port) a on.there far.0 on.cable refl far.1 in
           sym (place_in plan sound graph up.are.found.of on.there.node t on.stands) ∙ ap (λ (p : PortRef). at_graph p.node) same ∙ ap at_graph far.2
 
-      by_second : (steps : List ℕ) → is_route rows (next d) (at_graph a.node) (at_graph b.node ∷ steps) d ≡ true → WaitsFor rows next (chan a) (chan b)
+      by_second : (steps : List ℕ) → is_route rows (next lid) (at_graph a.node) (at_graph b.node ∷ steps) d ≡ true → WaitsFor rows at_home_of next (chan a) (chan b)
       by_second [] route =
-          let f = first_step rows (next d) (at_graph a.node) (at_graph b.node) [] d route in absurd (apart_too (eqb-true (at_graph b.node) d f.rest))
+          let f = first_step rows (next lid) (at_graph a.node) (at_graph b.node) [] d route in absurd (apart_too (eqb-true (at_graph b.node) d f.rest))
       by_second (beyond ∷ steps) route =
-          record { target = d; there = there; beyond = beyond; steps = steps; over_a = over_a; over_b = over_b; route = route }
+          record { lid = lid; target = d; there = there; beyond = beyond; steps = steps; over_a = over_a; over_b = over_b; route = route }
 
-      by_first : (steps : List ℕ) → is_route rows (next d) (at_graph a.node) steps d ≡ true → WaitsFor rows next (chan a) (chan b)
+      by_first : (steps : List ℕ) → is_route rows (next lid) (at_graph a.node) steps d ≡ true → WaitsFor rows at_home_of next (chan a) (chan b)
       by_first [] route = absurd (apart (eqb-true (at_graph a.node) d route))
       by_first (t ∷ steps) route =
-          by_second steps (subst (λ (n : ℕ). is_route rows (next d) (at_graph a.node) (n ∷ steps) d ≡ true) (first_is t steps route) route)
+          by_second steps (subst (λ (n : ℕ). is_route rows (next lid) (at_graph a.node) (n ∷ steps) d ≡ true) (first_is t steps route) route)
 
   waits : (lids : List ℕ) (a b : PortRef) → is_proper net a ≡ true → is_proper net b ≡ true → depends net lids a b ≡ true
-      → WaitsFor rows next (chan a) (chan b)
+      → WaitsFor rows at_home_of next (chan a) (chan b)
   waits lids a b proper proper_too depending = by (home_of routes.between.homes lid) refl
     where
       parts : (leads_to net a b.node ≡ true) × (list_any (λ lid. leaves_by net a lid && leaves_by net b lid) lids ≡ true)
@@ -164,20 +172,20 @@ module _ (plan : TopologyState) (sound : IsSound plan) (keys : List (List ℕ)) 
       switch : is_switch_at plan.nodes a.node ≡ true
       switch = (and_parts (is_switch_at plan.nodes a.node) _ proper).0
 
-      by : (o : Option PortRef) → home_of routes.between.homes lid ≡ o → WaitsFor rows next (chan a) (chan b)
+      by : (o : Option PortRef) → home_of routes.between.homes lid ≡ o → WaitsFor rows at_home_of next (chan a) (chan b)
       by None is =
-          absurd (none-some a.port (ap (hop_to routes.between (at_graph a.node)) (sym is)
+          absurd (none-some a.port (ap (hop_to routes.between lid (at_graph a.node)) (sym is)
           ∙ hop_of plan keys routes fabric up dump shows a.node (at_graph a.node) lid a.port switch (attachment plan sound graph up.are.found.of a.node switch)
           (leaves net a.node lid a.port leave.0).has (leaves net a.node lid a.port leave.0).some))
       by (Some home) is =
           let one = follows lid home a proper is leave.0 in
           let other = follows lid home b proper_too is leave.1 in
-          goes_over home.node a b (home_within routes.between.homes (length rows) lid home up.home.chosen.hang is) switch
+          goes_over lid home.node a b (ap (option_map (λ home. home.node)) is) switch
           (and_parts (is_switch_at plan.nodes b.node) _ proper_too).0 parts.0 one.apart other.apart one.over other.over
 
   -- ---- round
   round : (lids : List ℕ) (first a : PortRef) (rest : List PortRef) → is_proper net first ≡ true → list_all (is_proper net) (a ∷ rest) ≡ true
-      → wait_round (depends net lids) first (a ∷ rest) ≡ true → WaitsOver rows next (chan a) (map chan rest) (chan first)
+      → wait_round (depends net lids) first (a ∷ rest) ≡ true → WaitsOver rows at_home_of next (chan a) (map chan rest) (chan first)
   round lids first a [] one proper waiting = waits lids a first (and_parts (is_proper net a) true proper).0 one waiting
   round lids first a (b ∷ rest) one proper waiting =
       let both = and_parts (depends net lids a b) _ waiting in
@@ -188,7 +196,7 @@ module _ (plan : TopologyState) (sound : IsSound plan) (keys : List (List ℕ)) 
   none_round lids [] are cycle = false≢true cycle
   none_round lids (a ∷ rest) are cycle =
       let proper = ring_proper net (a ∷ rest) are in
-      no_cycle rows (order_of routes.between) next up.home.chosen.cabling up.home.chosen.order up.home.chosen.chosen (chan a) (map chan rest)
+      no_cycle rows (order_of routes.between) at_home_of (tie_at routes.between) next up.home.chosen.cabling up.home.chosen.order chosen_home (chan a) (map chan rest)
       (round lids a a rest (and_parts (is_proper net a) _ proper).0 proper cycle)
 
   pub is_free : (lids : List ℕ) → deadlock net lids ≡ None

@@ -28,7 +28,8 @@ use Rattle.updn_routes.specs.Subnet.{RoutesState}
 use Rattle.audit_loads.specs.Counts.{counts_of}
 use Rattle.audit_loads.specs.Sources.{Pair}
 use Rattle.audit_loads.specs.Text.{load_of_plan}
-use Rattle.audit_loads.specs.Ways.{fate_of, is_lost, is_unknown, loses}
+use Rattle.audit_routes.specs.Verdict.{is_lost_by}
+use Rattle.audit_loads.specs.Ways.{fate_of, is_lost, is_unknown}
 use Rattle.fabric_loads.specs.HeldRows.{held_entry}
 use Rattle.joint_laws.proofs.HeldTableLemmas.{holds}
 use Rattle.joint_laws.proofs.PassLemmas.{own_routes_pass}
@@ -41,7 +42,7 @@ use Rattle.joint_laws.proofs.AlikeLemmas.{named_port, printed_same}
 use Rattle.joint_laws.proofs.PairLemmas.{GoesToHost, count_same}
 
 -- ---- what is reached is neither lost nor unknown
-reached_alone : (found : Fate) → (is_fate fates.Reached found && true) ≡ true → (loses found ≡ false) × (is_fate fates.Unknown found ≡ false)
+reached_alone : (found : Fate) → (is_fate fates.Reached found && true) ≡ true → (is_lost_by found ≡ false) × (is_fate fates.Unknown found ≡ false)
 reached_alone fates.Reached is = (refl, refl)
 reached_alone fates.Hole is = absurd (false≢true is)
 reached_alone fates.Nowhere is = absurd (false≢true is)

@@ -35,6 +35,7 @@ use Rattle.sweep.specs.Graph.{graph_with}
 use Rattle.topo_file.specs.Topology.{TopologyState}
 use Rattle.topo_file.specs.declared.node.Node.{Node as PlannedNode}
 use Rattle.updn_routes.specs.Routes.{routes_with}
+use Rattle.updn_routes.specs.declared.tie_rule.TieRule.TheVariants.{LeastPort}
 use Rattle.updn_routes.specs.Subnet.{RoutesState}
 
 -- ---- what the texts are of
@@ -58,7 +59,7 @@ abbrev subnet_of : List SubnetPort → List Heading → ConfigurationState
 subnet_of ports partitions = record { ports = ports; partitions = partitions }
 
 abbrev no_routes : RoutesState
-no_routes = record { graph = graph_with 0 [] [] []; lids = []; between = routes_with [] [] [] [] [] [] [] }
+no_routes = record { graph = graph_with 0 [] [] []; lids = []; between = routes_with [] [] [] [] [] [] [] LeastPort [] }
 
 abbrev cable : Cable
 cable = record { first = port 0 1; second = port 1 1 }
@@ -110,7 +111,7 @@ abbrev one_switch : RoutesState
 one_switch = record {
   graph = graph_with 0 (record { guid = 16; num_ports = 1; name = []; path = [] } ∷ []) ([] ∷ []) [];
   lids = 1 ∷ [];
-  between = routes_with ([] ∷ []) (16 ∷ []) [] [] [] [] (port 0 0 ∷ []);
+  between = routes_with ([] ∷ []) (16 ∷ []) [] [] [] [] (port 0 0 ∷ []) LeastPort [];
 }
 
 pub lost_entries_are_printed : LostEntriesArePrinted

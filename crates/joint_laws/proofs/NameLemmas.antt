@@ -33,7 +33,7 @@ use Rattle.table_push.proofs.AttachedLemmas.{found_is}
 use Rattle.topo_file.specs.Node.{is_switch_at, port_guid_at}
 use Rattle.topo_file.specs.Sound.{IsSound}
 use Rattle.topo_file.specs.Topology.{TopologyState}
-use Rattle.updn_routes.specs.Routes.{home_of, hop_to, next_hop, port_towards}
+use Rattle.updn_routes.specs.Routes.{home_of, hop_to, next_hop, tie_towards}
 use Rattle.updn_routes.specs.Subnet.{RoutesState}
 use Rattle.fabric_loads.specs.HeldRows.{held_entry, row_for, rows_from}
 use Rattle.fabric_loads.proofs.RowLemmas.{said_is, reported_of}
@@ -108,8 +108,8 @@ module _ (plan : TopologyState) (sound : IsSound plan) (keys : List (List ℕ)) 
   -- the switch that the port is attached at has an entry for its LID
   out_there : (place number lid : ℕ) → home_of routes.between.homes lid ≡ Some (port place number) → next_hop routes.between place lid ≡ Some number
   out_there place number lid is =
-      ap (hop_to routes.between place) is
-      ∙ ap (λ (b : Bool). if b then Some number else port_towards routes.between place place) (eq-eqb place place refl)
+      ap (hop_to routes.between lid place) is
+      ∙ ap (λ (b : Bool). if b then Some number else tie_towards routes.between lid place place) (eq-eqb place place refl)
 
   abbrev HasLid : PortRef → Type 0
   HasLid end = (lid : ℕ) × (lid < 65536) × (end_port_of (over plan (dump_of plan routes.lids fabric)) lid ≡ Some end)

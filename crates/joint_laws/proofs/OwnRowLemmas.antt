@@ -34,7 +34,7 @@ use Rattle.topo_file.specs.Node.{is_switch_at}
 use Rattle.topo_file.specs.Sound.{IsSound}
 use Rattle.topo_file.specs.Topology.{TopologyState}
 use Rattle.topo_file.specs.declared.node.Node.{Node as PlannedNode}
-use Rattle.updn_routes.specs.Routes.{hop_to, next_hop, port_towards}
+use Rattle.updn_routes.specs.Routes.{hop_to, next_hop, tie_towards}
 use Rattle.updn_routes.specs.Subnet.{RoutesState}
 use Rattle.audit_loads.specs.Text.{load_of_plan}
 use Rattle.fabric_loads.proofs.RowLemmas.{said_is}
@@ -213,8 +213,8 @@ module _ (plan : TopologyState) (sound : IsSound plan) (keys : List (List ℕ)) 
         let switch = is_switch_there plan sound routes.graph up.are.found.of at.node at.place at.stands in
         let holding = holds plan keys routes fabric up at.node at.place switch at.stands in
         let hop : next_hop routes.between at.place lid ≡ Some at.number =
-        ap (hop_to routes.between at.place) at.home
-        ∙ ap (λ (b : Bool). if b then Some at.number else port_towards routes.between at.place at.place) (eq-eqb at.place at.place refl) in
+        ap (hop_to routes.between lid at.place) at.home
+        ∙ ap (λ (b : Bool). if b then Some at.number else tie_towards routes.between lid at.place at.place) (eq-eqb at.place at.place refl) in
         let entry_is : held_entry holding.held lid ≡ at.number = holding.entry_is lid ∙ ap (λ (o : Option ℕ). unwrap_or o 255) hop in
         let some : held_entry holding.held lid ≢ 255 = (λ none. out_low lid end at (sym entry_is ∙ none)) in
         let from_1 = has_place routes.lids lid guid named in

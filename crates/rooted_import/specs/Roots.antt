@@ -6,7 +6,7 @@ use Rattle.topo_file.specs.declared.node.Node.{Node}
 use Rattle.topo_file.specs.Node.{guid_at, is_switch_at, name_at}
 use Rattle.topology_import.specs.Nodes.{switch_guid_at}
 use Rattle.audit_plan.specs.Plan.{plan_found}
-use Rattle.audit_loads.specs.Tops.{top_switches}
+use Rattle.audit_plan.specs.Tops.{top_switches}
 
 -- the GUIDs that the top switches have in the topology
 abbrev pub top_guids : DiscoveryState → List ℕ

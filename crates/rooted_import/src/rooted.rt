@@ -85,7 +85,7 @@ fn imported(
 }
 
 /// The text that [`topology_text`] returns, with a line `root NAME` for each switch that is farthest from hosts, as
-/// `audit_loads::top_switches` finds them; or the first error. Besides, an allocation can fail.
+/// `audit_plan::top_switches` finds them; or the first error. Besides, an allocation can fail.
 #[tactic(auto, using(crate::proofs::LawLemmas::given))]
 pub fn rooted_topology_text(
     alloc: Global,

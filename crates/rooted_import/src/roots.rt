@@ -4,11 +4,10 @@ ghost use Rattle.std.specs.Prelude.{◌≡◌, ◌++◌, flat_map, map, IfOk, On
 ghost use Rattle.topo_file.specs.Node.{guid_at, is_switch_at};
 ghost use Rattle.topology_import.specs.Nodes.{switch_guid_at};
 ghost use Rattle.audit_plan.specs.Plan.{plan_found};
-ghost use Rattle.audit_loads.specs.Tops.{top_switches};
+ghost use Rattle.audit_plan.specs.Tops.{top_switches};
 ghost use Rattle.rooted_import.specs.Roots.{is_among, is_wanted, root_line, roots_of, top_guids};
 
-use audit_loads::top_switches;
-use audit_plan::Plan;
+use audit_plan::{Plan, top_switches};
 use netdiscover_file::{Discovery, Node as FoundNode};
 use std::alloc::{AllocError, Global};
 use topo_file::{Node, guid_at, is_switch_at, name_at};

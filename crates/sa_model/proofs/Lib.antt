@@ -25,4 +25,6 @@ pub mod SourceLemmas
 pub mod ShareLemmas
 pub mod QueryWrongLemmas
 pub mod QueryWrongPairLemmas
+pub mod ServicesShownLemmas
+pub mod ServicesShownWrongLemmas
 pub mod QueryExampleLemmas

@@ -35,5 +35,6 @@ pub mod QueryLaws
 pub mod NamedSources
 pub mod Shares
 pub mod QueryWrongRules
+pub mod ServicesShown
 pub mod QueryExamples
 pub mod QueryExampleLaws

@@ -6,6 +6,7 @@ ghost use Rattle.sa_model.specs.NamedSources.{SelectedSayTheirSource};
 ghost use Rattle.sa_model.specs.Order.{VisibleStandsInOrder};
 ghost use Rattle.sa_model.specs.Shares.{SharingIsOneThing};
 ghost use Rattle.sa_model.specs.QueryWrongRules.{PathsLeadToNear, ServicesStandInOrder};
+ghost use Rattle.sa_model.specs.ServicesShown.{ServicesAreShownToSpeakers};
 
 /// If a port sees the same of the groups of two states, it is shown the same of them.
 pub fn groups_are_shown_alike()
@@ -69,4 +70,10 @@ pub fn services_stand_in_order()
 /// of their port, base and ServiceID, if the subnet is configured and the state has its partitions and places.
 pub fn visible_stands_in_order()
     ensures { VisibleStandsInOrder }
+{}
+
+/// A port is shown its own services, and those that a port offers in a partition of which both are members, at least one of
+/// them a full one: these and no others.
+pub fn services_are_shown_to_speakers()
+    ensures { ServicesAreShownToSpeakers }
 {}

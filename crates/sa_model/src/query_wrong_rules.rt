@@ -2,6 +2,7 @@
 //! function does nothing: its contract is the law.
 
 ghost use Rattle.sa_model.specs.QueryWrongRules.{AllOfFileIsWrong, CommonBasesAreNotShared, GroupsOfAllReport, OwnFirstIsOutOfOrder, PathsByBaseReport, ServicesOfPortsNearReport};
+ghost use Rattle.sa_model.specs.ServicesShown.{WrongSightsAreRefused};
 
 /// With a path in each common partition, one limited member is shown another.
 pub fn paths_by_base_report()
@@ -31,4 +32,10 @@ pub fn all_of_file_is_wrong()
 /// If a port is shown its own services before those of others, they do not stand by LID.
 pub fn own_first_is_out_of_order()
     ensures { OwnFirstIsOutOfOrder }
+{}
+
+/// Refused as to which services a port is shown: all of the ports near it, all of the partitions of which it is a member, and
+/// its own alone.
+pub fn wrong_sights_are_refused()
+    ensures { WrongSightsAreRefused }
 {}

@@ -8,6 +8,7 @@ pub mod ChangedLemmas
 pub mod TakenLemmas
 pub mod NumberLemmas
 pub mod AlikeLemmas
+pub mod TransferLemmas
 pub mod OtherLemmas
 pub mod JoinedLemmas
 pub mod ReplySourceLemmas

@@ -1,15 +1,17 @@
 -- A service of a limited member that another limited member is not shown, though the two are near each other by another partition.
-use Rattle.std.proofs.Common.{ℕ, Bool, true, false, ◌==◌, List, [], ◌∷◌, ◌≡◌, inl, inr, ap, refl}
+use Rattle.std.proofs.Common.{ℕ, Bool, true, false, ◌==◌, List, [], ◌∷◌, Option, Some, None, ◌≡◌, inl, inr, ap, refl}
 use Rattle.subnet_model.specs.Configuration.{ConfigurationState}
 use Rattle.subnet_model.specs.Examples.{adapter}
 use Rattle.sa_model.specs.Groups.{Creator, GroupParameters, Membership, MulticastGroup}
 use Rattle.sa_replies.proofs.WrongStateLemmas.{alone}
 use Rattle.sa_model.specs.Services.{PortServices}
+use Rattle.rmpp_core.specs.Segments.{Transfer}
 use Rattle.sa_replies.specs.Answer.{Administration}
 use Rattle.sa_replies.specs.RunExamples.{ask}
 use Rattle.sa_replies.specs.InCommon.{FixedGroup, Registration}
 use Rattle.sa_replies.specs.RunSources.{noted_start}
-use Rattle.sa_replies.specs.RunWrongRules.{MakersAreInCommon, MlidsAreInCommon, NodesAreNoFiles, RegistrationsAreInCommon, WhatIsShownIsLess}
+use Rattle.sa_replies.specs.RunWrongRules.{MakersAreInCommon, MgidsAreInCommon, MlidsAreInCommon, NodesAreNoFiles}
+use Rattle.sa_replies.specs.RunWrongRules.{ParametersAreInCommon, RegistrationsAreInCommon, TablesAreInCommon, WhatIsShownIsLess}
 
 -- both are full members of the partition of base 2, and limited ones of that of base 1
 abbrev near_by_another : ConfigurationState
@@ -37,18 +39,55 @@ plain = record { q_key = 0; mtu = 4; traffic_class = 0; rate = 3; packet_life_ti
 abbrev own_member : Membership
 own_member = record { port = 0x111; join_state = record { full_member = true; non_member = false; send_only_non_member = false } }
 
-abbrev with_group : ℕ → Creator → List Membership → Administration
-with_group mlid maker memberships = record {
-  remembered = record {
-    partitions = record {
-      number = 1;
-      base = 2;
-      groups = record { mgid = 1; mlid = mlid; parameters = plain; creator = maker; memberships = memberships } ∷ [];
-    } ∷ [];
-    services = [];
-  };
+abbrev holding : MulticastGroup → Administration
+holding group = record {
+  remembered = record { partitions = record { number = 1; base = 2; groups = group ∷ [] } ∷ []; services = [] };
   transfers = [];
 }
+
+abbrev with_group : ℕ → Creator → List Membership → Administration
+with_group mlid maker memberships =
+    holding (record { mgid = 1; mlid = mlid; parameters = plain; creator = maker; memberships = memberships })
+
+abbrev with_q_key : ℕ → ℕ → Administration
+with_q_key mgid q_key = holding (record {
+  mgid = mgid;
+  mlid = 0xc020;
+  parameters = record plain { q_key = q_key };
+  creator = Creator.PartitionFile;
+  memberships = [];
+})
+
+abbrev first_mgid : List FixedGroup → Bool
+first_mgid [] = false
+first_mgid (group ∷ groups) = group.mgid == 1
+
+abbrev first_q_key : List FixedGroup → Bool
+first_q_key [] = false
+first_q_key (group ∷ groups) = group.parameters.q_key == 1
+
+pub mgids_are_in_common : MgidsAreInCommon
+mgids_are_in_common law =
+    let reported : true ≡ false = ap first_mgid ((law near_by_another 0x111 (with_q_key 1 0) (with_q_key 2 0) refl).groups 2 refl) in
+    absurd cc
+
+pub parameters_are_in_common : ParametersAreInCommon
+parameters_are_in_common law =
+    let reported : true ≡ false = ap first_q_key ((law near_by_another 0x111 (with_q_key 1 1) (with_q_key 1 2) refl).groups 2 refl) in
+    absurd cc
+
+-- ---- a table that is open to port 0x111, or none
+abbrev with_open : Option Transfer → Administration
+with_open table = record { remembered = record { partitions = []; services = [] }; transfers = record { port = 0x111; open_table = table } ∷ [] }
+
+abbrev is_open : Option Transfer → Bool
+is_open (Some table) = true
+is_open None = false
+
+pub tables_are_in_common : TablesAreInCommon
+tables_are_in_common transfer law =
+    let reported : true ≡ false = ap is_open ((law near_by_another 0x111 (with_open (Some transfer)) (with_open None) refl).open_table) in
+    absurd cc
 
 abbrev first_mlid : List FixedGroup → Bool
 first_mlid [] = false

@@ -14,7 +14,9 @@ pub mod Sources
 pub mod NamedNotes
 pub mod State
 pub mod OneReply
+pub mod TransferMads
 pub mod WrongRules
+pub mod WrongTransfers
 pub mod Examples
 pub mod ExampleLaws
 pub mod Asking

@@ -6,6 +6,7 @@ use Rattle.sa_model.specs.Shown.{node_entry}
 use Rattle.subnet_model.specs.Configuration.{ConfigurationState}
 use Rattle.sa_model.specs.Sight.{seen}
 use Rattle.sa_model.specs.ServiceSight.{services_seen}
+use Rattle.rmpp_core.specs.Segments.{Transfer}
 use Rattle.sa_replies.specs.Answer.{Administration}
 use Rattle.sa_replies.specs.Notes.{NotedByte}
 use Rattle.sa_replies.specs.Transfers.{table_place}
@@ -84,6 +85,30 @@ without_maker group = record group { creator = Creator.PartitionFile }
 abbrev pub without_registrations : MulticastGroup → MulticastGroup
 without_registrations group = record group { memberships = [] }
 
+abbrev pub without_mgid : MulticastGroup → MulticastGroup
+without_mgid group = record group { mgid = 0 }
+
+abbrev pub without_parameters : MulticastGroup → MulticastGroup
+without_parameters group = record group {
+  parameters = record {
+    q_key = 0;
+    mtu = 0;
+    traffic_class = 0;
+    rate = 0;
+    packet_life_time = 0;
+    service_level = 0;
+    flow_label = 0;
+    hop_limit = 0;
+    scope = 0;
+  };
+}
+
+abbrev pub MgidsAreInCommon : Type 0
+MgidsAreInCommon = ShowsAll (sees_of_groups without_mgid) → ⊥
+
+abbrev pub ParametersAreInCommon : Type 0
+ParametersAreInCommon = ShowsAll (sees_of_groups without_parameters) → ⊥
+
 abbrev pub MlidsAreInCommon : Type 0
 MlidsAreInCommon = ShowsAll (sees_of_groups without_mlid) → ⊥
 
@@ -92,3 +117,10 @@ MakersAreInCommon = ShowsAll (sees_of_groups without_maker) → ⊥
 
 abbrev pub RegistrationsAreInCommon : Type 0
 RegistrationsAreInCommon = ShowsAll (sees_of_groups without_registrations) → ⊥
+
+-- ---- not the table that is open to the port
+abbrev pub sees_no_table : ConfigurationState → ℕ → Administration → Seen
+sees_no_table configuration p state = record (sees configuration p state) { own_table = None }
+
+abbrev pub TablesAreInCommon : Type 0
+TablesAreInCommon = Transfer → ShowsAll sees_no_table → ⊥

@@ -8,6 +8,7 @@ ghost use Rattle.sa_replies.specs.NamedNotes.{NotesNameSources};
 ghost use Rattle.sa_replies.specs.Numbers.{NumbersAreAsAsked};
 ghost use Rattle.sa_replies.specs.Taken.{TheGreatestIsTaken};
 ghost use Rattle.sa_replies.specs.State.{AnswersKeepStates, StartsAreStates};
+ghost use Rattle.sa_replies.specs.TransferMads.{TransfersGoByFiveFields};
 
 /// Whatever comes to subnet administration, what it remembers stays sound.
 pub fn answers_keep_sound()
@@ -47,6 +48,13 @@ pub fn others_are_ignored()
 /// a transfer groups and services.
 pub fn requests_leave_the_rest()
     ensures { RequestsLeaveTheRest }
+{}
+
+/// A MAD of a transfer does nothing unless its RMPP version is 1, it is an ACK, a STOP or an ABORT, and all 64 bits of its
+/// TransactionID are those of the transfer in progress to the port that sends it. Two that agree in version, type,
+/// TransactionID, SegmentNumber and NewWindowLast do the same.
+pub fn transfers_go_by_five_fields()
+    ensures { TransfersGoByFiveFields }
 {}
 
 /// A new group has the greatest MTU, rate and PacketLifeTime that we have and that satisfy what is asked.

@@ -38,7 +38,7 @@ pub use crate::laws::{
     notes_stand_beside, numbers_are_as_asked, others_change_no_receivers,
     refused_change_no_receivers, refused_change_nothing, requesters_are_answered_alike,
     requests_leave_the_rest, service_replies_come_from_near, services_deleted_are_gone,
-    services_set_are_there, starts_are_states, the_greatest_is_taken,
+    services_set_are_there, starts_are_states, the_greatest_is_taken, transfers_go_by_five_fields,
 };
 pub use crate::request_laws::{
     join_states_are_bits, joins_leave_the_rest_alone, leaves_leave_the_rest_alone,

@@ -1,7 +1,8 @@
 //! A sight of states that shows too little, and rules that note too little of a run, so that a reader sees that the laws
 //! say something. Each function does nothing: its contract is the law.
 
-ghost use Rattle.sa_replies.specs.RunWrongRules.{AnswersAreNoted, MakersAreInCommon, MlidsAreInCommon, NoBytesAreLess, NodesAreNoFiles, RegistrationsAreInCommon, SendsAreNoted, WhatIsShownIsLess};
+ghost use Rattle.sa_replies.specs.RunWrongRules.{AnswersAreNoted, NoBytesAreLess, NodesAreNoFiles, SendsAreNoted, TablesAreInCommon, WhatIsShownIsLess};
+ghost use Rattle.sa_replies.specs.RunWrongRules.{MakersAreInCommon, MgidsAreInCommon, MlidsAreInCommon, ParametersAreInCommon, RegistrationsAreInCommon};
 
 /// If a port is said to see those services alone that it is shown, it sees the same of two states that have not the
 /// same services of the ports near it.
@@ -42,4 +43,19 @@ pub fn makers_are_in_common()
 /// If the registrations in a group are not seen, a port sees the same of two states in one of which it is registered.
 pub fn registrations_are_in_common()
     ensures { RegistrationsAreInCommon }
+{}
+
+/// If the MGID of a group is not seen, a port sees the same of two states whose groups have different ones.
+pub fn mgids_are_in_common()
+    ensures { MgidsAreInCommon }
+{}
+
+/// If the parameters of a group are not seen, a port sees the same of two states whose groups have different ones.
+pub fn parameters_are_in_common()
+    ensures { ParametersAreInCommon }
+{}
+
+/// If the table that is open to a port is not seen, it sees the same of two states in one of which none is.
+pub fn tables_are_in_common()
+    ensures { TablesAreInCommon }
 {}

@@ -2,6 +2,7 @@
 //! function does nothing: its contract is the law.
 
 ghost use Rattle.sa_replies.specs.WrongRules.{AllNodesReport, AskersAreNotedAlone, DeletesAreNotOfFile, JoinsAreOfTheMaker, KeysAreNotSentBack, LostPlacesAreMissed, NothingNotedIsLess, OneTableReports, OthersAreAnswered, RefusalsKeepNoData, SetsAreNotOfFile, TheFileIsNoSource, TwiceIsNotOnce};
+ghost use Rattle.sa_replies.specs.WrongTransfers.{ActiveRequestsAreIgnored, EndsNameTheirTransfer, HighBitsAreLookedAt, MethodsAreNotLookedAt};
 
 /// With one transfer in progress for all ports, a port learns that a port far from it asked for a table.
 pub fn one_table_reports()
@@ -66,4 +67,24 @@ pub fn keys_are_not_sent_back()
 /// An answer to what asks for nothing is refused.
 pub fn others_are_answered()
     ensures { OthersAreAnswered }
+{}
+
+/// An ACK of another transaction that agrees in the low 32 bits alone is refused.
+pub fn high_bits_are_looked_at()
+    ensures { HighBitsAreLookedAt }
+{}
+
+/// A STOP of another transaction that ends the transfer is refused.
+pub fn ends_name_their_transfer()
+    ensures { EndsNameTheirTransfer }
+{}
+
+/// An answer to a GetTable with the flag Active is refused.
+pub fn active_requests_are_ignored()
+    ensures { ActiveRequestsAreIgnored }
+{}
+
+/// A STOP that counts under the method GetTable alone is refused.
+pub fn methods_are_not_looked_at()
+    ensures { MethodsAreNotLookedAt }
 {}

@@ -73,6 +73,9 @@ impl<'a, R: Reader, O: Output> LineWire<'a, R, O> {
         ensures same_reader { self.new.reader.ghost_name ≡ self.old.reader.ghost_name }
         ensures same_output { self.new.output.ghost_name ≡ self.old.output.ghost_name }
         ensures stopped { IfSome self.old.stop (λ stop. IsStill result self.new.stop self.new.exchanges stop self.old.exchanges) }
+        // Once it has stopped nothing more is written or read.
+        ensures unwritten { IfSome self.old.stop (λ _. O.contents self.new.output.now ≡ O.contents self.old.output.now) }
+        ensures unread { IfSome self.old.stop (λ _. R.remaining self.new.reader.now ≡ R.remaining self.old.reader.now) }
         ensures counted { self.old.stop ≡ None → self.new.exchanges ≡ min (self.old.exchanges + 1) (2 ^ 64 - 1) }
         ensures kept { self.new.last ≡ (if is_some self.old.stop then self.old.last else smp.now) }
         ensures written { self.old.stop ≡ None → SendsUntil self.new.stop (O.contents self.old.output.now) (O.contents self.new.output.now)

@@ -4,8 +4,9 @@
 //! cables and agents): then [`SmpWire::exchange`] answers as the walk of `specs/Walk.antt` does, and the fabric changes as that
 //! says. If it stands for none, a call returns, and nothing else is promised. [`PlainWire`] keeps a fabric as lists of [`Node`]s
 //! and cables and follows the definition; [`CountingWire`] and [`SilencedWire`] stand round another wire. [`get_attribute`] and
-//! [`set_attribute`] read and set one attribute over any wire, and [`read_reply`] reports what one reply means. The walk is that
-//! of directed-route SMPs of the IBA volume 1, 14.2.1.2 and chapter 14.
+//! [`set_attribute`] read and set one attribute over any wire, a [`Session`] does so under one TransactionID after the other, and
+//! [`read_reply`] reports what one reply means. The walk is that of directed-route SMPs of the IBA volume 1, 14.2.1.2 and
+//! chapter 14.
 //!
 //! Whom data packets reach by the tables that a fabric holds: `specs/Deliveries.antt` says which ports of channel adapters a
 //! packet reaches, whatever stands in the tables: those to which some walk leads by what switches hold, and that accept its key.
@@ -23,6 +24,7 @@ mod numbers;
 mod plain_wire;
 mod reply;
 mod request;
+mod session;
 mod walking;
 mod wire;
 mod wrappers;
@@ -42,6 +44,7 @@ pub use crate::numbers::Numbers;
 pub use crate::plain_wire::PlainWire;
 pub use crate::reply::{ReplyFault, read_reply};
 pub use crate::request::{get_request, set_request};
+pub use crate::session::Session;
 pub use crate::walking::{Arrival, agent_at, is_sent, is_switch_at};
 pub use crate::wire::SmpWire;
 pub use crate::wrappers::{CountingWire, SilencedWire};

@@ -58,8 +58,8 @@ one_more old next new command rest names is through = record {
 -- ---- from the start
 uncut_at_start : (inventory : InventoryState) (up : BroughtUpState) → IsUp inventory up → cabling_of up.fabric ≡ uncut inventory.plan.cables
 uncut_at_start inventory up is =
-    let cables : up.fabric.cables ≡ inventory.plan.cables = ap (λ (one : FabricState). one.cables) is.is in
-    let cut : up.fabric.cut ≡ [] = ap (λ (one : FabricState). one.cut) is.is in
+    let cables : up.fabric.cables ≡ inventory.plan.cables = ap (λ (one : FabricState). one.cables) is.0.is in
+    let cut : up.fabric.cut ≡ [] = ap (λ (one : FabricState). one.cut) is.0.is in
     λ i. record { cables = cables i; cut = cut i }
 
 pub left_from_start : (old new : SubnetState) (commands : List Command) → IsStarted old → IsThrough commands old new → StaysUp new
@@ -80,7 +80,8 @@ left_from_start old new commands started through stays =
             (subst (λ (was : CablingState). AreCabledAfter old.inventory.plan commands was (cabling_of new.fabric))
             (uncut_at_start old.inventory (up_in old) started.up) through.cabling);
         served = subst (λ (state : Administration). IsServed new.inventory.plan new.inventory.configuration.ports state.remembered.partitions new.routes new.fabric)
-            own (stays whole);
+            own (stays whole).0;
+        ruled = (stays whole).1;
       };
     }
 
@@ -141,3 +142,4 @@ one_fabric_is_left inventory commands one other inventoried is is_too =
     one_fabric_is_served inventory.plan inventory.configuration.ports (remembered_after inventory.configuration commands).remembered.partitions one.routes
     other.routes one.fabric other.fabric inventoried.topology is.served is_too.served
     (one_follows_all inventory.plan commands _ (cabling_of one.fabric) (cabling_of other.fabric) is.cabling is_too.cabling)
+    (is_too.ruled ∙ sym is.ruled)

@@ -283,6 +283,7 @@ module _ (inventory : InventoryState) (routes : RoutesState) (old : RegistryStat
             (state_after port payload (port_with_guid inventory.configuration.ports port) refl);
         served = subst (λ (configuration : ConfigurationState).
             IsServed inventory.plan configuration.ports new.administration.remembered.partitions routes left) configured served.served;
+        ruled = stands.ruled;
       }
 
 -- ---- before the first command
@@ -293,7 +294,7 @@ stands_at_start inventory up registry is by same =
     let configured = ap (λ (registry : RegistryState). registry.configuration) same in
     let administration = ap (λ (registry : RegistryState). registry.administration) same in
     let brought : IsBroughtUpBy inventory.plan (all_keys (ports_of is.partitions inventory.plan)) up.routes up.fabric =
-    subst (λ (configuration : ConfigurationState). IsBroughtUpBy inventory.plan (all_keys configuration.ports) up.routes up.fabric) is.listed by in
+    subst (λ (configuration : ConfigurationState). IsBroughtUpBy inventory.plan (all_keys configuration.ports) up.routes up.fabric) is.listed by.0 in
     record {
       inventoried = is;
       configured = configured;
@@ -302,4 +303,5 @@ stands_at_start inventory up registry is by same =
       served = subst (λ (state : Administration). IsServed inventory.plan inventory.configuration.ports state.remembered.partitions up.routes up.fabric) (sym administration)
           (subst (λ (configuration : ConfigurationState). IsServed inventory.plan configuration.ports (start_of configuration) up.routes up.fabric) (sym is.listed)
           (starts_are_served inventory.plan is.partitions up.routes up.fabric is.topology is.sound brought));
+      ruled = by.1;
     }

@@ -1,5 +1,5 @@
 -- A command to cut a cable, or to mend it; and what any command leaves of a subnet.
-use Rattle.std.proofs.Common.{◌≡◌, ap, refl, subst, sym, Bool, false, List, [], map}
+use Rattle.std.proofs.Common.{◌≡◌, ◌∙◌, ap, refl, subst, sym, Bool, false, List, [], map}
 use Rattle.fabric_wire.specs.Recabling.{cabling_of}
 use Rattle.sa_store.specs.Registry.{RegistryState}
 use Rattle.subnet_core.specs.Served.{IsServed, Serves}
@@ -19,7 +19,7 @@ use Rattle.subnet_fabric.specs.declared.event.Event.{Event}
 use Rattle.updn_routes.specs.Subnet.{RoutesState}
 
 module _ (inventory : InventoryState) (routes : RoutesState) (registry : RegistryState) (was : FabricState) (stands : Stands inventory routes registry was)
-    (next : RoutesState) (left : FabricState) (serves : Serves inventory.plan next registry left) where
+    (next : RoutesState) (left : FabricState) (serves : Serves inventory.plan next registry left) (same_rule : next.between.rule ≡ routes.between.rule) where
   -- who is in the subnet stays, and so does what is remembered
   stands_with : Stands inventory next registry left
   stands_with = record {
@@ -29,6 +29,7 @@ module _ (inventory : InventoryState) (routes : RoutesState) (registry : Registr
     state = stands.state;
     served = subst (λ (configuration : ConfigurationState). IsServed inventory.plan configuration.ports registry.administration.remembered.partitions next left)
         stands.configured serves.served;
+    ruled = same_rule ∙ stands.ruled;
   }
 
   pub steps_by_cable : (command : CableCommand) (events : List Event) → events ≡ []

@@ -10,7 +10,7 @@ use Rattle.subnet_fabric.specs.BringUp.{BroughtUpState}
 use Rattle.subnet_core.specs.BringUp.{Becomes, HasNoPathOf, IsStopped, IsUp}
 use Rattle.subnet_core.specs.Fate.{up_from}
 use Rattle.subnet_core.specs.Laws.{OneThingBecomesOfAFabric, TextsHaveOneAnswer}
-use Rattle.subnet_core.specs.Inventory.{InventoryState, of_text, partitions_for, inventory_of, inventoried}
+use Rattle.subnet_core.specs.Inventory.{InventoryState, of_text, partitions_for, inventory_of, inventoried, inventory_by}
 use Rattle.subnet_core.specs.Run.{report_of, reported_of}
 use Rattle.script_lines.specs.Script.{commands_in}
 use Rattle.subnet_core.specs.declared.fault.RunFault.{RunFault}
@@ -26,6 +26,8 @@ use Rattle.sweep.specs.Hops.{IsTooFar}
 use Rattle.sweep.specs.declared.fault.SweepFault.TheVariants as sweep
 use Rattle.topo_file.specs.Sound.{IsSound}
 use Rattle.topo_file.specs.Topology.{topology_of}
+use Rattle.updn_routes.specs.declared.tie_rule.TieRule.{TieRule}
+use Rattle.updn_routes.specs.declared.tie_rule.TieRule.TheVariants.{LeastPort}
 
 -- ---- an inventory that texts give is of a sound topology, and lists ports in order of LID
 record IsPlanned (inventory : InventoryState) : Type 0 where
@@ -36,12 +38,12 @@ reported : {X Cause : Type 0} (fault : ℕ → Cause → RunFault) (r : Result X
 reported fault (Ok y) x h = ap (λ (z : _). Ok z) (same_ok y x h)
 reported fault (Err at) x h = absurd cc
 
-planned : (topology : List ℕ) (partitions : Option (List ℕ)) (inventory : InventoryState) → inventory_of topology partitions ≡ Ok inventory
+planned : (rule : TieRule) (topology : List ℕ) (partitions : Option (List ℕ)) (inventory : InventoryState) → inventory_by rule topology partitions ≡ Ok inventory
     → IsPlanned inventory
-unfolding inventory_of
-planned topology partitions inventory h =
+unfolding inventory_by
+planned rule topology partitions inventory h =
     let plan = bind_ok (of_text Topology (topology_of topology)) _ inventory h in
-    let all = bind_done (partitions_for partitions) (inventoried plan.0) inventory plan.2 in
+    let all = bind_done (partitions_for partitions) (inventoried rule plan.0) inventory plan.2 in
     let sound = topology_is_sound topology plan.0 (reported Topology (topology_of topology) plan.0 plan.1) in
     subst IsPlanned all.2 (record { sound = sound; order = (end_ports_stand_in_order all.0 plan.0 sound).lids })
 
@@ -108,10 +110,10 @@ one_fault inventory fault other is (inr gone) (inr too) =
 not_up : (inventory : InventoryState) (fault : RunFault) (up : BroughtUpState) → IsPlanned inventory → IsFar inventory fault ⊎ IsWithoutPath inventory fault
     → IsUp inventory up → ⊥
 not_up inventory fault up is (inl far) by =
-    (too_far_excludes_the_rest inventory.plan (all_keys inventory.configuration.ports) up.fabric 0 0 far.far).1 (record { routes = up.routes; by = by })
+    (too_far_excludes_the_rest inventory.plan (all_keys inventory.configuration.ports) up.fabric 0 0 far.far).1 (record { routes = up.routes; by = by.0 })
 not_up inventory fault up is (inr gone) by =
     no_path_excludes_coming_up inventory.plan (all_keys inventory.configuration.ports) up.fabric gone.none.from.lid gone.none.to.lid is.sound gone.none.none
-    (record { routes = up.routes; by = by })
+    (record { routes = up.routes; by = by.0 })
 
 one_stop : (inventory : InventoryState) (stop other : Option RunFault) → IsPlanned inventory → Becomes (Ok inventory) stop → Becomes (Ok inventory) other
     → stop ≡ other
@@ -122,8 +124,8 @@ one_stop inventory (Some fault) (Some other) is stopped too =
     ap (λ (fault : RunFault). Some fault) (one_fault inventory fault other is (why inventory fault stopped) (why inventory other too))
 
 pub one_thing_becomes_of_a_fabric : OneThingBecomesOfAFabric
-one_thing_becomes_of_a_fabric topology partitions inventory stop other given one two =
-    one_stop inventory stop other (planned topology partitions inventory given) one two
+one_thing_becomes_of_a_fabric rule topology partitions inventory stop other given one two =
+    one_stop inventory stop other (planned rule topology partitions inventory given) one two
 
 -- ---- answers
 same_up : (given : Result InventoryState RunFault) (stop other : Option RunFault)
@@ -138,4 +140,4 @@ unfolding report_of
 texts_have_one_answer topology partitions script stop other one two =
     ap (λ (up : Result InventoryState RunFault).
     up >>= λ inventory. of_text Script (commands_in inventory.plan script) >>= λ commands. Ok (reported_of inventory.configuration commands))
-    (same_up (inventory_of topology partitions) stop other (λ inventory. one_thing_becomes_of_a_fabric topology partitions inventory stop other) one two)
+    (same_up (inventory_of topology partitions) stop other (λ inventory. one_thing_becomes_of_a_fabric LeastPort topology partitions inventory stop other) one two)

@@ -28,7 +28,7 @@ use Rattle.subnet_core.specs.declared.fault.RunFault.{RunFault}
 use Rattle.subnet_core.specs.Headline.{KeepsPartitionsApart, RecordsComeFromNear}
 use Rattle.subnet_core.specs.Laws.{NearIsListed, StreamsKeepPartitionsApart, TwoRunsAgree}
 use Rattle.subnet_core.specs.Stream.{commands_before_fault}
-use Rattle.subnet_core.specs.Inventory.{GiveInventories, InventoryState, partitions_for, inventory_of, inventoried}
+use Rattle.subnet_core.specs.Inventory.{GiveInventories, InventoryState, partitions_for, inventory_of, inventoried, inventory_by}
 use Rattle.subnet_core.specs.Run.{ReportState, report_of, reported_of}
 use Rattle.script_lines.specs.Script.{commands_in}
 use Rattle.subnet_fabric.specs.Ports.{configuration_of, ports_of}
@@ -39,16 +39,17 @@ use Rattle.subnet_core.proofs.CarryLemmas.{commands_carry_bytes, lines_carry_byt
 use Rattle.sa_replies.proofs.RunDataLemmas.{data_of_runs_is_noted}
 use Rattle.sa_replies.specs.RunData.{CarriesBytes}
 use Rattle.subnet_fabric.proofs.LidLemmas.{own_lids}
+use Rattle.updn_routes.specs.declared.tie_rule.TieRule.TheVariants.{LeastPort}
 
 -- the inventory of texts that are accepted
 inventories : (topology : List ℕ) (partitions : Option (List ℕ)) (plan : TopologyState) (all : List Partition) → topology_of topology ≡ Ok plan
-    → partitions_for partitions ≡ Ok all → inventory_of topology partitions ≡ Ok (inventoried plan all)
-unfolding inventory_of
+    → partitions_for partitions ≡ Ok all → inventory_of topology partitions ≡ Ok (inventoried LeastPort plan all)
+unfolding inventory_by
 inventories topology partitions plan all e p = rw (e, p) refl
 
 -- a run that is answered is not stopped, and reports what its commands bring about
 reported : (topology script : List ℕ) (partitions : Option (List ℕ)) (stop : Option RunFault) (r : ReportState) (plan : TopologyState) (all : List Partition) (commands : List Command)
-    → inventory_of topology partitions ≡ Ok (inventoried plan all) → commands_in plan script ≡ Ok commands
+    → inventory_of topology partitions ≡ Ok (inventoried LeastPort plan all) → commands_in plan script ≡ Ok commands
     → report_of topology partitions script stop ≡ Ok r → reported_of (configuration_of all plan) commands ≡ r
 unfolding report_of up_from
 reported topology script partitions None r plan all commands is f h =
@@ -103,16 +104,16 @@ pub kept_apart : (topology script : List ℕ) (partitions : Option (List ℕ)) (
     → GiveInventories topology partitions → KeepsPartitionsApart topology partitions script r.events
 kept_apart topology script partitions stop r h given = λ plan all commands e p f q.
     let are = inventories topology partitions plan all e p in
-    let is = given (inventoried plan all) are in
+    let is = given (inventoried LeastPort plan all) are in
     let same : reported_of (configuration_of all plan) commands ≡ r = reported topology script partitions stop r plan all commands are f h in
     let events = ap (λ (t : ReportState). t.events) (sym same) in
     let apart =
     subst (λ (some : List PortEvent). DependsOnNear subnet_administration (configuration_of all plan) q commands some
     × HaveSlidsNear (ports_of all plan) q some) (sym events) (runs_are_isolated (configuration_of all plan) commands q) in
-    let own = own_lids 1 (ports_of all plan) (lids_in_order (inventoried plan all) is) in (
+    let own = own_lids 1 (ports_of all plan) (lids_in_order (inventoried LeastPort plan all) is) in (
       apart.0,
       slids_name_their_ports (ports_of all plan) q r.events own apart.1,
-      records_are (configuration_of all plan) q commands r.events (inventory_is_configured (inventoried plan all) is) (commands_carry_bytes plan script commands f) events,
+      records_are (configuration_of all plan) q commands r.events (inventory_is_configured (inventoried LeastPort plan all) is) (commands_carry_bytes plan script commands f) events,
     )
 
 pub answered_apart : (topology script : List ℕ) (partitions : Option (List ℕ)) (result : Result ReportState RunFault)

@@ -15,6 +15,7 @@ pub mod AnswerLemmas
 pub mod OnceLemmas
 pub mod AskLemmas
 pub mod WrongLemmas
+pub mod StepLawLemmas
 pub mod ComparisonLemmas
 pub mod SameLemmas
 pub mod PutLemmas

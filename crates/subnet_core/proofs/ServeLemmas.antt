@@ -27,10 +27,10 @@ use Rattle.subnet_core.specs.Served.{IsServed, Serves, receives_at}
 use Rattle.subnet_core.specs.MlidRanges.{CanBePushed, ranges_pushed, where_in}
 
 pub one_fabric_is_served : OneFabricIsServed
-one_fabric_is_served plan ports partitions routes others one other sound first second same =
+one_fabric_is_served plan ports partitions routes others one other sound first second same ruled =
     let bases = sym (ap cabling_of first.masks) ∙ same ∙ ap cabling_of second.masks in
     first.masks
-    ∙ one_fabric_stands plan (all_keys ports) routes others (receives_at ports partitions) first.base second.base sound first.stands second.stands bases
+    ∙ one_fabric_stands plan (all_keys ports) routes others (receives_at ports partitions) first.base second.base sound first.stands second.stands bases ruled
     ∙ sym second.masks
 
 -- ---- it is up, so SMPs find their way in it

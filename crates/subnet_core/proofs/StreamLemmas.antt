@@ -13,7 +13,7 @@ use Rattle.std.specs.Prelude.{IfOk}
 use Rattle.subnet_core.proofs.BringUpLemmas.{same_inventory}
 use Rattle.subnet_core.specs.BringUp.{Becomes, IsStopped}
 use Rattle.subnet_core.specs.Fate.{FailsWith, WithFabric, up_from}
-use Rattle.subnet_core.specs.Inventory.{InventoryState, fault_in, of_text, partitions_for, inventory_of}
+use Rattle.subnet_core.specs.Inventory.{InventoryState, fault_in, of_text, partitions_for, inventory_of, inventory_by}
 use Rattle.subnet_core.specs.Stream.{CarriesOut, EndsSo, commands_before_fault, judged, report_so_far, reported_of_lines}
 use Rattle.subnet_core.specs.StreamSteps.{Carries, Puts, ReadsOn, StopsSo, StreamState, first_fault, lines_behind, reported_from}
 use Rattle.subnet_core.specs.declared.fault.RunFault.{RunFault}
@@ -136,7 +136,7 @@ partitions_other None fault is = absurd cc
 partitions_other (Some text) fault is = of_text_other Partitions (λ line cause. tt) _ fault is
 
 inventory_other : (topology : List ℕ) (partitions : Option (List ℕ)) (fault : RunFault) → inventory_of topology partitions ≡ Err fault → IsOther fault
-unfolding inventory_of
+unfolding inventory_by
 inventory_other topology partitions fault is = by (of_text Topology (topology_of topology)) refl (partitions_for partitions) refl
   where
     by : (read : Result TopologyState RunFault) → of_text Topology (topology_of topology) ≡ read → (all : Result (List Partition) RunFault) → partitions_for partitions ≡ all

@@ -42,10 +42,10 @@ StartsAreServed =
     → IsSound plan → ArePartitions partitions → IsBroughtUpBy plan (all_keys (ports_of partitions plan)) routes fabric
     → IsServed plan (ports_of partitions plan) (start_of (configuration_of partitions plan)) routes fabric
 
--- with the same cables in place it is served by one set of masks: nothing else than who receives decides what the fabric is, and
--- not the order in which a sweep found the switches either
+-- with the same cables in place and by one rule of ties it is served by one set of masks: nothing else than who receives decides what
+-- the fabric is, and not the order in which a sweep found the switches either
 abbrev pub OneFabricIsServed : Type 0
 OneFabricIsServed =
     (plan : TopologyState) (ports : List SubnetPort) (partitions : List PartitionGroups) (routes others : RoutesState) (one other : FabricState)
     → IsSound plan → IsServed plan ports partitions routes one → IsServed plan ports partitions others other
-    → cabling_of one ≡ cabling_of other → one ≡ other
+    → cabling_of one ≡ cabling_of other → others.between.rule ≡ routes.between.rule → one ≡ other

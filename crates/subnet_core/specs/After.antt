@@ -16,16 +16,18 @@ use Rattle.subnet_core.specs.Inventory.{InventoryState, fault_in, of_text}
 use Rattle.subnet_core.specs.declared.fault.RunFault.{RunFault}
 use Rattle.subnet_core.specs.declared.fault.RunFault.TheVariants.{Script}
 use Rattle.subnet_fabric.specs.BringUp.{BroughtUpState}
+use Rattle.subnet_fabric.specs.SetUp.{IsByRule}
 use Rattle.subnet_model.specs.Report.{state_from, step_by}
 use Rattle.subnet_model.specs.declared.command.Command.{Command}
 use Rattle.topo_file.specs.Topology.{TopologyState}
 
 -- the cables are in place that these commands left, one after another from the start, and with them the fabric stands, its masks
--- being those of exactly the ports that receive what is sent to groups then
+-- being those of exactly the ports that receive what is sent to groups then, by the rule of ties that was asked for
 pub record IsUpAfter (inventory : InventoryState) (commands : List Command) (up : BroughtUpState) : Type 0 where
   pub cabling : AreCabledAfter inventory.plan commands (uncut inventory.plan.cables) (cabling_of up.fabric)
   pub served : IsServed inventory.plan inventory.configuration.ports (remembered_after inventory.configuration commands).remembered.partitions
       up.routes up.fabric
+  pub ruled : IsByRule inventory.rule up.routes
 
 -- how a subnet that takes commands one after another comes there: who is in it stays, and so does that it is whole; what is
 -- remembered is the definition's, and so is which cables are in place

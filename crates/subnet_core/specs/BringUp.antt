@@ -7,6 +7,7 @@ use Rattle.subnet_core.specs.declared.fault.RunFault.TheVariants.{NoMemory, Topo
 use Rattle.subnet_core.specs.Inventory.{IsInventoried, InventoryState}
 use Rattle.subnet_fabric.specs.BringUp.{HasNoPath, IsBroughtUpBy, IsUnfound, BroughtUpState}
 use Rattle.subnet_fabric.specs.Laws.{all_keys}
+use Rattle.subnet_fabric.specs.SetUp.{IsByRule}
 use Rattle.sa_store.specs.Registry.{RegistryState}
 use Rattle.subnet_core.specs.Served.{IsServed}
 use Rattle.sa_replies.specs.Answer.{Administration}
@@ -20,8 +21,9 @@ use Rattle.updn_routes.specs.Subnet.{RoutesState}
 abbrev pub IsUpOver : TopologyState → List SubnetPort → BroughtUpState → Type 0
 IsUpOver plan ports up = IsBroughtUpBy plan (all_keys ports) up.routes up.fabric
 
+-- and by the rule of ties that is asked for
 abbrev pub IsUp : InventoryState → BroughtUpState → Type 0
-IsUp inventory up = IsUpOver inventory.plan inventory.configuration.ports up
+IsUp inventory up = IsUpOver inventory.plan inventory.configuration.ports up × IsByRule inventory.rule up.routes
 
 -- a subnet that runs: who is in it, its fabric and the routes in that, and what subnet administration remembers; after memory
 -- was refused it is broken
@@ -36,12 +38,13 @@ abbrev pub up_in : SubnetState → BroughtUpState
 up_in subnet = record { routes = subnet.routes; fabric = subnet.fabric }
 
 -- if it is not broken, its fabric stands with the cables that are in place, with the masks of exactly those who receive what
--- is sent to groups by the memberships held
+-- is sent to groups by the memberships held; and its routes are by the rule of ties that was asked for
 abbrev pub StaysUp : SubnetState → Type 0
 StaysUp subnet =
     subnet.is_broken ≡ false
     → IsServed subnet.inventory.plan subnet.inventory.configuration.ports subnet.administration.remembered.partitions subnet.routes
     subnet.fabric
+    × IsByRule subnet.inventory.rule subnet.routes
 
 -- a registry and a fabric stand as the inventory says, and the registry serves the fabric
 pub record Stands (inventory : InventoryState) (routes : RoutesState) (registry : RegistryState) (fabric : FabricState) : Type 0 where
@@ -50,6 +53,7 @@ pub record Stands (inventory : InventoryState) (routes : RoutesState) (registry 
   pub whole : registry.is_broken ≡ false
   pub state : IsStateOf inventory.configuration registry.administration
   pub served : IsServed inventory.plan inventory.configuration.ports registry.administration.remembered.partitions routes fabric
+  pub ruled : IsByRule inventory.rule routes
 
 -- before its first command
 pub record IsStarted (subnet : SubnetState) : Type 0 where

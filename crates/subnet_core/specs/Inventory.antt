@@ -14,14 +14,17 @@ use Rattle.subnet_model.specs.Configuration.{ConfigurationState}
 use Rattle.subnet_fabric.specs.Ports.{configuration_of}
 use Rattle.topo_file.specs.Sound.{IsSound}
 use Rattle.topo_file.specs.Topology.{TopologyState, topology_of, topology_within}
+use Rattle.updn_routes.specs.declared.tie_rule.TieRule.{TieRule}
+use Rattle.updn_routes.specs.declared.tie_rule.TieRule.TheVariants.{LeastPort}
 
--- nodes and cables; and the end ports by LID with their keys, and the partitions
+-- nodes and cables; the end ports by LID with their keys, and the partitions; and which of its ties a switch is to take
 pub record InventoryState : Type 0 where
   pub plan : TopologyState
   pub configuration : ConfigurationState
+  pub rule : TieRule
 
-abbrev pub inventoried : TopologyState → List Partition → InventoryState
-inventoried plan partitions = record { plan = plan; configuration = configuration_of partitions plan }
+abbrev pub inventoried : TieRule → TopologyState → List Partition → InventoryState
+inventoried rule plan partitions = record { plan = plan; configuration = configuration_of partitions plan; rule = rule }
 
 -- some partitions are those that it lists
 pub record IsInventoried (inventory : InventoryState) : Type 0 where
@@ -41,18 +44,22 @@ partitions_for (Some text) = of_text Partitions (partitions_of text)
 partitions_for None = Ok no_file
 
 -- the topology is read first
-unfoldable pub inventory_of : List ℕ → Option (List ℕ) → Result InventoryState RunFault
-inventory_of topology partitions = do
+unfoldable pub inventory_by : TieRule → List ℕ → Option (List ℕ) → Result InventoryState RunFault
+inventory_by rule topology partitions = do
   plan ← of_text Topology (topology_of topology)
   all ← partitions_for partitions
-  Ok (inventoried plan all)
+  Ok (inventoried rule plan all)
+
+-- by the rule that is taken if none is asked for
+abbrev pub inventory_of : List ℕ → Option (List ℕ) → Result InventoryState RunFault
+inventory_of topology partitions = inventory_by LeastPort topology partitions
 
 -- the same of a topology of any size, whose fabric need not be simulated
 unfoldable pub large_inventory_of : List ℕ → Option (List ℕ) → Result InventoryState RunFault
 large_inventory_of topology partitions = do
   plan ← of_text Topology (topology_within Large topology)
   all ← partitions_for partitions
-  Ok (inventoried plan all)
+  Ok (inventoried LeastPort plan all)
 
 -- what they give is an inventory
 abbrev pub GiveInventories : List ℕ → Option (List ℕ) → Type 0

@@ -6,7 +6,7 @@ use Rattle.sa_replies.specs.Administration.{subnet_administration}
 use Rattle.subnet_core.specs.After.{IsUpAfter}
 use Rattle.subnet_core.specs.BringUp.{Becomes}
 use Rattle.subnet_core.specs.Headline.{RecordsComeFromNear}
-use Rattle.subnet_core.specs.Inventory.{IsInventoried, InventoryState, inventory_of}
+use Rattle.subnet_core.specs.Inventory.{InventoryState, IsInventoried, inventory_by, inventory_of}
 use Rattle.subnet_core.specs.Run.{ReportState, report_of, reported_of}
 use Rattle.subnet_core.specs.Stream.{commands_before_fault}
 use Rattle.subnet_fabric.specs.BringUp.{BroughtUpState}
@@ -18,6 +18,7 @@ use Rattle.subnet_model.specs.Source.{ComesFromNear}
 use Rattle.script_lines.specs.Script.{commands_in}
 use Rattle.subnet_core.specs.Senders.{NamesSender}
 use Rattle.subnet_core.specs.declared.fault.RunFault.{RunFault}
+use Rattle.updn_routes.specs.declared.tie_rule.TieRule.{TieRule}
 
 -- each command that a script gives names a port of a channel adapter that the inventory lists
 abbrev pub EachCommandNamesASender : Type 0
@@ -28,8 +29,8 @@ EachCommandNamesASender =
 -- no inventory's fabric both comes up and is stopped, and no two faults stop it
 abbrev pub OneThingBecomesOfAFabric : Type 0
 OneThingBecomesOfAFabric =
-    (topology : List ℕ) (partitions : Option (List ℕ)) (inventory : InventoryState) (stop other : Option RunFault)
-    → inventory_of topology partitions ≡ Ok inventory → Becomes (Ok inventory) stop → Becomes (Ok inventory) other → stop ≡ other
+    (rule : TieRule) (topology : List ℕ) (partitions : Option (List ℕ)) (inventory : InventoryState) (stop other : Option RunFault)
+    → inventory_by rule topology partitions ≡ Ok inventory → Becomes (Ok inventory) stop → Becomes (Ok inventory) other → stop ≡ other
 
 -- so what a run answers is one function of its texts
 abbrev pub TextsHaveOneAnswer : Type 0

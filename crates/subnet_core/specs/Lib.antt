@@ -19,6 +19,7 @@ pub mod RunsAgain
 pub mod Stream
 pub mod StreamSteps
 pub mod WrongRules
+pub mod StepLaws
 pub mod MlidRanges
 pub mod Served
 pub mod AdministrationLaws

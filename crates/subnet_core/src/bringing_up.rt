@@ -5,7 +5,7 @@ ghost use Rattle.std.specs.List.{Contains};
 ghost use Rattle.std.specs.Option.{option_copied};
 ghost use Rattle.subnet_core.specs.BringUp.{Becomes, ComesTo, IsStarted};
 ghost use Rattle.subnet_core.specs.Fate.{Answers, up_from};
-ghost use Rattle.subnet_core.specs.Inventory.{IsInventoried, inventory_of};
+ghost use Rattle.subnet_core.specs.Inventory.{IsInventoried, inventory_by, inventory_of};
 ghost use Rattle.subnet_fabric.specs.BringUp.{HasNoPath, Stops};
 ghost use Rattle.subnet_fabric.specs.Laws.{all_keys};
 ghost use Rattle.subnet_model.specs.Configured.{HaveLidsInOrder};
@@ -17,6 +17,7 @@ use pkey_rules::{KeyTable, PARTITIONS};
 use std::alloc::{AllocError, Global};
 use subnet_fabric::{BroughtUp, FabricFault, bring_up_fabric};
 use subnet_model::{NodeName, SubnetPort};
+use updn_routes::TieRule;
 
 /// Brings up the subnet of a topology under a partition file: names its ports by LIDs, and has their LIDs, their keys and
 /// the ways of packets between them written into its fabric. Without a file every end port is a full member of the
@@ -31,7 +32,22 @@ pub fn bring_up(
     ensures started { IfOk result IsStarted }
     ensures inventoried { IfOk result (λ subnet. IsInventoried subnet.inventory) }
 {
-    let inventory = read_inventory(alloc, topology, partitions)?;
+    bring_up_by(alloc, topology, partitions, TieRule::LeastPort)
+}
+
+/// The same with routes by that rule of ties; [`bring_up`] takes the least of several ports that lead equally far.
+pub fn bring_up_by(
+    alloc: Global,
+    topology: &[u8],
+    partitions: Option<&[u8]>,
+    rule: TieRule,
+) -> Result<Subnet, RunFault>
+    ensures exact { Answers (λ subnet. subnet.inventory) result (Becomes (inventory_by rule topology.now (option_copied partitions.entry)))
+        (up_from (inventory_by rule topology.now (option_copied partitions.entry))) }
+    ensures started { IfOk result IsStarted }
+    ensures inventoried { IfOk result (λ subnet. IsInventoried subnet.inventory) }
+{
+    let inventory = read_inventory(alloc, topology, partitions, rule)?;
     let up = fabric_of(alloc, &inventory)?;
     inventory.known_listed();
     Ok(Subnet::new(alloc, inventory, up)?)
@@ -42,7 +58,7 @@ fn fabric_of(alloc: Global, inventory: &Inventory) -> Result<BroughtUp, RunFault
     ensures { ComesTo inventory.now result }
 {
     let keys = keys_of(alloc, inventory.configuration().ports())?;
-    match bring_up_fabric(alloc, inventory.topology(), &keys) {
+    match bring_up_fabric(alloc, inventory.topology(), &keys, inventory.rule()) {
         Ok(up) => Ok(up),
         Err(fault) => Err(reported(inventory, fault)),
     }

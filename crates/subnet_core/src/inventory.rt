@@ -4,7 +4,7 @@ ghost use Rattle.std.specs.Prelude.{◌≡◌, IfOk};
 ghost use Rattle.std.specs.Option.{option_copied};
 ghost use Rattle.subnet_core.specs.Listing.{listing_text};
 ghost use Rattle.script_lines.specs.NamedPort.{adapter_place, named_adapter_port, named_port};
-ghost use Rattle.subnet_core.specs.Inventory.{IsInventoried, RunGives, of_text, partitions_for, inventory_of};
+ghost use Rattle.subnet_core.specs.Inventory.{IsInventoried, RunGives, of_text, partitions_for, inventory_by};
 ghost use Rattle.subnet_core.specs.declared.fault.RunFault.TheVariants as run;
 ghost use Rattle.topo_file.specs.Topology.{topology_of};
 
@@ -18,13 +18,16 @@ use std::marker::Model;
 use subnet_fabric::configuration_of;
 use subnet_model::Configuration;
 use topo_file::{TopoFault, Topology};
+use updn_routes::TieRule;
 
-/// A topology under a partition file: its end ports by LID, with their names and keys, and its partitions.
+/// A topology under a partition file: its end ports by LID, with their names and keys, and its partitions. And the rule of ties by
+/// which its routes are to be.
 #[derive(Debug, Drop)]
 pub struct Inventory {
     alloc: Global,
     topology: Topology,
     configuration: Configuration,
+    rule: TieRule,
 }
 
 impl Model for Inventory {
@@ -32,20 +35,22 @@ impl Model for Inventory {
 
     ghost Value = { InventoryState };
 
-    ghost view = { λ inventory. record { plan = inventory.topology; configuration = inventory.configuration } };
+    ghost view = { λ inventory. record { plan = inventory.topology; configuration = inventory.configuration; rule = inventory.rule } };
 
-    ghost invariant = { λ inventory. IsInventoried (record { plan = inventory.topology; configuration = inventory.configuration }) };
+    ghost invariant = { λ inventory.
+        IsInventoried (record { plan = inventory.topology; configuration = inventory.configuration; rule = inventory.rule }) };
 }
 
 /// Reads the texts of a topology and of partitions. Without the second every end port is a full member of the default
-/// partition.
-#[tactic(auto, unfolding(crate::specs::Inventory::inventory_of))]
+/// partition. Routes are to be by that rule of ties.
+#[tactic(auto, unfolding(crate::specs::Inventory::inventory_by))]
 pub fn read_inventory(
     alloc: Global,
     topology: &[u8],
     partitions: Option<&[u8]>,
+    rule: TieRule,
 ) -> Result<Inventory, RunFault>
-    ensures { RunGives (λ inventory. inventory) result (inventory_of topology.now (option_copied partitions.entry)) }
+    ensures { RunGives (λ inventory. inventory) result (inventory_by rule topology.now (option_copied partitions.entry)) }
 {
     let topology = topology_of(alloc, topology)?;
     let partitions = partitions_for(alloc, partitions)?;
@@ -57,6 +62,7 @@ pub fn read_inventory(
         alloc,
         topology,
         configuration,
+        rule,
     })
 }
 
@@ -96,6 +102,13 @@ impl Inventory {
         ensures { result.now ≡ self.now.configuration }
     {
         &self.configuration
+    }
+
+    /// Which of its ties a switch is to take.
+    pub fn rule(&self) -> TieRule
+        ensures { result ≡ self.now.rule }
+    {
+        self.rule
     }
 
     /// The GUID of the end port that a word names as the listing prints it: a port of a channel adapter that has a

@@ -32,10 +32,11 @@ impl Model for LargeInventory {
     ghost use Rattle.fabric_parts.specs.declared.lid.TheConstants.{LAST_UNICAST_LID};
     ghost use Rattle.partition_file.specs.Members.{AreSoundHeadings};
     ghost use Rattle.subnet_core.specs.Inventory.{InventoryState};
+    ghost use Rattle.updn_routes.specs.declared.tie_rule.TieRule.TheVariants.{LeastPort};
 
     ghost Value = { InventoryState };
 
-    ghost view = { λ inventory. record { plan = inventory.topology; configuration = inventory.configuration } };
+    ghost view = { λ inventory. record { plan = inventory.topology; configuration = inventory.configuration; rule = LeastPort } };
 
     ghost invariant = { λ inventory. (length inventory.configuration.ports ≤ LAST_UNICAST_LID)
         × AreSoundHeadings inventory.configuration.partitions };

@@ -2,6 +2,7 @@
 //! does nothing.
 
 ghost use Rattle.subnet_core.specs.Laws.{EachCommandNamesASender, NearIsListed, OneFabricIsLeft, OneThingBecomesOfAFabric, StreamsKeepPartitionsApart, TextsHaveOneAnswer, TwoRunsAgree};
+ghost use Rattle.subnet_core.specs.StepLaws.{DeliveriesAreReported, RefusedCutsChangeNothing, WrongStepsAreRefused};
 ghost use Rattle.subnet_core.specs.WholeLines.{ReportLinesAreWhole};
 ghost use Rattle.subnet_core.specs.WrongRules.{AllPortsAreNotNear, CountedEventsReportOfFarPorts};
 
@@ -58,4 +59,21 @@ pub fn near_is_listed()
 /// A list of all ports is no list of near ports: of two ports that share no partition neither is near the other.
 pub fn all_ports_are_not_near()
     ensures { AllPortsAreNotNear }
+{}
+
+/// A `cut` or a `mend` that changes no cable, as one that is refused, leaves the routes, all tables and what subnet administration
+/// remembers as they were.
+pub fn refused_cuts_change_nothing()
+    ensures { RefusedCutsChangeNothing }
+{}
+
+/// A packet that a port sends to other ports is reported at each port where the fabric delivers it, and nothing else is.
+pub fn deliveries_are_reported()
+    ensures { DeliveriesAreReported }
+{}
+
+/// Refused: a cut that changes no cable, but routes, or what subnet administration remembers; a report that drops a delivery,
+/// or adds an event.
+pub fn wrong_steps_are_refused()
+    ensures { WrongStepsAreRefused }
 {}

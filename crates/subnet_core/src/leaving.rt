@@ -6,28 +6,30 @@ ghost use Rattle.step_results.specs.Gives.{Fails};
 ghost use Rattle.script_lines.specs.Script.{commands_in};
 ghost use Rattle.subnet_core.specs.After.{IsLeft, IsLeftBy};
 ghost use Rattle.subnet_core.specs.BringUp.{IsStarted};
-ghost use Rattle.subnet_core.specs.Inventory.{fault_in, of_text, inventory_of};
+ghost use Rattle.subnet_core.specs.Inventory.{fault_in, of_text, inventory_by};
 ghost use Rattle.subnet_core.specs.declared.fault.RunFault.TheVariants.{Script};
 
-use crate::bringing_up::bring_up;
+use crate::bringing_up::bring_up_by;
 use crate::fault::RunFault;
 use crate::running::commands_in;
 use crate::subnet::Subnet;
 use std::alloc::Global;
+use updn_routes::TieRule;
 
 /// The subnet of a topology under a partition file, or without one, as a script leaves it, if there is one. The subnet is
-/// brought up, and the whole script is read, before anything of it is carried out; what it reports is dropped.
+/// brought up, with routes by that rule of ties, and the whole script is read, before anything of it is carried out; what it reports is dropped.
 ///
 /// Cables that it cut stay cut: so routes, tables and masks are those that packets go by after its last line.
 pub fn left_by(
     alloc: Global,
     topology: &[u8],
     partitions: Option<&[u8]>,
+    rule: TieRule,
     script: Option<&[u8]>,
 ) -> Result<Subnet, RunFault>
-    ensures { IsLeft (inventory_of topology.now (option_copied partitions.entry)) (option_copied script.entry) result }
+    ensures { IsLeft (inventory_by rule topology.now (option_copied partitions.entry)) (option_copied script.entry) result }
 {
-    let subnet = bring_up(alloc, topology, partitions)?;
+    let subnet = bring_up_by(alloc, topology, partitions, rule)?;
     match script {
         Some(script) => after(alloc, subnet, script),
         None => Ok(subnet),

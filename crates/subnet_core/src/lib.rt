@@ -49,15 +49,16 @@ pub use crate::administration_laws::{
     starts_are_served,
 };
 pub use crate::administrator::Administrator;
-pub use crate::bringing_up::bring_up;
+pub use crate::bringing_up::{bring_up, bring_up_by};
 pub use crate::comparing::{Comparison, compare};
 pub use crate::fault::{RunFault, StepFault};
 pub use crate::inventory::{Inventory, read_inventory};
 pub use crate::large_inventory::{LargeInventory, read_large_inventory};
 pub use crate::laws::{
-    all_ports_are_not_near, counted_events_report_of_far_ports, each_command_names_a_sender,
-    near_is_listed, one_fabric_is_left, one_thing_becomes_of_a_fabric, report_lines_are_whole,
-    streams_keep_partitions_apart, texts_have_one_answer, two_runs_agree,
+    all_ports_are_not_near, counted_events_report_of_far_ports, deliveries_are_reported,
+    each_command_names_a_sender, near_is_listed, one_fabric_is_left, one_thing_becomes_of_a_fabric,
+    refused_cuts_change_nothing, report_lines_are_whole, streams_keep_partitions_apart,
+    texts_have_one_answer, two_runs_agree, wrong_steps_are_refused,
 };
 pub use crate::leaving::left_by;
 pub use crate::managing::{manage, up_text};

@@ -4,6 +4,7 @@ ghost use Rattle.std.specs.Prelude.{◌≡◌, ◌≤◌, ◌++◌, length, IfOk
 ghost use Rattle.subnet_core.specs.Managing.{count_text, guids_in, not_enforcing_text, up_line, up_text};
 ghost use Rattle.subnet_fabric.specs.BringUp.{root_guids};
 ghost use Rattle.subnet_fabric.specs.Managing.{AreManaged};
+ghost use Rattle.subnet_fabric.specs.SetUp.{IsByRule};
 
 use crate::bringing_up::{copy_of, keys_of};
 use crate::fault::RunFault;
@@ -16,7 +17,7 @@ use sweep::SweepFault;
 use text_words::push_decimal;
 
 /// Sets up the fabric behind a wire as that of an inventory: its end ports have to be those of the topology. Returns the
-/// routes, and how many ports of switches do not enforce partitions.
+/// routes, which are by the inventory's rule of ties, and how many ports of switches do not enforce partitions.
 pub fn manage<W: SmpWire>(
     alloc: Global,
     inventory: &Inventory,
@@ -24,12 +25,20 @@ pub fn manage<W: SmpWire>(
 ) -> Result<Managed, RunFault>
     ensures managed { IfOk result (λ managed.
         AreManaged (root_guids inventory.now.plan) (guids_in inventory.now.configuration.ports) managed.routes) }
+    ensures ruled { IfOk result (λ managed. IsByRule inventory.now.rule managed.routes) }
     ensures few { IfOk result (λ managed. managed.not_enforcing ≤ length managed.routes.graph.ports) }
 {
     let ports = inventory.configuration().ports();
     let keys = keys_of(alloc, ports)?;
     let guids = guids_in(alloc, ports)?;
-    match subnet_fabric::manage(alloc, wire, inventory.topology(), &guids, &keys) {
+    match subnet_fabric::manage(
+        alloc,
+        wire,
+        inventory.topology(),
+        &guids,
+        &keys,
+        inventory.rule(),
+    ) {
         Ok(managed) => Ok(managed),
         Err(fault) => Err(fault_over(ports, fault)),
     }

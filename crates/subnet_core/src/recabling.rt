@@ -43,6 +43,7 @@ pub fn recable(
     ensures cabling { OnOk result (IsNextCabling listed.entry.topology.now command.now.cable.first command.now.cable.second command.now.up
         (cabling_of fabric.old) (cabling_of fabric.new)) }
     ensures kept { OnOk result (cabling_of fabric.new ≡ cabling_of fabric.old → (fabric.new ≡ fabric.old) × (routes.new ≡ routes.old)) }
+    ensures ruled { OnOk result (routes.new.between.rule ≡ routes.old.between.rule) }
     ensures serves { OnOk result (Serves listed.entry.topology.now routes.new administrator.now fabric.new) }
     ensures no_push { IfErr result (λ fault. fault ≡ AnswerFault.NoMemory) }
 {

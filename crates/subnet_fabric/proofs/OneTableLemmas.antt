@@ -52,7 +52,7 @@ pushed_at routes keys fabric k =
 
 -- ---- two that came up
 module _ (plan : TopologyState) (sound : IsSound plan) (keys other_keys : List (List ℕ)) (one other : RoutesState) (up up_too : FabricState)
-    (by_one : IsBroughtUpBy plan keys one up) (by_other : IsBroughtUpBy plan other_keys other up_too) where
+    (by_one : IsBroughtUpBy plan keys one up) (by_other : IsBroughtUpBy plan other_keys other up_too) (ruled : other.between.rule ≡ one.between.rule) where
   chosen : AreChosenFrom (root_guids plan) one
   chosen = record { of = by_one.home.of; ranks = by_one.are.made.ranks_are; chosen = by_one.home.chosen }
 
@@ -67,7 +67,7 @@ module _ (plan : TopologyState) (sound : IsSound plan) (keys other_keys : List (
   one_hop : (guid lid : ℕ) → hop_by other guid lid ≡ hop_by one guid lid
   one_hop guid lid =
       next_hops_are_the_fabrics (fabric_of plan) one other (root_guids plan) guid lid (good plan sound) by_one.are.found.of.layout
-      by_other.are.found.of.layout chosen chosen_too lids
+      by_other.are.found.of.layout chosen chosen_too lids ruled
 
   one_table : (guid : ℕ) (held : List ℕ) → option_map_or (linear_table other) (place_of other.graph.switches guid) held
       ≡ option_map_or (linear_table one) (place_of one.graph.switches guid) held
@@ -100,5 +100,5 @@ module _ (plan : TopologyState) (sound : IsSound plan) (keys other_keys : List (
       by (Some node) = one_node node
 
 pub one_table_is_left : OneTableIsLeft
-one_table_is_left plan keys other_keys one other node sound up up_too =
-    tables_meet plan sound keys other_keys up.routes up_too.routes one other up.by up_too.by node
+one_table_is_left plan keys other_keys one other node sound up up_too ruled =
+    tables_meet plan sound keys other_keys up.routes up_too.routes one other up.by up_too.by ruled node

@@ -8,8 +8,8 @@ use Rattle.fabric_parts.specs.declared.cable.Cable.{Cable}
 use Rattle.fabric_parts.specs.declared.cable.PortRef.{PortRef}
 use Rattle.smp_wire.specs.FabricState.{FabricState}
 use Rattle.smp_wire.specs.Good.{IsGood}
-use Rattle.subnet_fabric.specs.Planning.{ArePlannedOver, IsPlan, RoutesGive, is_routed, planned, planned_in, port_in, routes_in}
-use Rattle.subnet_fabric.specs.SetUp.{CanBeSetUp, IsLaidOut}
+use Rattle.subnet_fabric.specs.Planning.{ArePlannedOver, IsPlan, IsPlannedBy, RoutesGive, is_routed, planned, planned_in, port_in, routes_in}
+use Rattle.subnet_fabric.specs.SetUp.{CanBeSetUp, IsByRule, IsLaidOut}
 use Rattle.subnet_fabric.specs.declared.planning.Planned.{Planned}
 use Rattle.subnet_fabric.specs.declared.planning.Planned.TheVariants.{Routed, NotWhole, NoLegalPath}
 use Rattle.sweep.proofs.SmallLemmas.{not_too_big}
@@ -19,6 +19,7 @@ use Rattle.sweep.specs.OfFabric.{IsLayoutOf}
 use Rattle.sweep.specs.Recabled.{IsWhole}
 use Rattle.topo_file.specs.Topology.{TopologyState}
 use Rattle.updn_routes.specs.Subnet.{guids_of}
+use Rattle.updn_routes.specs.declared.tie_rule.TieRule.{TieRule}
 
 -- ---- the graph
 pub guids_stay : (up : Bool) (a b : PortRef) (graph : GraphState) → guids_of (planned up a b graph) ≡ guids_of graph
@@ -65,3 +66,8 @@ pub routes_are_planned : (fabric : FabricState) (roots : List ℕ) (plan : Plann
 routes_are_planned fabric roots (Routed routes) is = λ some same. subst (ArePlannedOver fabric roots) (same_Some routes some same) is.1
 routes_are_planned fabric roots NotWhole is = λ some same. absurd (none-some some same)
 routes_are_planned fabric roots (NoLegalPath switch port) is = λ some same. absurd (none-some some same)
+
+pub routes_by_rule : (rule : TieRule) (plan : Planned) → IsPlannedBy rule plan → ForSome (routes_in plan) (IsByRule rule)
+routes_by_rule rule (Routed routes) is = λ some same. subst (IsByRule rule) (same_Some routes some same) is
+routes_by_rule rule NotWhole is = λ some same. absurd (none-some some same)
+routes_by_rule rule (NoLegalPath switch port) is = λ some same. absurd (none-some some same)

@@ -244,7 +244,7 @@ a_standing_fabric_is_as_listed plan partitions routes fabric receives sound whol
     is_as_listed plan partitions routes fabric receives sound whole standing groups
 
 pub one_fabric_stands : OneFabricStands
-one_fabric_stands plan keys routes others receives one other sound stands stands_too same =
+one_fabric_stands plan keys routes others receives one other sound stands stands_too same ruled =
     let in_use = with_cables (cabling_of one).cables plan in
     let sound_now = what_is_up_is_sound plan (cabling_of one) (root_guids plan) keys routes one sound stands.up in
     let up_too = subst (λ (c : CablingState). IsUpWith plan c (root_guids plan) keys others other) (sym same) stands_too.up in
@@ -257,7 +257,7 @@ one_fabric_stands plan keys routes others receives one other sound stands stands
     let theirs : AreRoutesIn (fabric_of in_use) (root_guids plan) others =
     record { graph = second.are.found.of; home = second.home; made = second.are.made } in
     let base : base_of other ≡ base_of one =
-    second.is ∙ pushes_are_the_fabrics (fabric_of in_use) (root_guids plan) routes others keys (fabric_of in_use) (made_good in_use sound_now) mine theirs lids
+    second.is ∙ pushes_are_the_fabrics (fabric_of in_use) (root_guids plan) routes others keys (fabric_of in_use) (made_good in_use sound_now) mine theirs lids ruled
     ∙ sym first.is in
     let is = (masks_keep_it_up plan (cabling_of one) (root_guids plan) keys routes receives one stands.up).1 in
     let is_too = (masks_keep_it_up plan (cabling_of other) (root_guids plan) keys others receives other stands_too.up).1 in

@@ -64,8 +64,9 @@ linear_of (Adapter ports) = None
 abbrev pub linear_at : FabricState → ℕ → Option (List ℕ)
 linear_at fabric node = option_and_then linear_of (slice_get fabric.nodes node)
 
--- and of a fabric that comes up each switch has one, whatever the keys
+-- and of a fabric that comes up by one rule of ties each switch has one, whatever the keys
 abbrev pub OneTableIsLeft : Type 0
 OneTableIsLeft =
     (plan : TopologyState) (keys other_keys : List (List ℕ)) (one other : FabricState) (node : ℕ) → IsSound plan
-    → IsBroughtUpOf plan keys one → IsBroughtUpOf plan other_keys other → linear_at other node ≡ linear_at one node
+    → (by : IsBroughtUpOf plan keys one) (by_too : IsBroughtUpOf plan other_keys other)
+    → by_too.routes.between.rule ≡ by.routes.between.rule → linear_at other node ≡ linear_at one node

@@ -6,7 +6,7 @@ use Rattle.fabric_parts.specs.declared.cable.PortRef.{PortRef}
 use Rattle.updn_routes.specs.NextHops.{AreChosenFrom}
 use Rattle.smp_wire.specs.FabricState.{FabricState}
 use Rattle.smp_wire.specs.Good.{SwitchesJoined}
-use Rattle.subnet_fabric.specs.SetUp.{AreAssigned, CanBeSetUp, HasNoPathFrom, IsLaidOut}
+use Rattle.subnet_fabric.specs.SetUp.{AreAssigned, CanBeSetUp, HasNoPathFrom, IsByRule, IsLaidOut}
 use Rattle.subnet_fabric.specs.declared.planning.Planned.{Planned}
 use Rattle.subnet_fabric.specs.declared.planning.Planned.TheVariants.{Routed, NotWhole, NoLegalPath}
 use Rattle.sweep.specs.Graph.{GraphState, is_linked}
@@ -16,6 +16,7 @@ use Rattle.topo_file.specs.Topology.{TopologyState}
 use Rattle.topo_file.specs.Node.{guid_at}
 use Rattle.updn_routes.specs.Routes.{AllReached, AreRoutesOf, order_of}
 use Rattle.updn_routes.specs.Subnet.{RoutesState, guids_of, homes_of, rows_of}
+use Rattle.updn_routes.specs.declared.tie_rule.TieRule.{TieRule}
 
 -- ---- the graph
 -- a port of a switch of the topology, as a graph has it
@@ -60,6 +61,12 @@ abbrev pub IsPlan : FabricState → List ℕ → Planned → Type 0
 IsPlan fabric roots (Routed routes) = CanBeSetUp fabric roots × ArePlannedOver fabric roots routes
 IsPlan fabric roots NotWhole = (SwitchesJoined fabric × (IsTooFar fabric → ⊥)) → ⊥
 IsPlan fabric roots (NoLegalPath switch port) = HasNoPathFrom fabric roots switch port
+
+-- if there are routes, they take ties by that rule
+abbrev pub IsPlannedBy : TieRule → Planned → Type 0
+IsPlannedBy rule (Routed routes) = IsByRule rule routes
+IsPlannedBy rule NotWhole = Unit {0}
+IsPlannedBy rule (NoLegalPath switch port) = Unit {0}
 
 -- the routes, if there are some
 abbrev pub routes_in : Planned → Option RoutesState

@@ -20,6 +20,7 @@ use Rattle.table_push.specs.Pushed.{ArePushed, all_pushed}
 use Rattle.updn_routes.specs.Fault.{IsRefused}
 use Rattle.updn_routes.specs.Routes.{AllReached, AreRoutesOf, order_of}
 use Rattle.updn_routes.specs.Subnet.{RoutesState, guids_of, homes_of, rows_of}
+use Rattle.updn_routes.specs.declared.tie_rule.TieRule.{TieRule}
 
 -- ---- roots
 -- a switch of the fabric has that GUID
@@ -49,7 +50,11 @@ pub record AreAssigned (graph : GraphState) (guids : List ℕ) : Type 0 where
   pub lids : AreLids (end_ports graph) guids
   pub order : IsInOrder graph.manager guids
 
--- the routes of that graph, by its LIDs, from these roots: each port is reached
+-- these routes take ties by that rule
+abbrev pub IsByRule : TieRule → RoutesState → Type 0
+IsByRule rule routes = routes.between.rule ≡ rule
+
+-- the routes of that graph, by its LIDs, from these roots, whatever their rule of ties: each port is reached
 pub record AreRoutesOver (fabric : FabricState) (roots : List ℕ) (routes : RoutesState) : Type 0 where
   pub found : IsFound fabric routes.graph
   pub assigned : AreAssigned routes.graph routes.lids

@@ -37,12 +37,13 @@ AStandingFabricIsAsListed =
     → IsSound plan → ArePartitions partitions → IsStanding plan (all_keys (ports_of partitions plan)) routes fabric → AreOfGroups receives
     → IsFabricOf (ports_of partitions plan) (by_guid routes.lids receives) (all_masks_pushed routes receives fabric)
 
--- what is pushed is one fabric, for the same keys, cables and groups, whatever the routes of the two are: those of a sweep that
--- found the switches in another order, too
+-- what is pushed is one fabric, for the same keys, cables, groups and rule of ties, whatever the routes of the two are: those of a
+-- sweep that found the switches in another order, too
 abbrev pub OneFabricStands : Type 0
 OneFabricStands =
     (plan : TopologyState) (keys : List (List ℕ)) (routes others : RoutesState) (receives : ℕ → ℕ → Bool) (one other : FabricState)
     → IsSound plan → IsStanding plan keys routes one → IsStanding plan keys others other → cabling_of one ≡ cabling_of other
+    → others.between.rule ≡ routes.between.rule
     → all_masks_pushed routes receives one ≡ all_masks_pushed others receives other
 
 -- ---- and of cables

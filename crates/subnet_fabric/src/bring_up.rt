@@ -2,6 +2,7 @@
 
 ghost use Rattle.std.specs.Prelude.{◌≡◌, IfOk};
 ghost use Rattle.subnet_fabric.specs.BringUp.{ComesUp, root_guids};
+ghost use Rattle.subnet_fabric.specs.SetUp.{IsByRule};
 
 use crate::fault::FabricFault;
 use crate::setting_up::set_up;
@@ -10,7 +11,7 @@ use pkey_rules::{KeyTable, PARTITIONS};
 use std::alloc::{AllocError, Global};
 use std::marker::Model;
 use topo_file::{Topology, guid_at};
-use updn_routes::Routes;
+use updn_routes::{Routes, TieRule};
 
 /// A fabric that is up, and the routes that brought it there.
 #[derive(Debug, Drop)]
@@ -29,7 +30,7 @@ impl Model for BroughtUp {
     ghost view = { λ up. record { routes = up.routes; fabric = up.fabric } };
 }
 
-/// The fabric of a topology, with the keys of its end ports, which stand in order of LID.
+/// The fabric of a topology, with the keys of its end ports, which stand in order of LID, and routes by that rule of ties.
 ///
 /// `Sweep` if and only if a cable is too far from the SM for any SMP, and `NoLegalPath` if and only if the topology's
 /// roots leave a port without a way. Nothing else is refused but memory.
@@ -37,13 +38,15 @@ pub fn bring_up_fabric(
     alloc: Global,
     topology: &Topology,
     keys: &[KeyTable<PARTITIONS>],
+    rule: TieRule,
 ) -> Result<BroughtUp, FabricFault>
-    ensures { ComesUp topology.now keys.now result }
+    ensures all { ComesUp topology.now keys.now result }
+    ensures ruled { IfOk result (λ up. IsByRule rule up.routes) }
 {
     topology.known_sound();
     let roots = root_guids(alloc, topology)?;
     let mut fabric = Fabric::new(alloc, topology)?;
-    match set_up(alloc, &mut fabric, &roots, keys) {
+    match set_up(alloc, &mut fabric, &roots, keys, rule) {
         Ok(routes) => Ok(BroughtUp { routes, fabric }),
         Err(fault) => Err(fault),
     }

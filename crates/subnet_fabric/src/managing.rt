@@ -7,7 +7,7 @@ ghost use Rattle.smp_wire.specs.FabricState.{FabricState};
 ghost use Rattle.smp_wire.specs.Good.{IsGood};
 ghost use Rattle.subnet_fabric.specs.BringUp.{root_guids};
 ghost use Rattle.subnet_fabric.specs.Managing.{are_found, is_found, AreAsked, AreManaged, RoutesAreAsked, SetsUpAsked};
-ghost use Rattle.subnet_fabric.specs.SetUp.{IsFound, IsNotSetUp};
+ghost use Rattle.subnet_fabric.specs.SetUp.{IsByRule, IsFound, IsNotSetUp};
 ghost use Rattle.sweep.specs.Joined.{AllJoined};
 ghost use Rattle.sweep.specs.Sweeps.{IsSweepable};
 
@@ -21,7 +21,7 @@ use std::alloc::Global;
 use sweep::{Graph, SweepFault, sweep};
 use table_push::{known_to_lead_home, push_all_counting};
 use topo_file::Topology;
-use updn_routes::{Routes, routes};
+use updn_routes::{Routes, TieRule, routes};
 
 /// A fabric behind a wire that is set up.
 #[derive(Drop)]
@@ -34,27 +34,29 @@ pub struct Managed {
 }
 
 /// Sets up the fabric behind a wire as the one of a topology, whose end ports have these GUIDs in order of LID, and these
-/// keys: [`set_up_over`] from the topology's roots.
+/// keys: [`set_up_over`] from the topology's roots, by that rule of ties.
 pub fn manage<W: SmpWire>(
     alloc: Global,
     wire: &mut W,
     topology: &Topology,
     ports: &[u64],
     keys: &[KeyTable<PARTITIONS>],
+    rule: TieRule,
 ) -> Result<Managed, FabricFault>
     ensures managed { IfOk result (λ managed. AreManaged (root_guids topology.now) ports.now managed.routes) }
+    ensures ruled { IfOk result (λ managed. IsByRule rule managed.routes) }
     ensures few { IfOk result (λ managed. managed.not_enforcing ≤ length managed.routes.graph.ports) }
     ensures over { ForSome (W.fabric wire.old) (λ fabric. IsSweepable fabric
         → SetsUpAsked fabric ports.now (root_guids topology.now) keys.now (W.fabric wire.new) result) }
 {
     let roots = root_guids(alloc, topology)?;
-    set_up_over(alloc, wire, &roots, ports, keys)
+    set_up_over(alloc, wire, &roots, ports, keys, rule)
 }
 
 /// Sets up the fabric behind a wire: sweeps it, names its end ports by LIDs, computes routes from the roots, which are named
 /// by their GUIDs, and pushes ports, P_Key tables and LFTs. Its end ports have to be those that are asked
-/// for; their GUIDs and their keys stand in order of LID. Switches that do not enforce partitions are no fault: it counts their
-/// ports.
+/// for; their GUIDs and their keys stand in order of LID. The rule says which of its ties a switch takes. Switches that do not
+/// enforce partitions are no fault: it counts their ports.
 ///
 /// It returns over every wire. Before anything is pushed, replies that are no fabric's are a fault of the sweep, and
 /// `WrongReply` so are other end ports, and a root that is no switch of it. Over a wire that stands for a good fabric it does
@@ -65,14 +67,16 @@ pub fn set_up_over<W: SmpWire>(
     roots: &[u64],
     ports: &[u64],
     keys: &[KeyTable<PARTITIONS>],
+    rule: TieRule,
 ) -> Result<Managed, FabricFault>
     ensures managed { IfOk result (λ managed. AreManaged roots.now ports.now managed.routes) }
+    ensures ruled { IfOk result (λ managed. IsByRule rule managed.routes) }
     ensures few { IfOk result (λ managed. managed.not_enforcing ≤ length managed.routes.graph.ports) }
     ensures over { ForSome (W.fabric wire.old) (λ fabric. IsSweepable fabric
         → SetsUpAsked fabric ports.now roots.now keys.now (W.fabric wire.new) result) }
 {
     let graph = graph_over(alloc, wire)?;
-    let routes = routes_asked(alloc, graph, roots, ports)?;
+    let routes = routes_asked(alloc, graph, roots, ports, rule)?;
     known_to_lead_home(&routes);
     match push_all_counting(wire, &routes, keys) {
         Ok(not_enforcing) => Ok(Managed {
@@ -100,9 +104,11 @@ fn routes_asked(
     graph: Graph,
     roots: &[u64],
     ports: &[u64],
+    rule: TieRule,
 ) -> Result<Routes, FabricFault>
     requires joined { AllJoined graph.rows }
     ensures asked { IfOk result (AreAsked roots.now ports.now) }
+    ensures ruled { IfOk result (IsByRule rule) }
     ensures over { (fabric : FabricState) → IsFound fabric graph → RoutesAreAsked fabric ports.now roots.now result }
 {
     let lids = assign(alloc, &graph)?;
@@ -110,7 +116,7 @@ fn routes_asked(
     if !is_asked {
         return Err(FabricFault::Sweep(SweepFault::WrongReply));
     }
-    Ok(routes(alloc, graph, lids, roots)?)
+    Ok(routes(alloc, graph, lids, roots, rule)?)
 }
 
 /// Whether these are the end ports of the graph, and these roots are switches of it.

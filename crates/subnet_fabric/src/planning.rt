@@ -6,8 +6,8 @@ ghost use Rattle.std.specs.List.{list_all, list_any};
 ghost use Rattle.smp_wire.specs.FabricState.{FabricState};
 ghost use Rattle.smp_wire.specs.Good.{IsGood};
 ghost use Rattle.subnet_fabric.specs.BringUp.{root_guids};
-ghost use Rattle.subnet_fabric.specs.Planning.{IsPlan, MayBePlanned, MayBePlannedIn, RoutesGive, is_routed, planned, planned_in, port_in, routes_in};
-ghost use Rattle.subnet_fabric.specs.SetUp.{IsLaidOut};
+ghost use Rattle.subnet_fabric.specs.Planning.{IsPlan, IsPlannedBy, MayBePlanned, MayBePlannedIn, RoutesGive, is_routed, planned, planned_in, port_in, routes_in};
+ghost use Rattle.subnet_fabric.specs.SetUp.{IsByRule, IsLaidOut};
 ghost use Rattle.sweep.specs.Joined.{AllJoined};
 ghost use Rattle.sweep.specs.OfFabric.{IsLayoutOf};
 ghost use Rattle.updn_routes.specs.Subnet.{guids_of};
@@ -18,7 +18,7 @@ use lid_assign::assign;
 use std::alloc::{AllocError, Global};
 use sweep::Graph;
 use topo_file::{Topology, guid_at};
-use updn_routes::{RouteFault, Routes, routes};
+use updn_routes::{RouteFault, Routes, TieRule, routes};
 
 /// What would become of a fabric with a cable cut, or mended.
 #[derive(Debug, Drop)]
@@ -61,8 +61,8 @@ impl Planned {
     }
 }
 
-/// The routes that the fabric of these routes would have, from the topology's roots, with the cable between two of its switches cut,
-/// or mended; or why it would have none. Nothing is sent. It can only run out of memory.
+/// The routes that the fabric of these routes would have, from the topology's roots and by their rule of ties, with the cable between
+/// two of its switches cut, or mended; or why it would have none. Nothing is sent. It can only run out of memory.
 pub fn plan(
     alloc: Global,
     topology: &Topology,
@@ -72,8 +72,9 @@ pub fn plan(
 ) -> Result<Planned, AllocError>
     requires may { MayBePlannedIn topology.now cable up routes.now.graph }
     requires named { list_all (λ root. list_any (λ guid. guid == root) (guids_of routes.now.graph)) (root_guids topology.now) ≡ true }
-    ensures { (fabric : FabricState) → IsGood fabric → IsLayoutOf (planned_in topology.now cable up routes.now.graph) fabric
+    ensures all { (fabric : FabricState) → IsGood fabric → IsLayoutOf (planned_in topology.now cable up routes.now.graph) fabric
         → IfOk result (IsPlan fabric (root_guids topology.now)) }
+    ensures ruled { IfOk result (IsPlannedBy routes.now.between.rule) }
 {
     let graph = routes.graph();
     graph.known_graph();
@@ -85,7 +86,7 @@ pub fn plan(
         return Ok(Planned::NotWhole);
     }
     let roots = root_guids(alloc, topology)?;
-    routed(alloc, planned, &roots)
+    routed(alloc, planned, &roots, routes.between().rule())
 }
 
 /// The port of a switch of the topology, as the graph has it.
@@ -118,13 +119,14 @@ fn changed(
 }
 
 /// What these roots make of a fabric that is laid out so: its routes, or the first pair that has none. It can only run out of memory.
-fn routed(alloc: Global, graph: Graph, roots: &[u64]) -> Result<Planned, AllocError>
+fn routed(alloc: Global, graph: Graph, roots: &[u64], rule: TieRule) -> Result<Planned, AllocError>
     requires joined { AllJoined graph.rows }
     requires named { list_all (λ root. list_any (λ guid. guid == root) (guids_of graph)) roots.now ≡ true }
-    ensures { (fabric : FabricState) → IsGood fabric → IsLaidOut fabric graph → IfOk result (RoutesGive fabric roots.now) }
+    ensures all { (fabric : FabricState) → IsGood fabric → IsLaidOut fabric graph → IfOk result (RoutesGive fabric roots.now) }
+    ensures ruled { IfOk result (IsPlannedBy rule) }
 {
     let lids = assign(alloc, &graph)?;
-    match routes(alloc, graph, lids, roots) {
+    match routes(alloc, graph, lids, roots, rule) {
         Ok(routes) => {
             routes.known_of_graph();
             routes.between().known_routes();

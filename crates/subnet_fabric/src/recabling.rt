@@ -1,6 +1,9 @@
 //! How a fabric that is up is set up again after a cable of it is cut, or mended. That is planned first ([`plan`]), so that nothing
 //! changes if the fabric could not be set up again.
 
+ghost use Rattle.std.specs.Prelude.{IfOk};
+ghost use Rattle.std.specs.Option.{ForSome};
+ghost use Rattle.subnet_fabric.specs.SetUp.{IsByRule};
 ghost use Rattle.subnet_fabric.specs.Standing.{IsStanding, Recables};
 
 use crate::bring_up::root_guids;
@@ -15,7 +18,8 @@ use topo_file::Topology;
 use updn_routes::Routes;
 
 /// Cuts the cable between two switches of a topology's fabric that is up, or mends it, and sets the fabric up again, as from
-/// power-up: the new routes, or none if all stays as it is. The keys of the end ports stand in order of LID.
+/// power-up: the new routes, by the rule of ties of the old ones, or none if all stays as it is. The keys of the end ports stand in
+/// order of LID.
 ///
 /// All stays if there is no such cable that can be cut, or mended; if switches would not be joined any more, or a cable
 /// would be too far from the subnet manager for any SMP; and if the topology's roots would leave a port without a way. The
@@ -30,7 +34,8 @@ pub fn recable(
     command: &CableCommand,
 ) -> Result<Option<Routes>, FabricFault>
     requires { IsStanding topology.now keys.now routes.now fabric.old }
-    ensures { Recables topology.now keys.now command.now.cable command.now.up routes.now fabric.old fabric.new result }
+    ensures all { Recables topology.now keys.now command.now.cable command.now.up routes.now fabric.old fabric.new result }
+    ensures ruled { IfOk result (λ next. ForSome next (IsByRule routes.now.between.rule)) }
 {
     topology.known_sound();
     fabric.known_kept();
@@ -45,7 +50,8 @@ pub fn recable(
     let roots = root_guids(alloc, topology)?;
     fabric.set_cable(cable.first, cable.second, up);
     fabric.known_kept();
-    match set_up_by(alloc, fabric, &roots, keys, planned.into_routes()) {
+    let rule = routes.between().rule();
+    match set_up_by(alloc, fabric, &roots, keys, rule, planned.into_routes()) {
         Ok(routes) => Ok(Some(routes)),
         Err(fault) => Err(fault),
     }

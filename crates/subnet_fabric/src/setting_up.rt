@@ -5,7 +5,7 @@ ghost use Rattle.std.specs.Option.{ForSome};
 ghost use Rattle.subnet_fabric.specs.Planning.{ArePlannedOver};
 ghost use Rattle.std.specs.List.{list_all, list_any};
 ghost use Rattle.smp_wire.specs.FabricState.{FabricState};
-ghost use Rattle.subnet_fabric.specs.SetUp.{IsFound, IsNotSetUp, RoutesAre, SetsUp, are_switches};
+ghost use Rattle.subnet_fabric.specs.SetUp.{IsByRule, IsFound, IsNotSetUp, RoutesAre, SetsUp, are_switches};
 ghost use Rattle.sweep.specs.Joined.{AllJoined};
 ghost use Rattle.sweep.specs.Sweeps.{IsSweepable};
 ghost use Rattle.updn_routes.specs.Subnet.{guids_of};
@@ -18,11 +18,11 @@ use pkey_rules::{KeyTable, PARTITIONS};
 use std::alloc::Global;
 use sweep::{Graph, sweep};
 use table_push::{known_to_lead_home, push_all};
-use updn_routes::{Routes, routes};
+use updn_routes::{Routes, TieRule, routes};
 
 /// Sets up a good fabric whose links show and whose switches are joined, whatever was pushed before: sweeps it, names its end
 /// ports by LIDs, computes routes from the roots, which are named by their GUIDs, and pushes ports, P_Key tables and
-/// LFTs. The keys of the end ports stand in order of LID.
+/// LFTs. The keys of the end ports stand in order of LID; the rule says which of its ties a switch takes.
 ///
 /// `Sweep` if and only if a cable is too far from the SM for any SMP or the fabric is too big, and `NoLegalPath` if and only
 /// if the roots leave a port without a path; then, and if an allocation fails, the fabric is as it was.
@@ -31,12 +31,14 @@ pub fn set_up(
     fabric: &mut Fabric,
     roots: &[u64],
     keys: &[KeyTable<PARTITIONS>],
+    rule: TieRule,
 ) -> Result<Routes, FabricFault>
     requires swept { IsSweepable fabric.old }
     requires roots { are_switches fabric.old roots.now ≡ true }
-    ensures { SetsUp fabric.old roots.now keys.now fabric.new result }
+    ensures all { SetsUp fabric.old roots.now keys.now fabric.new result }
+    ensures ruled { IfOk result (IsByRule rule) }
 {
-    set_up_by(alloc, fabric, roots, keys, None)
+    set_up_by(alloc, fabric, roots, keys, rule, None)
 }
 
 /// Sets it up so by routes that were planned, if a sweep finds the graph that they were planned over; else by new ones.
@@ -45,15 +47,18 @@ pub(crate) fn set_up_by(
     fabric: &mut Fabric,
     roots: &[u64],
     keys: &[KeyTable<PARTITIONS>],
+    rule: TieRule,
     planned: Option<Routes>,
 ) -> Result<Routes, FabricFault>
     requires swept { IsSweepable fabric.old }
     requires roots { are_switches fabric.old roots.now ≡ true }
     requires planned { ForSome planned (ArePlannedOver fabric.old roots.now) }
-    ensures { SetsUp fabric.old roots.now keys.now fabric.new result }
+    requires ruled { ForSome planned (IsByRule rule) }
+    ensures all { SetsUp fabric.old roots.now keys.now fabric.new result }
+    ensures ruled { IfOk result (IsByRule rule) }
 {
     let graph = graph_of(alloc, fabric)?;
-    let routes = routes_by(alloc, graph, roots, planned)?;
+    let routes = routes_by(alloc, graph, roots, rule, planned)?;
     known_to_lead_home(&routes);
     match push_all(fabric, &routes, keys) {
         Ok(()) => Ok(routes),
@@ -72,13 +77,19 @@ fn graph_of(alloc: Global, fabric: &mut Fabric) -> Result<Graph, FabricFault>
 }
 
 /// The routes of a graph from these roots, by its LIDs.
-fn routes_of(alloc: Global, graph: Graph, roots: &[u64]) -> Result<Routes, FabricFault>
+fn routes_of(
+    alloc: Global,
+    graph: Graph,
+    roots: &[u64],
+    rule: TieRule,
+) -> Result<Routes, FabricFault>
     requires joined { AllJoined graph.rows }
     requires named { list_all (λ root. list_any (λ guid. guid == root) (guids_of graph)) roots.now ≡ true }
-    ensures { (fabric : FabricState) → IsFound fabric graph → RoutesAre fabric roots.now result }
+    ensures all { (fabric : FabricState) → IsFound fabric graph → RoutesAre fabric roots.now result }
+    ensures ruled { IfOk result (IsByRule rule) }
 {
     let lids = assign(alloc, &graph)?;
-    Ok(routes(alloc, graph, lids, roots)?)
+    Ok(routes(alloc, graph, lids, roots, rule)?)
 }
 
 /// The planned routes, if they were planned over this graph; else those that are computed of it.
@@ -86,15 +97,18 @@ fn routes_by(
     alloc: Global,
     graph: Graph,
     roots: &[u64],
+    rule: TieRule,
     planned: Option<Routes>,
 ) -> Result<Routes, FabricFault>
     requires joined { AllJoined graph.rows }
     requires named { list_all (λ root. list_any (λ guid. guid == root) (guids_of graph)) roots.now ≡ true }
-    ensures { (fabric : FabricState) → IsFound fabric graph → ForSome planned (ArePlannedOver fabric roots.now) → RoutesAre fabric roots.now result }
+    requires ruled { ForSome planned (IsByRule rule) }
+    ensures all { (fabric : FabricState) → IsFound fabric graph → ForSome planned (ArePlannedOver fabric roots.now) → RoutesAre fabric roots.now result }
+    ensures ruled { IfOk result (IsByRule rule) }
 {
     match planned {
-        Some(routes) => planned_or_new(alloc, graph, roots, routes),
-        None => routes_of(alloc, graph, roots),
+        Some(routes) => planned_or_new(alloc, graph, roots, rule, routes),
+        None => routes_of(alloc, graph, roots, rule),
     }
 }
 
@@ -102,14 +116,17 @@ fn planned_or_new(
     alloc: Global,
     graph: Graph,
     roots: &[u64],
+    rule: TieRule,
     planned: Routes,
 ) -> Result<Routes, FabricFault>
     requires joined { AllJoined graph.rows }
     requires named { list_all (λ root. list_any (λ guid. guid == root) (guids_of graph)) roots.now ≡ true }
-    ensures { (fabric : FabricState) → IsFound fabric graph → ArePlannedOver fabric roots.now planned → RoutesAre fabric roots.now result }
+    requires ruled { IsByRule rule planned }
+    ensures all { (fabric : FabricState) → IsFound fabric graph → ArePlannedOver fabric roots.now planned → RoutesAre fabric roots.now result }
+    ensures ruled { IfOk result (IsByRule rule) }
 {
     if is_same_graph(&graph, planned.graph()) {
         return Ok(planned);
     }
-    routes_of(alloc, graph, roots)
+    routes_of(alloc, graph, roots, rule)
 }

@@ -14,3 +14,4 @@ pub use Rattle.pkey_rules.specs.KeyTable
 pub mod Laws
 pub mod Examples
 pub mod WrongRules
+pub mod ReplyKeys

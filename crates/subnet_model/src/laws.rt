@@ -3,6 +3,7 @@
 
 ghost use Rattle.subnet_model.specs.Groups.{GroupsReachOthers};
 ghost use Rattle.subnet_model.specs.Laws.{EveryKeeperIsolates, RestrictionsDropCables, SlidsNameTheirPorts, SourcesAreRead, ThePortOfALidIsNear};
+ghost use Rattle.subnet_model.specs.ReplyKeys.{RepliesAreUnderTheManagersKey, WrongReplyKeysAreRefused};
 ghost use Rattle.subnet_model.specs.WrongRules.{DestinationsAreNoSources, NotAllComesFromNear};
 
 /// Whoever answers what is asked of the subnet administration: if it keeps ports apart, so does a subnet. A command
@@ -42,4 +43,15 @@ pub fn sources_are_read()
 pub fn far_sources_are_far()
     ensures all { NotAllComesFromNear }
     ensures destinations { DestinationsAreNoSources }
+{}
+
+/// Whoever answers what is asked of the subnet administration: each reply is under a key that the SM port holds, of the
+/// partition under whose key it was asked.
+pub fn replies_are_under_the_managers_key<S>()
+    ensures { RepliesAreUnderTheManagersKey S }
+{}
+
+/// Refused as the key of replies: the full form of ours, its base alone, and the key of the default partition.
+pub fn wrong_reply_keys_are_refused()
+    ensures { WrongReplyKeysAreRefused }
 {}

@@ -25,8 +25,9 @@ pub use crate::configuration::Configuration;
 pub use crate::event::{Outcome, PortEvent};
 pub use crate::group_receiver::GroupReceiver;
 pub use crate::laws::{
-    every_keeper_isolates, far_sources_are_far, groups_reach_others, restrictions_drop_cables,
-    slids_name_their_ports, sources_are_read, the_port_of_a_lid_is_near,
+    every_keeper_isolates, far_sources_are_far, groups_reach_others,
+    replies_are_under_the_managers_key, restrictions_drop_cables, slids_name_their_ports,
+    sources_are_read, the_port_of_a_lid_is_near, wrong_reply_keys_are_refused,
 };
 pub use crate::lids::{lid_of, lids_of};
 pub use crate::nearness::{is_near, near};

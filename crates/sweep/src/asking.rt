@@ -17,23 +17,22 @@ use crate::fault::{SweepFault, fault_of};
 use crate::path::Path;
 use crate::seen::{Seen, seen_of};
 use attr_tables::{NodeDescription, NodeInfo, PortInfo, PortState, SmpAttribute};
-use smp_wire::{SmpWire, get_attribute};
+use smp_wire::{Session, SmpWire};
 
-/// Gets that part of an attribute, under the next TransactionID, so that a late reply is distinguished from its own.
+/// Gets that part of an attribute, under the next TransactionID.
 fn get<W: SmpWire>(
-    wire: &mut W,
-    transaction_id: &mut u64,
+    session: &mut Session<'_, W>,
     attribute: SmpAttribute,
     modifier: u32,
     path: &Path,
 ) -> Result<[u8; 64], SweepFault>
-    ensures reported { ForSome (W.fabric wire.old) (λ fabric. IsGood fabric
+    ensures reported { ForSome (W.fabric session.old.wire.now) (λ fabric. IsGood fabric
         → result ≡ heard (reported_for (gives_along fabric path.now attribute modifier))) }
-    ensures left { ForSome (W.fabric wire.old) (λ fabric. IsGood fabric → W.fabric wire.new ≡ Some fabric) }
-    ensures counted { transaction_id.new ≡ (transaction_id.old + 1) % 2 ^ 64 }
+    ensures left { ForSome (W.fabric session.old.wire.now) (λ fabric. IsGood fabric → W.fabric session.new.wire.now ≡ Some fabric) }
+    ensures same_wire { session.new.wire.ghost_name ≡ session.old.wire.ghost_name }
+    ensures counted { session.new.transaction_id ≡ (session.old.transaction_id + 1) % 2 ^ 64 }
 {
-    *transaction_id = transaction_id.wrapping_add(1);
-    match get_attribute(wire, *transaction_id, attribute, modifier, path.as_slice()) {
+    match session.get(attribute, modifier, path.as_slice()) {
         Ok(bytes) => Ok(bytes),
         Err(fault) => Err(fault_of(fault)),
     }
@@ -43,15 +42,15 @@ fn get<W: SmpWire>(
 ///
 /// Over a wire that stands for a good fabric it is what stands there, or `NoReply` if the path ends nowhere.
 pub(crate) fn look<W: SmpWire>(
-    wire: &mut W,
-    transaction_id: &mut u64,
+    session: &mut Session<'_, W>,
     path: &Path,
 ) -> Result<Seen, SweepFault>
-    ensures reported { ForSome (W.fabric wire.old) (λ fabric. IsGood fabric
+    ensures reported { ForSome (W.fabric session.old.wire.now) (λ fabric. IsGood fabric
         → result ≡ ok_or (option_and_then (seen_at fabric) (end_of fabric path.now)) NoReply) }
-    ensures left { ForSome (W.fabric wire.old) (λ fabric. IsGood fabric → W.fabric wire.new ≡ Some fabric) }
+    ensures left { ForSome (W.fabric session.old.wire.now) (λ fabric. IsGood fabric → W.fabric session.new.wire.now ≡ Some fabric) }
+    ensures same_wire { session.new.wire.ghost_name ≡ session.old.wire.ghost_name }
 {
-    match get(wire, transaction_id, SmpAttribute::NodeInfo, 0, path) {
+    match get(session, SmpAttribute::NodeInfo, 0, path) {
         Ok(bytes) => seen_of(&NodeInfo::read(&bytes)),
         Err(fault) => Err(fault),
     }
@@ -61,15 +60,15 @@ pub(crate) fn look<W: SmpWire>(
 ///
 /// Over a wire that stands for a good fabric it is the node's, or `NoReply` if the path ends nowhere.
 pub(crate) fn name_of<W: SmpWire>(
-    wire: &mut W,
-    transaction_id: &mut u64,
+    session: &mut Session<'_, W>,
     path: &Path,
 ) -> Result<[u8; 64], SweepFault>
-    ensures reported { ForSome (W.fabric wire.old) (λ fabric. IsGood fabric
+    ensures reported { ForSome (W.fabric session.old.wire.now) (λ fabric. IsGood fabric
         → result ≡ ok_or (option_and_then (name_at fabric) (end_of fabric path.now)) NoReply) }
-    ensures left { ForSome (W.fabric wire.old) (λ fabric. IsGood fabric → W.fabric wire.new ≡ Some fabric) }
+    ensures left { ForSome (W.fabric session.old.wire.now) (λ fabric. IsGood fabric → W.fabric session.new.wire.now ≡ Some fabric) }
+    ensures same_wire { session.new.wire.ghost_name ≡ session.old.wire.ghost_name }
 {
-    match get(wire, transaction_id, SmpAttribute::NodeDescription, 0, path) {
+    match get(session, SmpAttribute::NodeDescription, 0, path) {
         Ok(bytes) => Ok(NodeDescription::read(&bytes).node_string),
         Err(fault) => Err(fault),
     }
@@ -79,23 +78,17 @@ pub(crate) fn name_of<W: SmpWire>(
 ///
 /// Over a wire that stands for a good fabric whose links show, it is so if and only if there is a cable.
 pub(crate) fn has_link<W: SmpWire>(
-    wire: &mut W,
-    transaction_id: &mut u64,
+    session: &mut Session<'_, W>,
     path: &Path,
     number: u8,
 ) -> Result<bool, SweepFault>
-    ensures reported { ForSome (W.fabric wire.old) (λ fabric. (at : PortRef) → IsGood fabric → ShowsLinks fabric
+    ensures reported { ForSome (W.fabric session.old.wire.now) (λ fabric. (at : PortRef) → IsGood fabric → ShowsLinks fabric
         → end_of fabric path.now ≡ Some at → is_switch_at fabric.nodes at.node ≡ true
         → is_port fabric.nodes (port at.node number) ≡ true → result ≡ Ok (is_cabled fabric.cables (port at.node number))) }
-    ensures left { ForSome (W.fabric wire.old) (λ fabric. IsGood fabric → W.fabric wire.new ≡ Some fabric) }
+    ensures left { ForSome (W.fabric session.old.wire.now) (λ fabric. IsGood fabric → W.fabric session.new.wire.now ≡ Some fabric) }
+    ensures same_wire { session.new.wire.ghost_name ≡ session.old.wire.ghost_name }
 {
-    match get(
-        wire,
-        transaction_id,
-        SmpAttribute::PortInfo,
-        number as u32,
-        path,
-    ) {
+    match get(session, SmpAttribute::PortInfo, number as u32, path) {
         Ok(bytes) => Ok(PortInfo::read(&bytes).port_state != PortState::Down.code()),
         Err(fault) => Err(fault),
     }

@@ -22,7 +22,7 @@ use crate::path::{PATH_HOPS, Path};
 use crate::seen::Seen;
 use crate::survey::Survey;
 use fabric_parts::{NodeType, PortRef, SWITCHES};
-use smp_wire::SmpWire;
+use smp_wire::{Session, SmpWire};
 use std::alloc::Global;
 
 /// Where a sweep begins.
@@ -57,14 +57,12 @@ struct Behind {
 /// The SM port, learned by an SMP of no hop, and the switch that its cable leads to.
 ///
 /// `WrongReply` if the first is no port of a channel adapter, or the second no switch.
-pub(crate) fn start<W: SmpWire>(
-    wire: &mut W,
-    transaction_id: &mut u64,
-) -> Result<Origin, SweepFault>
-    ensures reported { ForSome (W.fabric wire.old) (λ fabric. IsGood fabric → Starts fabric result) }
-    ensures left { ForSome (W.fabric wire.old) (λ fabric. IsGood fabric → W.fabric wire.new ≡ Some fabric) }
+pub(crate) fn start<W: SmpWire>(session: &mut Session<'_, W>) -> Result<Origin, SweepFault>
+    ensures reported { ForSome (W.fabric session.old.wire.now) (λ fabric. IsGood fabric → Starts fabric result) }
+    ensures left { ForSome (W.fabric session.old.wire.now) (λ fabric. IsGood fabric → W.fabric session.new.wire.now ≡ Some fabric) }
+    ensures same_wire { session.new.wire.ghost_name ≡ session.old.wire.ghost_name }
 {
-    let here = match look(wire, transaction_id, &Path::new()) {
+    let here = match look(session, &Path::new()) {
         Ok(seen) => seen,
         Err(fault) => return Err(fault),
     };
@@ -72,14 +70,14 @@ pub(crate) fn start<W: SmpWire>(
         return Err(SweepFault::WrongReply);
     }
     let path = Path::new().then(here.local_port_num);
-    let there = match look(wire, transaction_id, &path) {
+    let there = match look(session, &path) {
         Ok(seen) => seen,
         Err(fault) => return Err(fault),
     };
     if !there.node_type.is_switch() {
         return Err(SweepFault::WrongReply);
     }
-    let name = match name_of(wire, transaction_id, &path) {
+    let name = match name_of(session, &path) {
         Ok(name) => name,
         Err(fault) => return Err(fault),
     };
@@ -104,8 +102,8 @@ pub fn sweep<W: SmpWire>(alloc: Global, wire: &mut W) -> Result<Graph, SweepFaul
     ensures found { ForSome (W.fabric wire.old) (λ fabric. IsSweepable fabric → Finds fabric result) }
     ensures left { ForSome (W.fabric wire.old) (λ fabric. IsGood fabric → W.fabric wire.new ≡ Some fabric) }
 {
-    let mut transaction_id = 0;
-    let origin = match start(wire, &mut transaction_id) {
+    let mut session = Session::new(wire);
+    let origin = match start(&mut session) {
         Ok(origin) => origin,
         Err(fault) => return Err(fault),
     };
@@ -114,7 +112,7 @@ pub fn sweep<W: SmpWire>(alloc: Global, wire: &mut W) -> Result<Graph, SweepFaul
         Ok(_) => {}
         Err(fault) => return Err(fault),
     }
-    match visit_all(alloc, wire, &mut transaction_id, &mut survey) {
+    match visit_all(alloc, &mut session, &mut survey) {
         Ok(()) => {}
         Err(fault) => return Err(fault),
     }
@@ -131,12 +129,12 @@ pub fn sweep<W: SmpWire>(alloc: Global, wire: &mut W) -> Result<Graph, SweepFaul
 /// Visits the switches one after the other, those too that are found on the way.
 fn visit_all<W: SmpWire>(
     alloc: Global,
-    wire: &mut W,
-    transaction_id: &mut u64,
+    session: &mut Session<'_, W>,
     survey: &mut Survey,
 ) -> Result<(), SweepFault>
-    ensures went { ForSome (W.fabric wire.old) (λ fabric. AllAreAsked fabric survey.old survey.new result) }
-    ensures left { ForSome (W.fabric wire.old) (λ fabric. IsGood fabric → W.fabric wire.new ≡ Some fabric) }
+    ensures went { ForSome (W.fabric session.old.wire.now) (λ fabric. AllAreAsked fabric survey.old survey.new result) }
+    ensures left { ForSome (W.fabric session.old.wire.now) (λ fabric. IsGood fabric → W.fabric session.new.wire.now ≡ Some fabric) }
+    ensures same_wire { session.new.wire.ghost_name ≡ session.old.wire.ghost_name }
 {
     for place in 0..SWITCHES {
         let Some((num_ports, path)) = survey.way_to(place) else {
@@ -147,7 +145,7 @@ fn visit_all<W: SmpWire>(
             num_ports,
             path,
         };
-        match visit_switch(alloc, wire, transaction_id, survey, &switch) {
+        match visit_switch(alloc, session, survey, &switch) {
             Ok(()) => {}
             Err(fault) => return Err(fault),
         }
@@ -158,14 +156,14 @@ fn visit_all<W: SmpWire>(
 /// Asks a switch port by port, and notes its links.
 fn visit_switch<W: SmpWire>(
     alloc: Global,
-    wire: &mut W,
-    transaction_id: &mut u64,
+    session: &mut Session<'_, W>,
     survey: &mut Survey,
     switch: &Asked,
 ) -> Result<(), SweepFault>
-    ensures went { ForSome (W.fabric wire.old)
+    ensures went { ForSome (W.fabric session.old.wire.now)
         (λ fabric. SwitchIsAsked fabric switch.now.place switch.now.num_ports switch.now.path survey.old survey.new result) }
-    ensures left { ForSome (W.fabric wire.old) (λ fabric. IsGood fabric → W.fabric wire.new ≡ Some fabric) }
+    ensures left { ForSome (W.fabric session.old.wire.now) (λ fabric. IsGood fabric → W.fabric session.new.wire.now ≡ Some fabric) }
+    ensures same_wire { session.new.wire.ghost_name ≡ session.old.wire.ghost_name }
 {
     let mut row = GraphRow::new(alloc);
     for before in 0..switch.num_ports {
@@ -173,7 +171,7 @@ fn visit_switch<W: SmpWire>(
             node: switch.place,
             port: before + 1,
         };
-        match visit_port(wire, transaction_id, survey, &mut row, here, &switch.path) {
+        match visit_port(session, survey, &mut row, here, &switch.path) {
             Ok(()) => {}
             Err(fault) => return Err(fault),
         }
@@ -186,17 +184,17 @@ fn visit_switch<W: SmpWire>(
 
 /// Asks one port, and notes what is behind it.
 fn visit_port<W: SmpWire>(
-    wire: &mut W,
-    transaction_id: &mut u64,
+    session: &mut Session<'_, W>,
     survey: &mut Survey,
     row: &mut GraphRow,
     here: PortRef,
     path: &Path,
 ) -> Result<(), SweepFault>
-    ensures went { ForSome (W.fabric wire.old) (λ fabric. PortIsAsked fabric here path.now survey.old survey.new row.old row.new result) }
-    ensures left { ForSome (W.fabric wire.old) (λ fabric. IsGood fabric → W.fabric wire.new ≡ Some fabric) }
+    ensures went { ForSome (W.fabric session.old.wire.now) (λ fabric. PortIsAsked fabric here path.now survey.old survey.new row.old row.new result) }
+    ensures left { ForSome (W.fabric session.old.wire.now) (λ fabric. IsGood fabric → W.fabric session.new.wire.now ≡ Some fabric) }
+    ensures same_wire { session.new.wire.ghost_name ≡ session.old.wire.ghost_name }
 {
-    match has_link(wire, transaction_id, path, here.port) {
+    match has_link(session, path, here.port) {
         Ok(true) => {}
         Ok(false) => return Ok(()),
         Err(fault) => return Err(fault),
@@ -205,14 +203,14 @@ fn visit_port<W: SmpWire>(
         return turn_round(survey, row, here);
     }
     let path = path.then(here.port);
-    let seen = match look(wire, transaction_id, &path) {
+    let seen = match look(session, &path) {
         Ok(seen) => seen,
         Err(fault) => return Err(fault),
     };
     let behind = Behind { seen, path };
     match behind.seen.node_type {
-        NodeType::Switch => meet_switch(wire, transaction_id, survey, row, here, &behind),
-        NodeType::ChannelAdapter => meet_port(wire, transaction_id, survey, here, &behind),
+        NodeType::Switch => meet_switch(session, survey, row, here, &behind),
+        NodeType::ChannelAdapter => meet_port(session, survey, here, &behind),
     }
 }
 
@@ -241,18 +239,18 @@ fn note(row: &mut GraphRow, here: PortRef, to: PortRef) -> Result<(), SweepFault
 
 /// Notes the link to a switch, and the switch too if it is new.
 fn meet_switch<W: SmpWire>(
-    wire: &mut W,
-    transaction_id: &mut u64,
+    session: &mut Session<'_, W>,
     survey: &mut Survey,
     row: &mut GraphRow,
     here: PortRef,
     behind: &Behind,
 ) -> Result<(), SweepFault>
-    ensures went { ForSome (W.fabric wire.old)
+    ensures went { ForSome (W.fabric session.old.wire.now)
         (λ fabric. SwitchIsMet fabric here behind.now.path behind.now.seen survey.old survey.new row.old row.new result) }
-    ensures left { ForSome (W.fabric wire.old) (λ fabric. IsGood fabric → W.fabric wire.new ≡ Some fabric) }
+    ensures left { ForSome (W.fabric session.old.wire.now) (λ fabric. IsGood fabric → W.fabric session.new.wire.now ≡ Some fabric) }
+    ensures same_wire { session.new.wire.ghost_name ≡ session.old.wire.ghost_name }
 {
-    let node = match place_behind(wire, transaction_id, survey, behind) {
+    let node = match place_behind(session, survey, behind) {
         Ok(place) => place,
         Err(fault) => return Err(fault),
     };
@@ -268,34 +266,34 @@ fn meet_switch<W: SmpWire>(
 
 /// The place of the switch that was seen at the end of a path; it is added if it is new.
 fn place_behind<W: SmpWire>(
-    wire: &mut W,
-    transaction_id: &mut u64,
+    session: &mut Session<'_, W>,
     survey: &mut Survey,
     behind: &Behind,
 ) -> Result<usize, SweepFault>
-    ensures went { ForSome (W.fabric wire.old)
+    ensures went { ForSome (W.fabric session.old.wire.now)
         (λ fabric. SwitchIsPlaced fabric behind.now.path behind.now.seen survey.old survey.new result) }
-    ensures left { ForSome (W.fabric wire.old) (λ fabric. IsGood fabric → W.fabric wire.new ≡ Some fabric) }
+    ensures left { ForSome (W.fabric session.old.wire.now) (λ fabric. IsGood fabric → W.fabric session.new.wire.now ≡ Some fabric) }
+    ensures same_wire { session.new.wire.ghost_name ≡ session.old.wire.ghost_name }
 {
     match survey.place_of(behind.seen.node_guid) {
         Some(place) => Ok(place),
-        None => find_switch(wire, transaction_id, survey, behind),
+        None => find_switch(session, survey, behind),
     }
 }
 
 /// Adds a switch that is new, and gives its place.
 fn find_switch<W: SmpWire>(
-    wire: &mut W,
-    transaction_id: &mut u64,
+    session: &mut Session<'_, W>,
     survey: &mut Survey,
     behind: &Behind,
 ) -> Result<usize, SweepFault>
     requires new { position (λ switch. switch.guid == behind.now.seen.node_guid) survey.old.switches ≡ None }
-    ensures added { ForSome (W.fabric wire.old)
+    ensures added { ForSome (W.fabric session.old.wire.now)
         (λ fabric. SwitchIsAdded fabric behind.now.path behind.now.seen survey.old survey.new result) }
-    ensures left { ForSome (W.fabric wire.old) (λ fabric. IsGood fabric → W.fabric wire.new ≡ Some fabric) }
+    ensures left { ForSome (W.fabric session.old.wire.now) (λ fabric. IsGood fabric → W.fabric session.new.wire.now ≡ Some fabric) }
+    ensures same_wire { session.new.wire.ghost_name ≡ session.old.wire.ghost_name }
 {
-    let name = match name_of(wire, transaction_id, &behind.path) {
+    let name = match name_of(session, &behind.path) {
         Ok(name) => name,
         Err(fault) => return Err(fault),
     };
@@ -309,18 +307,18 @@ fn find_switch<W: SmpWire>(
 
 /// Adds a port of a channel adapter.
 fn meet_port<W: SmpWire>(
-    wire: &mut W,
-    transaction_id: &mut u64,
+    session: &mut Session<'_, W>,
     survey: &mut Survey,
     here: PortRef,
     behind: &Behind,
 ) -> Result<(), SweepFault>
-    ensures added { ForSome (W.fabric wire.old)
+    ensures added { ForSome (W.fabric session.old.wire.now)
         (λ fabric. PortIsAdded fabric here behind.now.path behind.now.seen survey.old survey.new result) }
-    ensures left { ForSome (W.fabric wire.old) (λ fabric. IsGood fabric → W.fabric wire.new ≡ Some fabric) }
+    ensures left { ForSome (W.fabric session.old.wire.now) (λ fabric. IsGood fabric → W.fabric session.new.wire.now ≡ Some fabric) }
+    ensures same_wire { session.new.wire.ghost_name ≡ session.old.wire.ghost_name }
 {
     let seen = behind.seen;
-    let name = match name_of(wire, transaction_id, &behind.path) {
+    let name = match name_of(session, &behind.path) {
         Ok(name) => name,
         Err(fault) => return Err(fault),
     };

@@ -70,7 +70,7 @@ entry_read routes home place lid = by (nat_lt lid LINEAR_TABLE) refl
         let past = ltb-false lid LINEAR_TABLE is in
         let long = length-map-range_with_len (linear_entry routes place) 0 LINEAR_TABLE in
         get_or_past (linear_table routes place) lid 255 (omega (arith, past, long))
-        ∙ sym (ap (λ (to : Option PortRef). unwrap_or (hop_to routes.between place to) 255) (none_past routes home lid past))
+        ∙ sym (ap (λ (to : Option PortRef). unwrap_or (hop_to routes.between lid place to) 255) (none_past routes home lid past))
 
 module _ (routes : RoutesState) (keys : List (List ℕ)) (fabric : FabricState) (home : RoutesLeadHome routes) (up : IsBroughtUp routes keys fabric) where
   few : (lid : ℕ) → lid ≤ length routes.lids → lid < LINEAR_TABLE

@@ -24,7 +24,7 @@ use Rattle.step_results.proofs.ListLemmas.{all_there}
 use Rattle.table_push.proofs.AttachedLemmas.{one_is_attached}
 use Rattle.updn_routes.specs.Cabling.{leads}
 use Rattle.updn_routes.specs.Choice.{follows, is_route}
-use Rattle.updn_routes.specs.Routes.{hop_to, home_of, next_hop, port_towards}
+use Rattle.updn_routes.specs.Routes.{hop_to, home_of, next_hop, tie_towards}
 use Rattle.updn_routes.specs.Subnet.{RoutesState, homes_of, rows_of}
 use Rattle.table_push.specs.BroughtUp.{IsBroughtUp, RoutesLeadHome}
 use Rattle.table_push.proofs.EntryLemmas.{entry_is}
@@ -89,7 +89,7 @@ module _ (routes : RoutesState) (keys : List (List ℕ)) (fabric : FabricState) 
       let hop : next_hop routes.between attachment.place lid ≡ Some leads.out =
       some_hop (next_hop routes.between attachment.place lid) leads.out (few_ports fabric.nodes here.node leads.out up.good.counts range.1) entry.is in
       by attachment range.0 (home_of (homes_of routes.graph routes.lids) lid) refl hop
-      (ap (λ (homes : List PortRef). hop_to routes.between attachment.place (home_of homes lid)) (sym home.of.homes_are) ∙ hop)
+      (ap (λ (homes : List PortRef). hop_to routes.between lid attachment.place (home_of homes lid)) (sym home.of.homes_are) ∙ hop)
     where
       near : PortRef
       near = port here.node leads.out
@@ -117,11 +117,11 @@ module _ (routes : RoutesState) (keys : List (List ℕ)) (fabric : FabricState) 
           absurd (false≢true (sym (is_no_switch fabric.nodes at one there) ∙ ap (λ (p : PortRef). is_switch_at fabric.nodes p.node) (sym there_is) ∙ link.switch))
 
       by : (attachment : IsAttached fabric routes.graph up.graph at near one) → 1 ≤ leads.out → (o : Option PortRef) → home_of (homes_of routes.graph routes.lids) lid ≡ o
-          → next_hop routes.between attachment.place lid ≡ Some leads.out → hop_to routes.between attachment.place o ≡ Some leads.out → one.info.lid ≡ lid
+          → next_hop routes.between attachment.place lid ≡ Some leads.out → hop_to routes.between lid attachment.place o ≡ Some leads.out → one.info.lid ≡ lid
       by attachment some None is hop out = absurd (none-some leads.out out)
       by attachment some (Some h) is hop out = by_node (h.node == attachment.place) refl out
         where
-          by_node : (b : Bool) → (h.node == attachment.place) ≡ b → (if b then Some h.port else port_towards routes.between h.node attachment.place) ≡ Some leads.out
+          by_node : (b : Bool) → (h.node == attachment.place) ≡ b → (if b then Some h.port else tie_towards routes.between lid h.node attachment.place) ≡ Some leads.out
               → one.info.lid ≡ lid
           by_node false apart out = elsewhere attachment h is apart hop
           by_node true here_is out =

@@ -171,13 +171,13 @@ module _ (fabric : FabricState) (roots : List ℕ) (one other : RoutesState) (go
   chosen : (routes : RoutesState) → AreRoutesIn fabric roots routes → AreChosenFrom roots routes
   chosen routes are = record { of = are.home.of; ranks = are.made.ranks_are; chosen = are.home.chosen }
 
-  same_hop_by : (guid lid : ℕ) → hop_by other guid lid ≡ hop_by one guid lid
-  same_hop_by guid lid =
-      next_hops_are_the_fabrics fabric one other roots guid lid good are.graph.layout too.graph.layout (chosen one are) (chosen other too) lids
+  same_hop_by : other.between.rule ≡ one.between.rule → (guid lid : ℕ) → hop_by other guid lid ≡ hop_by one guid lid
+  same_hop_by ruled guid lid =
+      next_hops_are_the_fabrics fabric one other roots guid lid good are.graph.layout too.graph.layout (chosen one are) (chosen other too) lids ruled
 
-  same_linear : (guid : ℕ) (held : List ℕ)
+  same_linear : other.between.rule ≡ one.between.rule → (guid : ℕ) (held : List ℕ)
       → option_map_or (linear_table other) (place_of other.graph.switches guid) held ≡ option_map_or (linear_table one) (place_of one.graph.switches guid) held
-  same_linear guid held = elim (stand guid) [
+  same_linear ruled guid held = elim (stand guid) [
     | inl none ↦ rw (none.0, none.1) refl
     | inr at ↦ ap (λ (o : Option ℕ). option_map_or (linear_table other) o held) at.2 ∙ at_both at.0 at.1 at.2
         ∙ sym (ap (λ (o : Option ℕ). option_map_or (linear_table one) o held) at.1)
@@ -187,7 +187,7 @@ module _ (fabric : FabricState) (roots : List ℕ) (one other : RoutesState) (go
           → linear_table other (moved k) ≡ linear_table one k
       at_both k mine theirs =
           same_table one other k (moved k)
-          (λ lid. sym (ap (option_and_then (λ place. next_hop other.between place lid)) theirs) ∙ same_hop_by guid lid
+          (λ lid. sym (ap (option_and_then (λ place. next_hop other.between place lid)) theirs) ∙ same_hop_by ruled guid lid
           ∙ ap (option_and_then (λ place. next_hop one.between place lid)) mine)
 
   same_multicast : (receives : ℕ → ℕ → Bool) (guid : ℕ) (held : List (List ℕ))
@@ -201,8 +201,8 @@ module _ (fabric : FabricState) (roots : List ℕ) (one other : RoutesState) (go
   ]
 
 pub pushes_are_the_fabrics : PushesAreTheFabrics
-pushes_are_the_fabrics fabric roots one other keys to good are too lids =
-    λ i. with_switches (λ guid held. record held { linear = same_linear fabric roots one other good are too lids guid held.linear i })
+pushes_are_the_fabrics fabric roots one other keys to good are too lids ruled =
+    λ i. with_switches (λ guid held. record held { linear = same_linear fabric roots one other good are too lids ruled guid held.linear i })
     (with_keys (λ guid number held. unwrap_or (same_keys fabric roots one other good are too lids keys guid number i) held)
     (with_switches (λ guid. set_top (length (lids i)))
     (with_infos (λ guid number. changed (same_change fabric roots one other good are too lids guid number i)) to)))

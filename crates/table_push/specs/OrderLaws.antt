@@ -9,20 +9,20 @@ use Rattle.table_push.specs.Pushed.{all_pushed}
 use Rattle.updn_routes.specs.Routes.{AreRoutesOf}
 use Rattle.updn_routes.specs.Subnet.{RoutesState, guids_of, homes_of, rows_of}
 
--- these are routes of the fabric: over a graph of it, from these roots
+-- these are routes of the fabric: over a graph of it, from these roots, by a rule of ties
 pub record AreRoutesIn (fabric : FabricState) (roots : List ℕ) (routes : RoutesState) : Type 0 where
   pub graph : IsGraphOf routes.graph fabric
   pub home : RoutesLeadHome routes
   pub made : AreRoutesOf (rows_of routes.graph) (guids_of routes.graph) roots (homes_of routes.graph routes.lids) routes.between
 
--- two of them, by the same LIDs, make one fabric of any
+-- two of them, by the same LIDs and by one rule of ties, make one fabric of any
 abbrev pub PushesAreTheFabrics : Type 0
 PushesAreTheFabrics =
     (fabric : FabricState) (roots : List ℕ) (one other : RoutesState) (keys : List (List ℕ)) (to : FabricState) → IsGood fabric
-    → AreRoutesIn fabric roots one → AreRoutesIn fabric roots other → other.lids ≡ one.lids
+    → AreRoutesIn fabric roots one → AreRoutesIn fabric roots other → other.lids ≡ one.lids → other.between.rule ≡ one.between.rule
     → all_pushed other keys to ≡ all_pushed one keys to
 
--- with the masks of whoever receives, too
+-- the masks of whoever receives do not depend on that rule
 abbrev pub MasksAreTheFabrics : Type 0
 MasksAreTheFabrics =
     (fabric : FabricState) (roots : List ℕ) (one other : RoutesState) (receives : ℕ → ℕ → Bool) (to : FabricState) → IsGood fabric

@@ -16,7 +16,7 @@ use crate::places::{is_marked, places_that_change};
 use crate::range_blocks::{Change, RangeBlocks};
 use crate::trees::tree_of;
 use attr_tables::WORDS_PER_BLOCK;
-use smp_wire::SmpWire;
+use smp_wire::{Session, SmpWire};
 use subnet_model::GroupReceiver;
 use switch_model::POSITIONS;
 use updn_routes::Routes;
@@ -51,7 +51,8 @@ pub fn push_changed<W: SmpWire>(
     let is_walked = (before.len() + after.len()).saturating_mul(looks) <= FEW_LOOKS;
     let blocks_before = RangeBlocks::of(routes, change, before, is_walked);
     let blocks_after = RangeBlocks::of(routes, change, after, is_walked);
-    push_blocks(wire, routes, change, &blocks_before, &blocks_after)
+    let mut session = Session::new(wire);
+    push_blocks(&mut session, routes, change, &blocks_before, &blocks_after)
 }
 
 // If receivers times switches are more than this, the port masks of all switches are computed at once.
@@ -59,7 +60,7 @@ const FEW_LOOKS: usize = 16_384;
 
 /// Sets the blocks that differ at the marked switches, which are all that may have some, switch by switch.
 fn push_blocks<W: SmpWire>(
-    wire: &mut W,
+    session: &mut Session<'_, W>,
     routes: &Routes,
     change: Change<'_>,
     before: &RangeBlocks,
@@ -69,14 +70,14 @@ fn push_blocks<W: SmpWire>(
     requires before { AreRangeBlocks routes.now change.partition change.before.now before.now }
     requires after { AreRangeBlocks routes.now change.partition change.after.now after.now }
     ensures pushed { ChangesRange routes.now change.entry.partition (receives_of change.entry.before.now) (receives_of change.entry.after.now)
-        (W.fabric wire.old) (W.fabric wire.new) result }
+        (W.fabric session.old.wire.now) (W.fabric session.new.wire.now) result }
     ensures count { CountsChanged routes.now change.entry.partition
         (receives_of change.entry.before.now) (receives_of change.entry.after.now) result }
+    ensures same_wire { session.new.wire.ghost_name ≡ session.old.wire.ghost_name }
 {
     let graph = routes.graph();
     graph.known_graph();
     let switches = graph.switches();
-    let mut transaction_id = 0;
     let mut count = 0;
     for place in 0..switches.len() {
         if is_marked(change.places, place) {
@@ -84,8 +85,7 @@ fn push_blocks<W: SmpWire>(
             let blocks_before = before.at(routes, change, change.before, place);
             let blocks_after = after.at(routes, change, change.after, place);
             match set_changed(
-                wire,
-                &mut transaction_id,
+                session,
                 path,
                 change.partition,
                 &blocks_before,
@@ -101,8 +101,7 @@ fn push_blocks<W: SmpWire>(
 
 /// Sets the blocks of a partition that differ at the switch at the end of a path, and answers how many.
 fn set_changed<W: SmpWire>(
-    wire: &mut W,
-    transaction_id: &mut u64,
+    session: &mut Session<'_, W>,
     path: &[u8],
     partition: u16,
     before: &[[u16; WORDS_PER_BLOCK]; POSITIONS],
@@ -110,23 +109,17 @@ fn set_changed<W: SmpWire>(
 ) -> Result<u32, PushFault>
     requires path { length path.now ≤ 63 }
     requires partition { LiesInTable partition }
-    ensures pushed { ForSome (W.fabric wire.old) (λ fabric. (guid : ℕ) → IsGood fabric → LeadsToSwitch fabric path.now guid
+    ensures pushed { ForSome (W.fabric session.old.wire.now) (λ fabric. (guid : ℕ) → IsGood fabric → LeadsToSwitch fabric path.now guid
         → HasBlocks guid partition before.now fabric
-        → Leaves result (W.fabric wire.new) fabric (with_switches (on_switch guid (set_range partition after.now)) fabric)) }
+        → Leaves result (W.fabric session.new.wire.now) fabric (with_switches (on_switch guid (set_range partition after.now)) fabric)) }
     ensures count { IfOk result (λ count. count ≡ blocks_changed before.now after.now) }
     ensures few { IfOk result (λ count. count ≤ 3) }
+    ensures same_wire { session.new.wire.ghost_name ≡ session.old.wire.ghost_name }
 {
     let mut count = 0;
     for position in 0..POSITIONS {
         if !is_same(&before[position], &after[position]) {
-            match set_block(
-                wire,
-                transaction_id,
-                path,
-                partition,
-                position,
-                &after[position],
-            ) {
+            match set_block(session, path, partition, position, &after[position]) {
                 Ok(()) => count += 1,
                 Err(fault) => return Err(fault),
             }

@@ -16,7 +16,7 @@ use crate::fault::{PushFault, fault_of};
 use crate::setting::set;
 use attr_tables::{SmpAttribute, WORDS_PER_BLOCK, WordBlock};
 use pkey_rules::{KeyTable, PARTITIONS, PKey, base_of, key_of};
-use smp_wire::{ReplyFault, SmpWire, get_attribute};
+use smp_wire::{ReplyFault, Session, SmpWire};
 use updn_routes::Routes;
 
 /// Writes the P_Key tables: of each end port its own keys, which stand in `keys` in order of LID, and of each port of a
@@ -33,24 +33,24 @@ pub fn push_keys<W: SmpWire>(
     ensures { ForSome (W.fabric wire.old) (λ fabric. IsGraphOf routes.now.graph fabric → IsGood fabric
         → Leaves result (W.fabric wire.new) fabric (keys_pushed routes.now keys.now fabric)) }
 {
-    let mut transaction_id = 0;
-    match to_switches(wire, &mut transaction_id, routes, keys) {
+    let mut session = Session::new(wire);
+    match to_switches(&mut session, routes, keys) {
         Ok(()) => {}
         Err(fault) => return Err(fault),
     }
-    to_cables(wire, &mut transaction_id, routes, keys)
+    to_cables(&mut session, routes, keys)
 }
 
 /// Sets the P_Key table of port 0 of each switch.
 fn to_switches<W: SmpWire>(
-    wire: &mut W,
-    transaction_id: &mut u64,
+    session: &mut Session<'_, W>,
     routes: &Routes,
     keys: &[KeyTable<PARTITIONS>],
 ) -> Result<(), PushFault>
-    ensures { ForSome (W.fabric wire.old) (λ fabric. IsGraphOf routes.now.graph fabric → IsGood fabric
-        → Leaves result (W.fabric wire.new) fabric
+    ensures left { ForSome (W.fabric session.old.wire.now) (λ fabric. IsGraphOf routes.now.graph fabric → IsGood fabric
+        → Leaves result (W.fabric session.new.wire.now) fabric
         (with_keys (keys_where (at_switches routes.now.graph.switches) routes.now keys.now) fabric)) }
+    ensures same_wire { session.new.wire.ghost_name ≡ session.old.wire.ghost_name }
 {
     let graph = routes.graph();
     graph.known_graph();
@@ -58,7 +58,7 @@ fn to_switches<W: SmpWire>(
     for place in 0..switches.len() {
         let switch = &switches[place];
         let table = table_of(routes, keys, switch.guid, false);
-        match set_some(wire, transaction_id, switch.path.as_slice(), 0, table) {
+        match set_some(session, switch.path.as_slice(), 0, table) {
             Ok(()) => {}
             Err(fault) => return Err(fault),
         }
@@ -68,17 +68,17 @@ fn to_switches<W: SmpWire>(
 
 /// Sets the P_Key tables at both ends of each cable between a switch and a channel adapter.
 fn to_cables<W: SmpWire>(
-    wire: &mut W,
-    transaction_id: &mut u64,
+    session: &mut Session<'_, W>,
     routes: &Routes,
     keys: &[KeyTable<PARTITIONS>],
 ) -> Result<(), PushFault>
-    ensures { PutsKeysAtCables routes.now keys.now (W.fabric wire.old) (W.fabric wire.new) result }
+    ensures left { PutsKeysAtCables routes.now keys.now (W.fabric session.old.wire.now) (W.fabric session.new.wire.now) result }
+    ensures same_wire { session.new.wire.ghost_name ≡ session.old.wire.ghost_name }
 {
     let graph = routes.graph();
     graph.known_graph();
     for place in 0..graph.ports().len() {
-        match to_cable(wire, transaction_id, routes, keys, place) {
+        match to_cable(session, routes, keys, place) {
             Ok(()) => {}
             Err(fault) => return Err(fault),
         }
@@ -88,49 +88,43 @@ fn to_cables<W: SmpWire>(
 
 /// Sets the P_Key tables of a port of a channel adapter, and of the port of a switch that it is attached to.
 fn to_cable<W: SmpWire>(
-    wire: &mut W,
-    transaction_id: &mut u64,
+    session: &mut Session<'_, W>,
     routes: &Routes,
     keys: &[KeyTable<PARTITIONS>],
     place: usize,
 ) -> Result<(), PushFault>
     requires { place < length routes.now.graph.ports }
-    ensures { PutsKeysAtCable routes.now keys.now (W.fabric wire.old) (W.fabric wire.new) place result }
+    ensures left { PutsKeysAtCable routes.now keys.now (W.fabric session.old.wire.now) (W.fabric session.new.wire.now) place result }
+    ensures same_wire { session.new.wire.ghost_name ≡ session.old.wire.ghost_name }
 {
     let graph = routes.graph();
     graph.known_graph();
     let port = &graph.ports()[place];
     let switch = &graph.switches()[port.at.node];
     let full = table_of(routes, keys, port.port_guid, true);
-    match set_some(
-        wire,
-        transaction_id,
-        switch.path.as_slice(),
-        port.at.port,
-        full,
-    ) {
+    match set_some(session, switch.path.as_slice(), port.at.port, full) {
         Ok(()) => {}
         Err(fault) => return Err(fault),
     }
     let own = table_of(routes, keys, port.port_guid, false);
     let path = switch.path.then(port.at.port);
-    set_some(wire, transaction_id, path.as_slice(), 0, own)
+    set_some(session, path.as_slice(), 0, own)
 }
 
 /// Sets the P_Key table of a port, if there is one to set.
 fn set_some<W: SmpWire>(
-    wire: &mut W,
-    transaction_id: &mut u64,
+    session: &mut Session<'_, W>,
     path: &[u8],
     asked: u8,
     table: Option<[u16; PARTITIONS]>,
 ) -> Result<(), PushFault>
     requires { length path.now ≤ 63 }
-    ensures { ForSome (W.fabric wire.old) (λ fabric. (guid number : ℕ) → IsGood fabric → LeadsToPort fabric path.now asked guid number
-        → Leaves result (W.fabric wire.new) fabric (with_keys (on_port guid number (λ held. unwrap_or table held)) fabric)) }
+    ensures left { ForSome (W.fabric session.old.wire.now) (λ fabric. (guid number : ℕ) → IsGood fabric → LeadsToPort fabric path.now asked guid number
+        → Leaves result (W.fabric session.new.wire.now) fabric (with_keys (on_port guid number (λ held. unwrap_or table held)) fabric)) }
+    ensures same_wire { session.new.wire.ghost_name ≡ session.old.wire.ghost_name }
 {
     match table {
-        Some(table) => set_table(wire, transaction_id, path, asked, &table),
+        Some(table) => set_table(session, path, asked, &table),
         None => Ok(()),
     }
 }
@@ -156,18 +150,18 @@ fn table_of(
 /// Sets the P_Key table of a port of the node at the end of a path, block by block. A switch is asked for its port of
 /// that number; a port of a channel adapter is asked for port 0, itself.
 fn set_table<W: SmpWire>(
-    wire: &mut W,
-    transaction_id: &mut u64,
+    session: &mut Session<'_, W>,
     path: &[u8],
     asked: u8,
     table: &[u16; PARTITIONS],
 ) -> Result<(), PushFault>
     requires { length path.now ≤ 63 }
-    ensures { ForSome (W.fabric wire.old) (λ fabric. (guid number : ℕ) → IsGood fabric → LeadsToPort fabric path.now asked guid number
-        → Leaves result (W.fabric wire.new) fabric (with_keys (on_port guid number (λ held. table.now)) fabric)) }
+    ensures left { ForSome (W.fabric session.old.wire.now) (λ fabric. (guid number : ℕ) → IsGood fabric → LeadsToPort fabric path.now asked guid number
+        → Leaves result (W.fabric session.new.wire.now) fabric (with_keys (on_port guid number (λ held. table.now)) fabric)) }
+    ensures same_wire { session.new.wire.ghost_name ≡ session.old.wire.ghost_name }
 {
     for block in 0..PARTITIONS / WORDS_PER_BLOCK {
-        match put_block(wire, transaction_id, path, asked, block, table) {
+        match put_block(session, path, asked, block, table) {
             Ok(()) => {}
             Err(fault) => return Err(fault),
         }
@@ -178,8 +172,7 @@ fn set_table<W: SmpWire>(
 /// Puts a block of a P_Key table where it belongs. An empty block, of which most tables have some, is set only if the port
 /// holds something there.
 fn put_block<W: SmpWire>(
-    wire: &mut W,
-    transaction_id: &mut u64,
+    session: &mut Session<'_, W>,
     path: &[u8],
     asked: u8,
     block: usize,
@@ -187,48 +180,35 @@ fn put_block<W: SmpWire>(
 ) -> Result<(), PushFault>
     requires path { length path.now ≤ 63 }
     requires block { has_block 32 block table.now ≡ true }
-    ensures { PutsBlock (W.fabric wire.old) (W.fabric wire.new) path.now asked block (block_of 32 block table.now) result }
+    ensures left { PutsBlock (W.fabric session.old.wire.now) (W.fabric session.new.wire.now) path.now asked block (block_of 32 block table.now) result }
+    ensures same_wire { session.new.wire.ghost_name ≡ session.old.wire.ghost_name }
 {
     let wanted = block_at(table, block);
     let modifier = asked as u32 * 65536 + block as u32;
-    match is_there(wire, transaction_id, modifier, path, &wanted) {
+    match is_there(session, modifier, path, &wanted) {
         Ok(true) => Ok(()),
-        Ok(false) => set(
-            wire,
-            transaction_id,
-            SmpAttribute::PKeyTable,
-            modifier,
-            path,
-            &wanted,
-        ),
+        Ok(false) => set(session, SmpAttribute::PKeyTable, modifier, path, &wanted),
         Err(fault) => Err(fault),
     }
 }
 
 /// Whether a block of keys that is to be empty is so already. Other blocks aren't asked for: they are set in any case.
 fn is_there<W: SmpWire>(
-    wire: &mut W,
-    transaction_id: &mut u64,
+    session: &mut Session<'_, W>,
     modifier: u32,
     path: &[u8],
     wanted: &[u8; 64],
 ) -> Result<bool, PushFault>
     requires { length path.now ≤ 63 }
-    ensures reported { ForSome (W.fabric wire.old) (λ fabric. (given : List ℕ) → IsGood fabric
+    ensures reported { ForSome (W.fabric session.old.wire.now) (λ fabric. (given : List ℕ) → IsGood fabric
         → gives_along fabric path.now attribute.PKeyTable modifier ≡ Some (Ok given) → SaysWhetherThere result given wanted.now) }
-    ensures left { ForSome (W.fabric wire.old) (λ fabric. IsGood fabric → W.fabric wire.new ≡ Some fabric) }
+    ensures left { ForSome (W.fabric session.old.wire.now) (λ fabric. IsGood fabric → W.fabric session.new.wire.now ≡ Some fabric) }
+    ensures same_wire { session.new.wire.ghost_name ≡ session.old.wire.ghost_name }
 {
     if *wanted != [0; 64] {
         return Ok(false);
     }
-    *transaction_id = transaction_id.wrapping_add(1);
-    let reported = get_attribute(
-        wire,
-        *transaction_id,
-        SmpAttribute::PKeyTable,
-        modifier,
-        path,
-    );
+    let reported = session.get(SmpAttribute::PKeyTable, modifier, path);
     whether_there(wanted, reported)
 }
 

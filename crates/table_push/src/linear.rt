@@ -15,7 +15,7 @@ use agent_rules::LINEAR_TABLE;
 use attr_tables::{PORTS_PER_BLOCK, SmpAttribute};
 use fabric_parts::NO_PORT;
 use mad_layout::known_bytes;
-use smp_wire::SmpWire;
+use smp_wire::{Session, SmpWire};
 use updn_routes::Routes;
 
 /// Writes the linear forwarding tables of all switches, whole: for each LID the next hop of the routes, and 0xFF
@@ -26,18 +26,13 @@ pub fn push_linear<W: SmpWire>(wire: &mut W, routes: &Routes) -> Result<(), Push
     ensures { ForSome (W.fabric wire.old) (λ fabric. IsGraphOf routes.now.graph fabric → IsGood fabric
         → Leaves result (W.fabric wire.new) fabric (linear_pushed routes.now fabric)) }
 {
+    let mut session = Session::new(wire);
     let graph = routes.graph();
     graph.known_graph();
     let switches = graph.switches();
-    let mut transaction_id = 0;
     for place in 0..switches.len() {
         let table = linear_table(routes, place);
-        match set_table(
-            wire,
-            &mut transaction_id,
-            switches[place].path.as_slice(),
-            &table,
-        ) {
+        match set_table(&mut session, switches[place].path.as_slice(), &table) {
             Ok(()) => {}
             Err(fault) => return Err(fault),
         }
@@ -47,21 +42,20 @@ pub fn push_linear<W: SmpWire>(wire: &mut W, routes: &Routes) -> Result<(), Push
 
 /// Sets the linear forwarding table of the switch at the end of a path, block by block.
 fn set_table<W: SmpWire>(
-    wire: &mut W,
-    transaction_id: &mut u64,
+    session: &mut Session<'_, W>,
     path: &[u8],
     table: &[u8; LINEAR_TABLE],
 ) -> Result<(), PushFault>
     requires { length path.now ≤ 63 }
-    ensures { ForSome (W.fabric wire.old) (λ fabric. (guid : ℕ) → IsGood fabric → LeadsToSwitch fabric path.now guid
-        → Leaves result (W.fabric wire.new) fabric (with_switches (on_switch guid (set_linear table.now)) fabric)) }
+    ensures left { ForSome (W.fabric session.old.wire.now) (λ fabric. (guid : ℕ) → IsGood fabric → LeadsToSwitch fabric path.now guid
+        → Leaves result (W.fabric session.new.wire.now) fabric (with_switches (on_switch guid (set_linear table.now)) fabric)) }
+    ensures same_wire { session.new.wire.ghost_name ≡ session.old.wire.ghost_name }
 {
     for block in 0..LINEAR_TABLE / PORTS_PER_BLOCK {
         let entries = block_at(table, block);
         known_bytes(&entries);
         match set(
-            wire,
-            transaction_id,
+            session,
             SmpAttribute::LinearForwardingTable,
             block as u32,
             path,

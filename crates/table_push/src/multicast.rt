@@ -18,7 +18,7 @@ use crate::setting::set;
 use crate::trees::{Tree, blocks_of, put_masks, tree_of};
 use attr_tables::{SmpAttribute, WORDS_PER_BLOCK, WordBlock};
 use fabric_parts::SWITCHES;
-use smp_wire::SmpWire;
+use smp_wire::{Session, SmpWire};
 use subnet_model::GroupReceiver;
 use switch_model::POSITIONS;
 use updn_routes::Routes;
@@ -43,12 +43,11 @@ pub fn push_multicast<W: SmpWire>(
     let tree = tree_of(routes);
     let mut masks = [[0; SWITCHES]; WORDS_PER_BLOCK];
     put_range(routes, &tree, partition, receivers, &mut masks);
-    let mut transaction_id = 0;
+    let mut session = Session::new(wire);
     for place in 0..switches.len() {
         let blocks = blocks_of(&masks, place);
         match set_range(
-            wire,
-            &mut transaction_id,
+            &mut session,
             switches[place].path.as_slice(),
             partition,
             &blocks,
@@ -83,26 +82,19 @@ pub(crate) fn put_range(
 
 /// Sets the MLID range of a partition at the switch at the end of a path, position by position.
 fn set_range<W: SmpWire>(
-    wire: &mut W,
-    transaction_id: &mut u64,
+    session: &mut Session<'_, W>,
     path: &[u8],
     partition: u16,
     blocks: &[[u16; WORDS_PER_BLOCK]; POSITIONS],
 ) -> Result<(), PushFault>
     requires path { length path.now ≤ 63 }
     requires partition { LiesInTable partition }
-    ensures { ForSome (W.fabric wire.old) (λ fabric. (guid : ℕ) → IsGood fabric → LeadsToSwitch fabric path.now guid
-        → Leaves result (W.fabric wire.new) fabric (with_switches (on_switch guid (set_range partition blocks.now)) fabric)) }
+    ensures left { ForSome (W.fabric session.old.wire.now) (λ fabric. (guid : ℕ) → IsGood fabric → LeadsToSwitch fabric path.now guid
+        → Leaves result (W.fabric session.new.wire.now) fabric (with_switches (on_switch guid (set_range partition blocks.now)) fabric)) }
+    ensures same_wire { session.new.wire.ghost_name ≡ session.old.wire.ghost_name }
 {
     for position in 0..POSITIONS {
-        match set_block(
-            wire,
-            transaction_id,
-            path,
-            partition,
-            position,
-            &blocks[position],
-        ) {
+        match set_block(session, path, partition, position, &blocks[position]) {
             Ok(()) => {}
             Err(fault) => return Err(fault),
         }
@@ -112,8 +104,7 @@ fn set_range<W: SmpWire>(
 
 /// Sets the block of a partition at one position at the switch at the end of a path.
 pub(crate) fn set_block<W: SmpWire>(
-    wire: &mut W,
-    transaction_id: &mut u64,
+    session: &mut Session<'_, W>,
     path: &[u8],
     partition: u16,
     position: usize,
@@ -123,14 +114,15 @@ pub(crate) fn set_block<W: SmpWire>(
     requires partition { LiesInTable partition }
     requires position { position < 3 }
     ensures words { IsTable 32 65536 block.now }
-    ensures set { ForSome (W.fabric wire.old) (λ fabric. SetsBlock fabric (W.fabric wire.new) path.now position partition block.now result) }
+    ensures set { ForSome (W.fabric session.old.wire.now)
+        (λ fabric. SetsBlock fabric (W.fabric session.new.wire.now) path.now position partition block.now result) }
+    ensures same_wire { session.new.wire.ghost_name ≡ session.old.wire.ghost_name }
 {
     let masks = block_bytes(block);
     // The position stands in the first 4 bits, the block in the last 9.
     let modifier = position as u32 * 0x1000_0000 + partition as u32;
     set(
-        wire,
-        transaction_id,
+        session,
         SmpAttribute::MulticastForwardingTable,
         modifier,
         path,

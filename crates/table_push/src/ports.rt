@@ -20,7 +20,7 @@ use crate::setting::set_port_info;
 use crate::tops::set_tops;
 use attr_tables::{PortInfo, PortState, SmpAttribute};
 use fabric_parts::{GID_PREFIX, MANAGER_LID};
-use smp_wire::{SmpWire, get_attribute};
+use smp_wire::{Session, SmpWire};
 use updn_routes::Routes;
 
 /// What is changed of a port; what is none stays.
@@ -72,16 +72,16 @@ pub fn push_ports_counting<W: SmpWire>(wire: &mut W, routes: &Routes) -> Result<
         → IfOk result (λ count. count ≡ 0)) }
     ensures few { IfOk result (λ count. count ≤ length routes.now.graph.ports) }
 {
-    let mut transaction_id = 0;
-    let count = match to_ports(wire, &mut transaction_id, routes, Round::Arming) {
+    let mut session = Session::new(wire);
+    let count = match to_ports(&mut session, routes, Round::Arming) {
         Ok(count) => count,
         Err(fault) => return Err(fault),
     };
-    match to_ports(wire, &mut transaction_id, routes, Round::Activating) {
+    match to_ports(&mut session, routes, Round::Activating) {
         Ok(_) => {}
         Err(fault) => return Err(fault),
     }
-    match set_tops(wire, &mut transaction_id, routes) {
+    match set_tops(&mut session, routes) {
         Ok(()) => Ok(count),
         Err(fault) => Err(fault),
     }
@@ -89,37 +89,37 @@ pub fn push_ports_counting<W: SmpWire>(wire: &mut W, routes: &Routes) -> Result<
 
 /// Does one round at all ports, and returns how many ports of switches before channel adapters do not enforce partitions.
 fn to_ports<W: SmpWire>(
-    wire: &mut W,
-    transaction_id: &mut u64,
+    session: &mut Session<'_, W>,
     routes: &Routes,
     round: Round,
 ) -> Result<usize, PushFault>
-    ensures left { ForSome (W.fabric wire.old) (λ fabric. IsGraphOf routes.now.graph fabric → IsGood fabric → ShowsLinks fabric
-        → Leaves (all_enforce result) (W.fabric wire.new) fabric (with_infos (changed_in round routes.now) fabric)) }
+    ensures left { ForSome (W.fabric session.old.wire.now) (λ fabric. IsGraphOf routes.now.graph fabric → IsGood fabric → ShowsLinks fabric
+        → Leaves (all_enforce result) (W.fabric session.new.wire.now) fabric (with_infos (changed_in round routes.now) fabric)) }
     ensures few { IfOk result (λ count. count ≤ length routes.now.graph.ports) }
+    ensures same_wire { session.new.wire.ghost_name ≡ session.old.wire.ghost_name }
 {
-    match to_switches(wire, transaction_id, routes, round) {
+    match to_switches(session, routes, round) {
         Ok(()) => {}
         Err(fault) => return Err(fault),
     }
-    to_cables(wire, transaction_id, routes, round)
+    to_cables(session, routes, round)
 }
 
 /// Does a round at port 0 of each switch, and at its ports with cables to other switches.
 fn to_switches<W: SmpWire>(
-    wire: &mut W,
-    transaction_id: &mut u64,
+    session: &mut Session<'_, W>,
     routes: &Routes,
     round: Round,
 ) -> Result<(), PushFault>
-    ensures { ForSome (W.fabric wire.old) (λ fabric. IsGraphOf routes.now.graph fabric → IsGood fabric → ShowsLinks fabric
-        → Leaves result (W.fabric wire.new) fabric
+    ensures left { ForSome (W.fabric session.old.wire.now) (λ fabric. IsGraphOf routes.now.graph fabric → IsGood fabric → ShowsLinks fabric
+        → Leaves result (W.fabric session.new.wire.now) fabric
         (with_infos (changed_where round (at_switches_before routes.now.graph (length routes.now.graph.switches)) routes.now) fabric)) }
+    ensures same_wire { session.new.wire.ghost_name ≡ session.old.wire.ghost_name }
 {
     let graph = routes.graph();
     graph.known_graph();
     for place in 0..graph.switches().len() {
-        match to_switch(wire, transaction_id, routes, round, place) {
+        match to_switch(session, routes, round, place) {
             Ok(()) => {}
             Err(fault) => return Err(fault),
         }
@@ -129,15 +129,15 @@ fn to_switches<W: SmpWire>(
 
 /// Does a round at port 0 of a switch, and at its ports with cables to other switches.
 fn to_switch<W: SmpWire>(
-    wire: &mut W,
-    transaction_id: &mut u64,
+    session: &mut Session<'_, W>,
     routes: &Routes,
     round: Round,
     place: usize,
 ) -> Result<(), PushFault>
     requires { place < length routes.now.graph.switches }
-    ensures { SetsUpMore routes.now round (W.fabric wire.old) (W.fabric wire.new)
+    ensures left { SetsUpMore routes.now round (W.fabric session.old.wire.now) (W.fabric session.new.wire.now)
         (λ guid number. at_switch routes.now.graph guid number place) result }
+    ensures same_wire { session.new.wire.ghost_name ≡ session.old.wire.ghost_name }
 {
     let graph = routes.graph();
     graph.known_graph();
@@ -150,23 +150,23 @@ fn to_switch<W: SmpWire>(
         active: false,
     };
     let path = switch.path.as_slice();
-    match set_port(wire, transaction_id, path, 0, round, &change) {
+    match set_port(session, path, 0, round, &change) {
         Ok(()) => {}
         Err(fault) => return Err(fault),
     }
-    to_links(wire, transaction_id, routes, round, place)
+    to_links(session, routes, round, place)
 }
 
 /// Does a round at the ports of a switch with cables to other switches.
 fn to_links<W: SmpWire>(
-    wire: &mut W,
-    transaction_id: &mut u64,
+    session: &mut Session<'_, W>,
     routes: &Routes,
     round: Round,
     place: usize,
 ) -> Result<(), PushFault>
     requires { place < length routes.now.graph.switches }
-    ensures { SetsUpMore routes.now round (W.fabric wire.old) (W.fabric wire.new) (at_links routes.now place) result }
+    ensures left { SetsUpMore routes.now round (W.fabric session.old.wire.now) (W.fabric session.new.wire.now) (at_links routes.now place) result }
+    ensures same_wire { session.new.wire.ghost_name ≡ session.old.wire.ghost_name }
 {
     let graph = routes.graph();
     graph.known_graph();
@@ -178,14 +178,7 @@ fn to_links<W: SmpWire>(
         active: true,
     };
     for index in 0..links.len() {
-        match set_port(
-            wire,
-            transaction_id,
-            path,
-            links[index].port,
-            round,
-            &change,
-        ) {
+        match set_port(session, path, links[index].port, round, &change) {
             Ok(()) => {}
             Err(fault) => return Err(fault),
         }
@@ -196,19 +189,19 @@ fn to_links<W: SmpWire>(
 /// Does a round at both ends of each cable between a switch and a channel adapter, and returns how many of these ports of
 /// switches do not enforce partitions.
 fn to_cables<W: SmpWire>(
-    wire: &mut W,
-    transaction_id: &mut u64,
+    session: &mut Session<'_, W>,
     routes: &Routes,
     round: Round,
 ) -> Result<usize, PushFault>
-    ensures left { SetsUpRest routes.now round (W.fabric wire.old) (W.fabric wire.new) (all_enforce result) }
+    ensures left { SetsUpRest routes.now round (W.fabric session.old.wire.now) (W.fabric session.new.wire.now) (all_enforce result) }
     ensures few { IfOk result (λ count. count ≤ length routes.now.graph.ports) }
+    ensures same_wire { session.new.wire.ghost_name ≡ session.old.wire.ghost_name }
 {
     let graph = routes.graph();
     graph.known_graph();
     let mut count = 0;
     for place in 0..graph.ports().len() {
-        match to_cable(wire, transaction_id, routes, round, place) {
+        match to_cable(session, routes, round, place) {
             Ok(taken) => count += taken.count(),
             Err(fault) => return Err(fault),
         }
@@ -219,14 +212,14 @@ fn to_cables<W: SmpWire>(
 /// Does a round at a port of a channel adapter, and at the port of a switch that it is attached to. Returns what that port of
 /// the switch takes; the port of the channel adapter has to take all.
 fn to_cable<W: SmpWire>(
-    wire: &mut W,
-    transaction_id: &mut u64,
+    session: &mut Session<'_, W>,
     routes: &Routes,
     round: Round,
     place: usize,
 ) -> Result<Taken, PushFault>
     requires { place < length routes.now.graph.ports }
-    ensures { SetsUpCable routes.now round (W.fabric wire.old) (W.fabric wire.new) place (all_taken result) }
+    ensures left { SetsUpCable routes.now round (W.fabric session.old.wire.now) (W.fabric session.new.wire.now) place (all_taken result) }
+    ensures same_wire { session.new.wire.ghost_name ≡ session.old.wire.ghost_name }
 {
     let graph = routes.graph();
     graph.known_graph();
@@ -240,8 +233,7 @@ fn to_cable<W: SmpWire>(
         active: true,
     };
     let taken = match round_at(
-        wire,
-        transaction_id,
+        session,
         switch.path.as_slice(),
         port.at.port,
         round,
@@ -256,7 +248,7 @@ fn to_cable<W: SmpWire>(
         active: true,
     };
     let path = switch.path.then(port.at.port);
-    match set_port(wire, transaction_id, path.as_slice(), 0, round, &own) {
+    match set_port(session, path.as_slice(), 0, round, &own) {
         Ok(()) => Ok(taken),
         Err(fault) => Err(fault),
     }
@@ -264,40 +256,40 @@ fn to_cable<W: SmpWire>(
 
 /// Does a round at a port of the node at the end of a path. The port has to take all.
 fn set_port<W: SmpWire>(
-    wire: &mut W,
-    transaction_id: &mut u64,
+    session: &mut Session<'_, W>,
     path: &[u8],
     asked: u8,
     round: Round,
     change: &PortChange,
 ) -> Result<(), PushFault>
     requires { length path.now ≤ 63 }
-    ensures { ForSome (W.fabric wire.old) (λ fabric. (guid number : ℕ) → IsGood fabric
+    ensures left { ForSome (W.fabric session.old.wire.now) (λ fabric. (guid number : ℕ) → IsGood fabric
         → TakesChange fabric path.now asked guid number change.now
-        → Leaves result (W.fabric wire.new) fabric (with_infos (on_port guid number (in_round round change.now)) fabric)) }
+        → Leaves result (W.fabric session.new.wire.now) fabric (with_infos (on_port guid number (in_round round change.now)) fabric)) }
+    ensures same_wire { session.new.wire.ghost_name ≡ session.old.wire.ghost_name }
 {
-    let taken = round_at(wire, transaction_id, path, asked, round, change);
+    let taken = round_at(session, path, asked, round, change);
     all_taken(taken)
 }
 
 /// Does a round at a port of the node at the end of a path, and returns what the port takes. A switch is asked for its port of
 /// that number; a port of a channel adapter is asked for port 0, itself.
 fn round_at<W: SmpWire>(
-    wire: &mut W,
-    transaction_id: &mut u64,
+    session: &mut Session<'_, W>,
     path: &[u8],
     asked: u8,
     round: Round,
     change: &PortChange,
 ) -> Result<Taken, PushFault>
     requires { length path.now ≤ 63 }
-    ensures { ForSome (W.fabric wire.old) (λ fabric. (guid number : ℕ) → IsGood fabric
+    ensures left { ForSome (W.fabric session.old.wire.now) (λ fabric. (guid number : ℕ) → IsGood fabric
         → TakesChange fabric path.now asked guid number change.now
-        → Leaves (all_taken result) (W.fabric wire.new) fabric (with_infos (on_port guid number (in_round round change.now)) fabric)) }
+        → Leaves (all_taken result) (W.fabric session.new.wire.now) fabric (with_infos (on_port guid number (in_round round change.now)) fabric)) }
+    ensures same_wire { session.new.wire.ghost_name ≡ session.old.wire.ghost_name }
 {
     match round {
-        Round::Arming => arm(wire, transaction_id, path, asked, change),
-        Round::Activating => match activate(wire, transaction_id, path, asked, change) {
+        Round::Arming => arm(session, path, asked, change),
+        Round::Activating => match activate(session, path, asked, change) {
             Ok(()) => Ok(Taken::AsSet),
             Err(fault) => Err(fault),
         },
@@ -307,18 +299,18 @@ fn round_at<W: SmpWire>(
 /// Changes PortInfo of a port in all but that it becomes Active; one that is to become Active becomes Armed. A port that holds
 /// all of that is not set. Returns what the port takes.
 fn arm<W: SmpWire>(
-    wire: &mut W,
-    transaction_id: &mut u64,
+    session: &mut Session<'_, W>,
     path: &[u8],
     asked: u8,
     change: &PortChange,
 ) -> Result<Taken, PushFault>
     requires { length path.now ≤ 63 }
-    ensures { ForSome (W.fabric wire.old) (λ fabric. (guid number : ℕ) → IsGood fabric
+    ensures left { ForSome (W.fabric session.old.wire.now) (λ fabric. (guid number : ℕ) → IsGood fabric
         → TakesChange fabric path.now asked guid number change.now
-        → Leaves (all_taken result) (W.fabric wire.new) fabric (with_infos (on_port guid number (armed change.now)) fabric)) }
+        → Leaves (all_taken result) (W.fabric session.new.wire.now) fabric (with_infos (on_port guid number (armed change.now)) fabric)) }
+    ensures same_wire { session.new.wire.ghost_name ≡ session.old.wire.ghost_name }
 {
-    let bytes = match held_info(wire, transaction_id, path, asked) {
+    let bytes = match held_info(session, path, asked) {
         Ok(bytes) => bytes,
         Err(fault) => return Err(fault),
     };
@@ -329,7 +321,7 @@ fn arm<W: SmpWire>(
         return Ok(Taken::AsSet);
     }
     let wanted = in_state(state, &info);
-    set_info(wire, transaction_id, path, asked, &bytes, &wanted)
+    set_info(session, path, asked, &bytes, &wanted)
 }
 
 /// Whether a port that holds these bytes has nothing to be set: no state is asked for, and they have all of `info`.
@@ -350,21 +342,21 @@ fn is_held(state: PortState, info: &PortInfo, held: &[u8; 64]) -> bool
 
 /// Makes a port Active that is to be, unless it is. One that has come back to Initialize becomes Armed before.
 fn activate<W: SmpWire>(
-    wire: &mut W,
-    transaction_id: &mut u64,
+    session: &mut Session<'_, W>,
     path: &[u8],
     asked: u8,
     change: &PortChange,
 ) -> Result<(), PushFault>
     requires { length path.now ≤ 63 }
-    ensures { ForSome (W.fabric wire.old) (λ fabric. (guid number : ℕ) → IsGood fabric
+    ensures left { ForSome (W.fabric session.old.wire.now) (λ fabric. (guid number : ℕ) → IsGood fabric
         → TakesChange fabric path.now asked guid number change.now
-        → Leaves result (W.fabric wire.new) fabric (with_infos (on_port guid number (activated change.now)) fabric)) }
+        → Leaves result (W.fabric session.new.wire.now) fabric (with_infos (on_port guid number (activated change.now)) fabric)) }
+    ensures same_wire { session.new.wire.ghost_name ≡ session.old.wire.ghost_name }
 {
     if !change.active {
         return Ok(());
     }
-    let bytes = match held_info(wire, transaction_id, path, asked) {
+    let bytes = match held_info(session, path, asked) {
         Ok(bytes) => bytes,
         Err(fault) => return Err(fault),
     };
@@ -375,14 +367,14 @@ fn activate<W: SmpWire>(
         _ => {}
     }
     let first = in_state(state, &held);
-    match set_whole_info(wire, transaction_id, path, asked, &bytes, &first) {
+    match set_whole_info(session, path, asked, &bytes, &first) {
         Ok(()) => {}
         Err(fault) => return Err(fault),
     }
     match state {
         PortState::Armed => {
             let last = in_state(PortState::Active, &held);
-            set_whole_info(wire, transaction_id, path, asked, &bytes, &last)
+            set_whole_info(session, path, asked, &bytes, &last)
         }
         _ => Ok(()),
     }
@@ -390,25 +382,18 @@ fn activate<W: SmpWire>(
 
 /// PortInfo of a port, as it is now, with what stands outside our fields.
 fn held_info<W: SmpWire>(
-    wire: &mut W,
-    transaction_id: &mut u64,
+    session: &mut Session<'_, W>,
     path: &[u8],
     asked: u8,
 ) -> Result<[u8; 64], PushFault>
     requires { length path.now ≤ 63 }
-    ensures reported { ForSome (W.fabric wire.old) (λ fabric. (given : List ℕ) → IsGood fabric
+    ensures reported { ForSome (W.fabric session.old.wire.now) (λ fabric. (given : List ℕ) → IsGood fabric
         → gives_along fabric path.now attribute.PortInfo asked ≡ Some (Ok given) → result ≡ Ok given) }
-    ensures left { ForSome (W.fabric wire.old) (λ fabric. IsGood fabric → W.fabric wire.new ≡ Some fabric) }
-    ensures counted { transaction_id.new ≡ (transaction_id.old + 1) % 2 ^ 64 }
+    ensures left { ForSome (W.fabric session.old.wire.now) (λ fabric. IsGood fabric → W.fabric session.new.wire.now ≡ Some fabric) }
+    ensures same_wire { session.new.wire.ghost_name ≡ session.old.wire.ghost_name }
+    ensures counted { session.new.transaction_id ≡ (session.old.transaction_id + 1) % 2 ^ 64 }
 {
-    *transaction_id = transaction_id.wrapping_add(1);
-    match get_attribute(
-        wire,
-        *transaction_id,
-        SmpAttribute::PortInfo,
-        asked as u32,
-        path,
-    ) {
+    match session.get(SmpAttribute::PortInfo, asked as u32, path) {
         Ok(bytes) => Ok(bytes),
         Err(fault) => Err(fault_of(fault)),
     }
@@ -416,8 +401,7 @@ fn held_info<W: SmpWire>(
 
 /// Sets PortInfo of a port to this, and the port has to take all.
 fn set_whole_info<W: SmpWire>(
-    wire: &mut W,
-    transaction_id: &mut u64,
+    session: &mut Session<'_, W>,
     path: &[u8],
     asked: u8,
     held: &[u8; 64],
@@ -425,18 +409,18 @@ fn set_whole_info<W: SmpWire>(
 ) -> Result<(), PushFault>
     requires path { length path.now ≤ 63 }
     requires fits { Fits (port_info info.now) }
-    ensures { ForSome (W.fabric wire.old) (λ fabric. TakesAndGives fabric (W.fabric wire.new) path.now attribute.PortInfo asked
+    ensures left { ForSome (W.fabric session.old.wire.now) (λ fabric. TakesAndGives fabric (W.fabric session.new.wire.now) path.now attribute.PortInfo asked
         (put_all held.now (port_info info.now)) result) }
+    ensures same_wire { session.new.wire.ghost_name ≡ session.old.wire.ghost_name }
 {
-    let taken = set_info(wire, transaction_id, path, asked, held, info);
+    let taken = set_info(session, path, asked, held, info);
     all_taken(taken)
 }
 
 /// Sets PortInfo of a port to this, and returns what the port takes. What it holds outside our fields, as CapabilityMask2, is
 /// set to what it was.
 fn set_info<W: SmpWire>(
-    wire: &mut W,
-    transaction_id: &mut u64,
+    session: &mut Session<'_, W>,
     path: &[u8],
     asked: u8,
     held: &[u8; 64],
@@ -444,12 +428,13 @@ fn set_info<W: SmpWire>(
 ) -> Result<Taken, PushFault>
     requires path { length path.now ≤ 63 }
     requires fits { Fits (port_info info.now) }
-    ensures { ForSome (W.fabric wire.old) (λ fabric. TakesAndGives fabric (W.fabric wire.new) path.now attribute.PortInfo asked
+    ensures left { ForSome (W.fabric session.old.wire.now) (λ fabric. TakesAndGives fabric (W.fabric session.new.wire.now) path.now attribute.PortInfo asked
         (put_all held.now (port_info info.now)) (all_taken result)) }
+    ensures same_wire { session.new.wire.ghost_name ≡ session.old.wire.ghost_name }
 {
     let mut wanted = *held;
     info.put_over(&mut wanted);
-    set_port_info(wire, transaction_id, asked as u32, path, &wanted)
+    set_port_info(session, asked as u32, path, &wanted)
 }
 
 /// PortInfo with that state asked for.

@@ -14,17 +14,17 @@ ghost use Rattle.table_push.specs.Pushes.{LeadsToSwitch, Leaves};
 use crate::fault::{PushFault, fault_of};
 use crate::setting::set;
 use attr_tables::{SmpAttribute, SwitchInfo};
-use smp_wire::{SmpWire, get_attribute};
+use smp_wire::{Session, SmpWire};
 use updn_routes::Routes;
 
 /// Sets LinearFDBTop of each switch to the greatest LID: LIDs count from 1, and there are as many as end ports.
 pub(crate) fn set_tops<W: SmpWire>(
-    wire: &mut W,
-    transaction_id: &mut u64,
+    session: &mut Session<'_, W>,
     routes: &Routes,
 ) -> Result<(), PushFault>
-    ensures { ForSome (W.fabric wire.old) (λ fabric. IsGraphOf routes.now.graph fabric → IsGood fabric
-        → Leaves result (W.fabric wire.new) fabric (with_switches (λ guid. set_top (length routes.now.lids)) fabric)) }
+    ensures left { ForSome (W.fabric session.old.wire.now) (λ fabric. IsGraphOf routes.now.graph fabric → IsGood fabric
+        → Leaves result (W.fabric session.new.wire.now) fabric (with_switches (λ guid. set_top (length routes.now.lids)) fabric)) }
+    ensures same_wire { session.new.wire.ghost_name ≡ session.old.wire.ghost_name }
 {
     routes.known_of_graph();
     let graph = routes.graph();
@@ -33,7 +33,7 @@ pub(crate) fn set_tops<W: SmpWire>(
     let greatest = (switches.len() + graph.ports().len()) as u16;
     for place in 0..switches.len() {
         let path = switches[place].path.as_slice();
-        match set_top(wire, transaction_id, path, greatest) {
+        match set_top(session, path, greatest) {
             Ok(()) => {}
             Err(fault) => return Err(fault),
         }
@@ -42,32 +42,20 @@ pub(crate) fn set_tops<W: SmpWire>(
 }
 
 /// Sets LinearFDBTop of the switch at the end of a path.
-fn set_top<W: SmpWire>(
-    wire: &mut W,
-    transaction_id: &mut u64,
-    path: &[u8],
-    lid: u16,
-) -> Result<(), PushFault>
+fn set_top<W: SmpWire>(session: &mut Session<'_, W>, path: &[u8], lid: u16) -> Result<(), PushFault>
     requires path { length path.now ≤ 63 }
     requires lid { lid < 512 }
-    ensures left { ForSome (W.fabric wire.old) (λ fabric. (guid : ℕ) → IsGood fabric → LeadsToSwitch fabric path.now guid
-        → Leaves result (W.fabric wire.new) fabric (with_switches (on_switch guid (set_top lid)) fabric)) }
-    ensures counted { OnOk result (transaction_id.new ≡ ((transaction_id.old + 1) % 2 ^ 64 + 1) % 2 ^ 64) }
+    ensures left { ForSome (W.fabric session.old.wire.now) (λ fabric. (guid : ℕ) → IsGood fabric → LeadsToSwitch fabric path.now guid
+        → Leaves result (W.fabric session.new.wire.now) fabric (with_switches (on_switch guid (set_top lid)) fabric)) }
+    ensures same_wire { session.new.wire.ghost_name ≡ session.old.wire.ghost_name }
+    ensures counted { OnOk result (session.new.transaction_id ≡ ((session.old.transaction_id + 1) % 2 ^ 64 + 1) % 2 ^ 64) }
 {
-    *transaction_id = transaction_id.wrapping_add(1);
-    let bytes = match get_attribute(wire, *transaction_id, SmpAttribute::SwitchInfo, 0, path) {
+    let bytes = match session.get(SmpAttribute::SwitchInfo, 0, path) {
         Ok(bytes) => bytes,
         Err(fault) => return Err(fault_of(fault)),
     };
     let wanted = with_top(&bytes, lid);
-    set(
-        wire,
-        transaction_id,
-        SmpAttribute::SwitchInfo,
-        0,
-        path,
-        &wanted,
-    )
+    set(session, SmpAttribute::SwitchInfo, 0, path, &wanted)
 }
 
 /// SwitchInfo with that LinearFDBTop; what stands outside our fields stays too.

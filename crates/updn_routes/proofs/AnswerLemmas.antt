@@ -1,30 +1,38 @@
 -- Routes as they are answered: next hops, channel numbers, and what has no route.
-use Rattle.std.proofs.Common.{◌≡◌, ◌≢◌, ℕ, zero, suc, ◌+◌, ◌-◌, ◌<◌, ◌≤◌, ◌⊎◌, Bool, true, false, not, cond, ◌==◌, ◌&&◌, ◌||◌, nat_lt, List, [], ◌∷◌, length, map, get_or, slice_get, position, is_none}
-use Rattle.std.proofs.Common.{Option, Some, None, refl, sym, ap, subst, ◌∙◌, inl, inr, arith}
+use Rattle.std.proofs.Common.{◌≡◌, ◌≢◌, ℕ, zero, suc, ◌+◌, ◌-◌, ◌<◌, ◌≤◌, ◌⊎◌, Bool, true, false, not, cond, ◌==◌, ◌&&◌, ◌||◌, nat_lt, List, [], ◌∷◌, filter, length, map, get_or, slice_get, position, is_none}
+use Rattle.std.proofs.Common.{mod-lt, Option, Some, None, option_map, refl, sym, ap, subst, ◌∙◌, inl, inr, arith}
 use Rattle.std.specs.List.{list_any, position_or_len, range_with_len}
 use Rattle.std.proofs.lemmas.Bool.{and_parts, and_from, cases_lt, eqb-true, eqb-false, eq-eqb, ne_eqb, lt-ltb, ltb-true, not-true, or_cases, or_left, or_right, false≢true}
 use Rattle.std.proofs.lemmas.List.FromFn.{get_or-map-range_with_len, length-map-range_with_len}
 use Rattle.std.proofs.lemmas.List.Quantifiers.{position-Some}
 use Rattle.std.proofs.lemmas.List.Sums.{fails_before_first}
-use Rattle.std.proofs.lemmas.Option.{slice_get-get_or, slice_get_cases}
+use Rattle.std.proofs.lemmas.Option.{slice_get-get_or, slice_get-map, slice_get_cases}
 use Rattle.fabric_parts.specs.declared.cable.PortRef.{PortRef}
 use Rattle.updn_routes.specs.declared.link.Link.{Link}
 use Rattle.updn_routes.specs.declared.table.NextHop.{NextHop}
-use Rattle.updn_routes.specs.Cabling.{is_cabling, is_next_to, is_walk}
-use Rattle.updn_routes.specs.Choice.{is_route}
+use Rattle.std.specs.Option.{option_and_then}
+use Rattle.std.proofs.lemmas.List.{length-map}
+use Rattle.updn_routes.specs.Cabling.{is_cabling, is_next_to, is_walk, links_of}
+use Rattle.updn_routes.specs.Choice.{AllChosen, IsRule, least_port}
 use Rattle.updn_routes.specs.Fabric.{IsFabric}
 use Rattle.updn_routes.specs.Laws.{KeepsTheOrder}
 use Rattle.updn_routes.specs.Order.{AreDistances, IsOrder, is_first_root, is_root, place_of, precedes}
 use Rattle.updn_routes.specs.Rounds.{is_marked}
-use Rattle.updn_routes.specs.Routes.{AllReached, AllRouted, AreRoutes, IsFirstUnreached, IsPair, LeadsToLid, LegalPath, NoLegalPath, SwitchRoutesState, all_attached, carries, has_gap, home_of, hop_to, is_gap, next_hop, number_of, port_towards, routes_with}
+use Rattle.updn_routes.specs.Routes.{AllReached, AllRouted, AreRoutes, IsFirstUnreached, IsPair, LeadsToLid, LegalPath, NoLegalPath, SwitchRoutesState, all_attached, carries, has_gap, home_of, hop_to, is_gap, next_hop, number_of, hop_towards, is_tie, port_towards, routes_with, tie_at, tie_towards}
 use Rattle.updn_routes.specs.Tables.{AreTables, all_downs, all_ups, downs_at, place_at, places_of}
+use Rattle.updn_routes.specs.Ties.{is_earlier, number_of_home, numbers_of, tie_of}
 use Rattle.updn_routes.specs.UpDown.{channel_number, is_legal}
+use Rattle.updn_routes.specs.declared.tie_rule.TieRule.{TieRule}
+use Rattle.updn_routes.specs.declared.tie_rule.TieRule.TheVariants.{LeastPort, Balanced}
 use Rattle.updn_routes.proofs.CablingLemmas.{ends, leads_there, next_leads}
-use Rattle.updn_routes.proofs.EntryLemmas.{place_is, places_count, places_keep, table_home, table_right}
+use Rattle.updn_routes.proofs.EntryLemmas.{place_is, places_count, places_keep, table_home, table_picked, table_right}
 use Rattle.updn_routes.proofs.FabricLemmas.{first_root}
 use Rattle.updn_routes.proofs.NumberLemmas.{legal_numbers, legal_short}
 use Rattle.updn_routes.proofs.OrderLemmas.{ranks_order}
-use Rattle.updn_routes.proofs.RouteLemmas.{arrives, first_step, none_legal, route_legal, route_walks, step_first}
+use Rattle.updn_routes.proofs.RouteLemmas.{arrives, none_legal, route_legal, route_walks}
+use Rattle.updn_routes.proofs.UniqueLemmas.{one_choice}
+use Rattle.updn_routes.proofs.WriteLemmas.{past_end}
+use Rattle.step_results.proofs.ListLemmas.{all_there}
 
 not_both : (p : ℕ) → ◌≡◌ {A = Option ℕ} None (Some p) → ⊥
 not_both p h = cc
@@ -88,26 +96,76 @@ marks_first rows guids roots fabric =
     let first = first_root guids roots (omega (arith, some, count)) fabric.named in
     marks_right rows (is_first_root guids roots) (length guids) first.place fabric.cabling fabric.count first.there first.first
 
+-- a LID is attached to a switch
+attached_low : (homes : List PortRef) (count : ℕ) → all_attached homes count ≡ true → (lid : ℕ) (home : PortRef)
+    → home_of homes lid ≡ Some home → home.node < count
+attached_low homes count hang lid home e = by (lid == 0) refl e
+  where
+    by : (b : Bool) → (lid == 0) ≡ b → cond b None (slice_get homes (lid - 1)) ≡ Some home → home.node < count
+    by true f h = absurd (let no_room : ⊥ = cc h in no_room)
+    by false f h = ltb-true home.node count (all_there (λ (one : PortRef). nat_lt one.node count) homes (lid - 1) home hang h)
+
+-- the rule names one of the ties
+names_a_tie : (routes : SwitchRoutesState) (lid : ℕ) → IsRule (tie_at routes lid)
+names_a_tie routes lid s ties some = by routes.rule
+  where
+    by : (rule : TieRule) → tie_of rule (get_or routes.numbers (lid - 1) 0) (get_or routes.ranks s 0) (place_at routes.places s) ties < ties
+    by LeastPort = some
+    by Balanced = mod-lt _ some
+
+-- the port of a link that is named is the port that is named
+by_port : (pick : ℕ → ℕ) (test : NextHop → Link → Bool) (row : List Link) (o : Option NextHop)
+    → option_and_then (λ own. option_map (λ link. link.port) (slice_get (filter (test own) row) (pick (length (filter (test own) row))))) o
+    ≡ option_and_then (λ own. slice_get (map (λ link. link.port) (filter (test own) row)) (pick (length (map (λ link. link.port) (filter (test own) row))))) o
+by_port pick test row None = refl
+by_port pick test row (Some own) =
+    let ties : List Link = filter (test own) row in
+    sym (ap (λ (n : ℕ). slice_get (map (λ link. link.port) ties) (pick n)) (length-map ties (λ link. link.port))
+    ∙ slice_get-map (λ link. link.port) ties (pick (length ties)))
+
+-- a switch with a link is one
+pub has_row : (rows : List (List Link)) (s : ℕ) → (length (links_of rows s) == 0) ≡ false → s < length rows
+has_row rows s some =
+    elim (cases_lt s (length rows)) [
+      | inl less ↦ less
+      | inr past ↦ absurd (false≢true (sym some ∙ ap (λ (row : List Link). length row == 0) (past_end rows s [] past)))
+    ]
+
 -- ---- all routes
 pub routes_right : (rows : List (List Link)) (guids roots ranks depths places : List ℕ) (tables : List (List (Option NextHop)))
-    (homes : List PortRef) → IsFabric rows guids roots → length rows ≤ 64 → all_attached homes (length rows) ≡ true
-    → length homes ≤ 49151
-    → places ≡ places_of ranks guids
+    (homes : List PortRef) (rule : TieRule) (numbers : List ℕ) → IsFabric rows guids roots → length rows ≤ 64
+    → all_attached homes (length rows) ≡ true → length homes ≤ 49151
+    → places ≡ places_of ranks guids → numbers ≡ numbers_of rule places homes
     → AreTables (all_downs rows places) (all_ups rows places) (length (all_downs rows places)) tables
-    → AreRoutes (routes_with rows guids ranks depths places tables homes)
-routes_right rows guids roots ranks depths places tables homes fabric few hang few_lids is are =
+    → AreRoutes (routes_with rows guids ranks depths places tables homes rule numbers)
+routes_right rows guids roots ranks depths places tables homes rule numbers fabric few hang few_lids is numbers_are are =
     record {
       cabling = fabric.cabling;
       count = fabric.count;
       order = order;
       places = is;
+      numbers = numbers_are;
       hang = hang;
       few = few;
       few_lids = few_lids;
-      chosen = λ d less. table_right rows (precedes ranks guids) places fabric.cabling long keeps d (get_or tables (place_at places d) []) less (are.each (place_at places d) (low d less));
+      least = λ d less. table_right rows (precedes ranks guids) places fabric.cabling long keeps d (get_or tables (place_at places d) []) less (are.each (place_at places d) (low d less));
+      chosen = λ lid d port home.
+          let less = attached_low homes (length rows) hang lid (record { node = d; port = port }) home in
+          table_picked rows (precedes ranks guids) places fabric.cabling long keeps d (get_or tables (place_at places d) []) less (are.each (place_at places d) (low d less))
+          (tie_at routes lid) (λ s. next_hop routes s lid) (names_a_tie routes lid) (λ s sl away. towards lid d port s home away
+          ∙ by_port (tie_at routes lid s) (is_tie routes d s) (links_of rows s) (hop_towards routes d s));
       at_home = λ d less. table_home rows (precedes ranks guids) places fabric.cabling long keeps d (get_or tables (place_at places d) []) less (are.each (place_at places d) (low d less));
     }
   where
+    routes : SwitchRoutesState
+    routes = routes_with rows guids ranks depths places tables homes rule numbers
+
+    -- away from where a LID is attached the next hop is a tie
+    towards : (lid d port s : ℕ) → home_of homes lid ≡ Some (record { node = d; port = port }) → s ≢ d
+        → next_hop routes s lid ≡ tie_towards routes lid d s
+    towards lid d port s home away =
+        ap (hop_to routes lid s) home ∙ ap (λ b. cond b (Some port) (tie_towards routes lid d s)) (ne_eqb d s (λ same. away (sym same)))
+
     own : IsOrder (length guids) (precedes ranks guids)
     own = ranks_order ranks guids fabric.own
 
@@ -129,14 +187,6 @@ routes_right rows guids roots ranks depths places tables homes fabric few hang f
         omega (arith, below, so_many, long)
 
 -- ---- next hops
--- the same choices away from the target lead the same way
-same_route : (rows : List (List Link)) (next other : ℕ → Option ℕ) (d : ℕ) → ((t : ℕ) → t ≢ d → next t ≡ other t)
-    → (s : ℕ) (steps : List ℕ) → is_route rows next s steps d ≡ true → is_route rows other s steps d ≡ true
-same_route rows next other d agree s [] route = route
-same_route rows next other d agree s (t ∷ steps) route =
-    let f = first_step rows next s t steps d route in
-    step_first rows other s t steps d (record { away = f.away; port = f.port; picked = sym (agree s f.away) ∙ f.picked; out = f.out; rest = same_route rows next other d agree t steps f.rest })
-
 module _ (routes : SwitchRoutesState) (are : AreRoutes routes) where
   abbrev before : ℕ → ℕ → Bool
   before = precedes routes.ranks routes.guids
@@ -149,9 +199,9 @@ module _ (routes : SwitchRoutesState) (are : AreRoutes routes) where
       by : (b : Bool) → (s == d) ≡ b → LegalPath routes.rows before s d
       by true f = ([], and_from (s == d) true f refl)
       by false f =
-          let home = arrives routes.rows before (port_towards routes d) d are.cabling (are.chosen d dl) s port sl (eqb-false s d f) e in
+          let home = arrives routes.rows before least_port (port_towards routes d) d are.cabling (are.least d dl) s port sl (eqb-false s d f) e in
           let walk = route_walks routes.rows (port_towards routes d) s home.0 d home.1 in
-          let legal = route_legal routes.rows before (port_towards routes d) d are.cabling (are.chosen d dl) s home.0 sl home.1 in
+          let legal = route_legal routes.rows before least_port (port_towards routes d) d are.cabling (are.least d dl) s home.0 sl home.1 in
           (home.0, and_from (is_walk routes.rows s home.0 d) (is_legal before s home.0) walk legal)
 
   gone : (s d : ℕ) → s < length routes.rows → d < length routes.rows → port_towards routes d s ≡ None
@@ -162,49 +212,24 @@ module _ (routes : SwitchRoutesState) (are : AreRoutes routes) where
       by true f =
           absurd (not_both 0 (sym e ∙ (ap (port_towards routes d) (eqb-true s d f) ∙ are.at_home d dl)))
       by false f =
-          none_legal routes.rows before (port_towards routes d) d are.cabling (are.chosen d dl) s steps sl (eqb-false s d f) e
+          none_legal routes.rows before least_port (port_towards routes d) d are.cabling (are.least d dl) s steps sl (eqb-false s d f) e
 
-  attached : (lid : ℕ) (home : PortRef) → home_of routes.homes lid ≡ Some home → home.node < length routes.rows
-  attached lid home e = by (lid == 0) refl e
-    where
-      all_at : (homes : List PortRef) (i : ℕ) → all_attached homes (length routes.rows) ≡ true → slice_get homes i ≡ Some home
-          → home.node < length routes.rows
-      all_at homes i all h =
-          elim (slice_get_cases homes i).1 [
-            | inl there ↦
-                (let same = there.3 in
-                let is : there.0 ≡ home = cc (there.2, h) in
-                ltb-true home.node (length routes.rows) (subst (λ (one : PortRef). nat_lt one.node (length routes.rows) ≡ true) is
-                (subst (λ (one : PortRef). nat_lt one.node (length routes.rows) ≡ true) same (at homes i there.0 there.1 all))))
-            | inr past ↦ absurd (let no_room : ⊥ = cc (past.1, h) in no_room)
-          ]
-        where
-          at : (homes : List PortRef) (i : ℕ) (d : PortRef) → i < length homes → all_attached homes (length routes.rows) ≡ true
-              → nat_lt (get_or homes i d).node (length routes.rows) ≡ true
-          at [] i d less all = absurd (let no_room : ⊥ = omega (arith, less) in no_room)
-          at (x ∷ xs) zero d less all = (and_parts (nat_lt x.node (length routes.rows)) _ all).0
-          at (x ∷ xs) (suc i) d less all = at xs i d (omega (arith, less)) (and_parts (nat_lt x.node (length routes.rows)) (all_attached xs (length routes.rows)) all).1
-
-      by : (b : Bool) → (lid == 0) ≡ b → cond b None (slice_get routes.homes (lid - 1)) ≡ Some home → home.node < length routes.rows
-      by true f h = absurd (let no_room : ⊥ = cc h in no_room)
-      by false f h = all_at routes.homes (lid - 1) are.hang h
+  pub attached : (lid : ℕ) (home : PortRef) → home_of routes.homes lid ≡ Some home → home.node < length routes.rows
+  attached lid home at = attached_low routes.homes (length routes.rows) are.hang lid home at
 
   pub all_routed : (s lid : ℕ) → AllRouted routes s lid
   all_routed s lid d port sl home = record { arrives = leads_on; none = none }
     where
-      dl : d < length routes.rows
-      dl = attached lid (record { node = d; port = port }) home
+      next : ℕ → Option ℕ
+      next t = next_hop routes t lid
 
-      hop : (t : ℕ) → next_hop routes t lid ≡ cond (d == t) (Some port) (port_towards routes d t)
-      hop t = ap (hop_to routes t) home
+      chosen : AllChosen routes.rows before (tie_at routes lid) next d
+      chosen = are.chosen lid d port home
 
-      at_end : next_hop routes d lid ≡ Some port
-      at_end = hop d ∙ ap (λ b. cond b (Some port) (port_towards routes d d)) (eq-eqb d d refl)
+      at_end : next d ≡ Some port
+      at_end = ap (hop_to routes lid d) home ∙ ap (λ b. cond b (Some port) (tie_towards routes lid d d)) (eq-eqb d d refl)
 
-      on_way : (t : ℕ) → t ≢ d → next_hop routes t lid ≡ port_towards routes d t
-      on_way t away = hop t ∙ ap (λ b. cond b (Some port) (port_towards routes d t)) (ne_eqb d t (λ same. away (sym same)))
-
-      leads_on : (first : ℕ) → next_hop routes s lid ≡ Some first → (steps : List ℕ) × LeadsToLid routes lid s d port steps
+      leads_on : (first : ℕ) → next s ≡ Some first → (steps : List ℕ) × LeadsToLid routes lid s d port steps
       leads_on first e = by (s == d) refl
         where
           by : (b : Bool) → (s == d) ≡ b → (steps : List ℕ) × LeadsToLid routes lid s d port steps
@@ -212,13 +237,13 @@ module _ (routes : SwitchRoutesState) (are : AreRoutes routes) where
               ([], record { route = f; legal = refl; rising = refl; short = omega (arith, sl); out = at_end })
           by false f =
               let away = eqb-false s d f in
-              let way = arrives routes.rows before (port_towards routes d) d are.cabling (are.chosen d dl) s first sl away (sym (on_way s away) ∙ e) in
-              let walk = route_walks routes.rows (port_towards routes d) s way.0 d way.1 in
-              let legal = route_legal routes.rows before (port_towards routes d) d are.cabling (are.chosen d dl) s way.0 sl way.1 in
+              let way = arrives routes.rows before (tie_at routes lid) next d are.cabling chosen s first sl away e in
+              let walk = route_walks routes.rows next s way.0 d way.1 in
+              let legal = route_legal routes.rows before (tie_at routes lid) next d are.cabling chosen s way.0 sl way.1 in
               let few = legal_short routes.rows before are.cabling are.order s d way.0 sl walk legal in (
                 way.0,
                 record {
-                  route = same_route routes.rows (port_towards routes d) (λ t. next_hop routes t lid) d (λ t apart. sym (on_way t apart)) s way.0 way.1;
+                  route = way.1;
                   legal = legal;
                   rising = (legal_numbers routes.rows before are.cabling are.order s d way.0 sl walk legal).rising;
                   short = omega (arith, few);
@@ -226,12 +251,23 @@ module _ (routes : SwitchRoutesState) (are : AreRoutes routes) where
                 },
               )
 
-      none : next_hop routes s lid ≡ None → (steps : List ℕ) → (is_walk routes.rows s steps d && is_legal before s steps) ≡ false
+      none : next s ≡ None → (steps : List ℕ) → (is_walk routes.rows s steps d && is_legal before s steps) ≡ false
       none e = by (s == d) refl
         where
           by : (b : Bool) → (s == d) ≡ b → (steps : List ℕ) → (is_walk routes.rows s steps d && is_legal before s steps) ≡ false
-          by true f = absurd (not_both port (sym e ∙ (ap (λ t. next_hop routes t lid) (eqb-true s d f) ∙ at_end)))
-          by false f = gone s d sl dl (sym (on_way s (eqb-false s d f)) ∙ e)
+          by true f = absurd (not_both port (sym e ∙ (ap next (eqb-true s d f) ∙ at_end)))
+          by false f = λ steps. none_legal routes.rows before (tie_at routes lid) next d are.cabling chosen s steps sl (eqb-false s d f) e
+
+  -- by the rule of the least port that is the least
+  pub least_is : (lid s : ℕ) (home : PortRef) → routes.rule ≡ LeastPort → home_of routes.homes lid ≡ Some home → s < length routes.rows
+      → home.node ≢ s → tie_towards routes lid home.node s ≡ port_towards routes home.node s
+  least_is lid s home rule at sl away =
+      let chosen = are.chosen lid home.node home.port at in
+      let least = are.least home.node (attached lid home at) in
+      let same = one_choice routes.rows before home.node are.cabling are.order (tie_at routes lid) least_port
+      (λ u ties low. ap (λ (r : TieRule). tie_of r (get_or routes.numbers (lid - 1) 0) (get_or routes.ranks u 0) (place_at routes.places u) ties) rule)
+      (λ t. next_hop routes t lid) (port_towards routes home.node) chosen least s sl (λ e. away (sym e)) in
+      sym (ap (hop_to routes lid s) at ∙ ap (λ b. cond b (Some home.port) (tie_towards routes lid home.node s)) (ne_eqb home.node s away)) ∙ same
 
 -- ---- lists
 first_none : {X : Type 0} (p : X → Bool) (xs : List X) (i : ℕ) (d : X) → position p xs ≡ None → i < length xs
@@ -417,6 +453,16 @@ module _ (routes : SwitchRoutesState) (are : AreRoutes routes) where
           subst (λ (from : ℕ). is_gap routes from (record { node = d; port = port }) ≡ false) node
           (subst (λ (one : PortRef). is_gap routes (at_place i).node one ≡ false) (sym (same_default there.0 (record { node = d; port = port }) there.1.1.0) ∙ there.1.1.1) (to.2 there.0 low))))
 
+-- ---- numbers of ties
+-- those that pass a test are no more than all
+kept_least : {X : Type 0} (p : X → Bool) (xs : List X) → length (filter p xs) ≤ length xs
+kept_least p [] = omega arith
+kept_least p (x ∷ xs) = by (p x) (kept_least p xs)
+  where
+    by : (b : Bool) → length (filter p xs) ≤ length xs → length (cond b (x ∷ filter p xs) (filter p xs)) ≤ suc (length xs)
+    by true more = omega (arith, more)
+    by false more = omega (arith, more)
+
 -- ---- channel numbers
 module _ (routes : SwitchRoutesState) (are : AreRoutes routes) where
   abbrev comes_before : ℕ → ℕ → Bool
@@ -437,6 +483,37 @@ module _ (routes : SwitchRoutesState) (are : AreRoutes routes) where
       let out = next_leads routes.rows s t beside in
       let low = leads_there routes.rows s out.0 t out.1 in
       (low, (ends routes.rows s t are.cabling low beside).0)
+
+  -- every number that stands for a place is small
+  pub place_few : (s : ℕ) → place_at routes.places s ≤ 64
+  place_few s =
+      let few = are.few in
+      elim (cases_lt s (length routes.rows)) [
+        | inl less ↦ (let low = kept.below s less in omega (arith, low, few))
+        | inr past ↦
+            (let long = places_count routes.ranks routes.guids in
+            let same : length routes.places ≡ length (places_of routes.ranks routes.guids) = ap length are.places in
+            let is : place_at routes.places s ≡ length routes.places = past_end routes.places s (length routes.places) (let count = are.count in omega (arith, past, long, same, count)) in
+            let count = are.count in
+            omega (arith, is, same, long, count, few))
+      ]
+
+  pub number_few : (lid : ℕ) → get_or routes.numbers (lid - 1) 0 ≤ 49151
+  number_few lid =
+      let few = are.few_lids in
+      let is : get_or routes.numbers (lid - 1) 0 ≡ get_or (numbers_of routes.rule routes.places routes.homes) (lid - 1) 0 =
+      ap (λ (numbers : List ℕ). get_or numbers (lid - 1) 0) are.numbers in
+      let most = by routes.rule in
+      omega (arith, few, is, most)
+    where
+      each : (homes all : List PortRef) (i : ℕ) → get_or (map (number_of_home routes.places all) homes) i 0 ≤ length all
+      each [] all i = omega arith
+      each (home ∷ homes) all zero = kept_least (λ other. not (other.port == 0) && is_earlier routes.places other home) all
+      each (home ∷ homes) all (suc i) = each homes all i
+
+      by : (rule : TieRule) → get_or (numbers_of rule routes.places routes.homes) (lid - 1) 0 ≤ length routes.homes
+      by LeastPort = omega arith
+      by Balanced = each routes.homes routes.homes (lid - 1)
 
   pub place_low : (s t : ℕ) → is_next_to routes.rows s t ≡ true → place_at routes.places s < length routes.rows
   place_low s t beside = kept.below s (side s t beside).0

@@ -1,5 +1,5 @@
 -- No channel waits, over others, for itself: the numbers rise from one to the next.
-use Rattle.std.proofs.Common.{◌≡◌, ℕ, ◌<◌, Bool, true, nat_lt, List, [], ◌∷◌, length, Option, sym, subst, ◌∙◌, arith}
+use Rattle.std.proofs.Common.{◌≡◌, ℕ, ◌<◌, Bool, true, nat_lt, List, [], ◌∷◌, length, Option, Some, sym, subst, ◌∙◌, arith}
 use Rattle.std.specs.List.{list_all}
 use Rattle.std.proofs.lemmas.Bool.{and_parts, ltb-true}
 use Rattle.updn_routes.specs.declared.link.Link.{Link}
@@ -12,8 +12,9 @@ use Rattle.updn_routes.proofs.CablingLemmas.{ends, leads_next, leads_there, one_
 use Rattle.updn_routes.proofs.NumberLemmas.{legal_numbers}
 use Rattle.updn_routes.proofs.RouteLemmas.{first_step, route_legal, route_walks, same_port}
 
-module _ (rows : List (List Link)) (before : ℕ → ℕ → Bool) (next : ℕ → ℕ → Option ℕ) (cabling : is_cabling rows ≡ true) (order : IsOrder (length rows) before)
-    (chosen : (d : ℕ) → d < length rows → AllChosen rows before (next d) d) where
+module _ (rows : List (List Link)) (before : ℕ → ℕ → Bool) (home : ℕ → Option ℕ) (pick : ℕ → ℕ → ℕ → ℕ) (next : ℕ → ℕ → Option ℕ)
+    (cabling : is_cabling rows ≡ true) (order : IsOrder (length rows) before)
+    (chosen : (lid d : ℕ) → home lid ≡ Some d → AllChosen rows before (pick lid) (next lid) d) where
   -- a's number is less than b's, by the switches that they lead to
   record Rises (a b : Channel) (t u : ℕ) : Type 0 where
     there : b.from < length rows
@@ -21,14 +22,14 @@ module _ (rows : List (List Link)) (before : ℕ → ℕ → Bool) (next : ℕ �
     over_b : leads rows b.from b.port u ≡ true
     less : channel_number before (length rows) a.from t < channel_number before (length rows) b.from u
 
-  waits_rise : (a b : Channel) → a.from < length rows → (w : WaitsFor rows next a b) → Rises a b b.from w.beyond
+  waits_rise : (a b : Channel) → a.from < length rows → (w : WaitsFor rows home next a b) → Rises a b b.from w.beyond
   waits_rise a b less w =
-      let f = first_step rows (next w.target) a.from b.from (w.beyond ∷ w.steps) w.target w.route in
+      let f = first_step rows (next w.lid) a.from b.from (w.beyond ∷ w.steps) w.target w.route in
       let there = (ends rows a.from b.from cabling less (leads_next rows a.from f.port b.from f.out)).0 in
-      let g = first_step rows (next w.target) b.from w.beyond w.steps w.target f.rest in
+      let g = first_step rows (next w.lid) b.from w.beyond w.steps w.target f.rest in
       let path = b.from ∷ w.beyond ∷ w.steps in
-      let legal = route_legal rows before (next w.target) w.target cabling (chosen w.target w.there) a.from path less w.route in
-      let rising = (legal_numbers rows before cabling order a.from w.target path less (route_walks rows (next w.target) a.from path w.target w.route) legal).rising in
+      let legal = route_legal rows before (pick w.lid) (next w.lid) w.target cabling (chosen w.lid w.target w.there) a.from path less w.route in
+      let rising = (legal_numbers rows before cabling order a.from w.target path less (route_walks rows (next w.lid) a.from path w.target w.route) legal).rising in
       let x = channel_number before (length rows) a.from b.from in
       let y = channel_number before (length rows) b.from w.beyond in
       let rest = channel_numbers before (length rows) w.beyond w.steps in
@@ -41,7 +42,7 @@ module _ (rows : List (List Link)) (before : ℕ → ℕ → Bool) (next : ℕ �
       }
 
   over_rise : (a : Channel) (others : List Channel) (b : Channel) → a.from < length rows
-      → WaitsOver rows next a others b → (t : ℕ) × (u : ℕ) × Rises a b t u
+      → WaitsOver rows home next a others b → (t : ℕ) × (u : ℕ) × Rises a b t u
   over_rise a [] b less w = (b.from, w.beyond, waits_rise a b less w)
   over_rise a (c ∷ others) b less w =
       let one = waits_rise a c less w.0 in
@@ -54,17 +55,17 @@ module _ (rows : List (List Link)) (before : ℕ → ℕ → Bool) (next : ℕ �
       (c.from, more.1, record { there = rest.there; over_a = one.over_a; over_b = rest.over_b; less = omega (arith, near, far) })
 
   -- a channel that waits leaves a switch
-  waits_there : (a b : Channel) → WaitsFor rows next a b → a.from < length rows
+  waits_there : (a b : Channel) → WaitsFor rows home next a b → a.from < length rows
   waits_there a b w =
-      let f = first_step rows (next w.target) a.from b.from (w.beyond ∷ w.steps) w.target w.route in
+      let f = first_step rows (next w.lid) a.from b.from (w.beyond ∷ w.steps) w.target w.route in
       leads_there rows a.from f.port b.from f.out
 
-  over_there : (a : Channel) (others : List Channel) (b : Channel) → WaitsOver rows next a others b
+  over_there : (a : Channel) (others : List Channel) (b : Channel) → WaitsOver rows home next a others b
       → a.from < length rows
   over_there a [] b w = waits_there a b w
   over_there a (c ∷ others) b w = waits_there a c w.0
 
-  pub no_cycle : (a : Channel) (others : List Channel) → ¬ (WaitsOver rows next a others a)
+  pub no_cycle : (a : Channel) (others : List Channel) → ¬ (WaitsOver rows home next a others a)
   no_cycle a others w =
       let less = over_there a others a w in
       let round : (t : ℕ) × (u : ℕ) × Rises a a t u = over_rise a others a less w in

@@ -4,12 +4,12 @@ use Rattle.std.proofs.Common.{◌≡◌, ◌≢◌, ℕ, zero, suc, ◌+◌, ◌
 use Rattle.std.proofs.lemmas.Bool.{eqb-true, eqb-false, eq-eqb, ne_eqb, cond-true, cond-false}
 use Rattle.updn_routes.specs.declared.link.Link.{Link}
 use Rattle.updn_routes.specs.Cabling.{is_cabling, leads, links_of}
-use Rattle.updn_routes.specs.Choice.{AllChosen}
+use Rattle.updn_routes.specs.Choice.{AllChosen, IsRule}
 use Rattle.updn_routes.specs.Order.{IsOrder, place_of}
 use Rattle.updn_routes.specs.UpDown.{is_down, is_up}
 use Rattle.updn_routes.proofs.CablingLemmas.{ends, leads_next}
 use Rattle.updn_routes.proofs.PlaceLemmas.{place_below, place_less}
-use Rattle.updn_routes.proofs.TableLemmas.{IsBest, IsEntry, NoneAt, table_chosen}
+use Rattle.updn_routes.proofs.TableLemmas.{IsBest, IsEntry, NoneAt, all_chosen, picked_by}
 use Rattle.updn_routes.proofs.BestLemmas.{BestIn, Chosen, NoneIn, choose}
 
 -- ---- a table filled in the order of a measure: some entries are given, and each other is the best of its links, which
@@ -167,6 +167,9 @@ module _ (rows : List (List Link)) (before : ℕ → ℕ → Bool) (d : ℕ) (ca
           inl (record { port = h.0; more = h.1; down_is = h.2; own_is = kept_is.0; next_is = kept_is.1 ∙ h.3; best = h.4 })
       on (inr h) = up h.0 h.2 (up_cell s None less h.0)
 
-  pub there_are : d < length rows → (next : ℕ → Option ℕ) × AllChosen rows before next d
-  there_are less =
-      (ups.1, table_chosen rows before d cabling downs.0 ups.0 ups.1 (down_home less) (up_cell d (Some 0) less (down_home less)).0 entry)
+  pub there_are : (pick : ℕ → ℕ → ℕ) → IsRule pick → d < length rows → (next : ℕ → Option ℕ) × AllChosen rows before pick next d
+  there_are pick rule less = (
+    λ s. picked_by rows before pick downs.0 ups.0 s (downs.0 s) (ups.0 s),
+    all_chosen rows before d cabling downs.0 ups.0 ups.1 (down_home less) (up_cell d (Some 0) less (down_home less)).0 entry pick
+        (λ s. picked_by rows before pick downs.0 ups.0 s (downs.0 s) (ups.0 s)) rule (λ s low away. refl),
+  )

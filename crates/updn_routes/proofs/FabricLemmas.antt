@@ -77,7 +77,7 @@ has_routes rows guids roots fabric =
       order = order;
       depths = depths.0;
       depths_are = depths.1;
-      choices = λ d dl. there_are rows (precedes ranks.0 guids) d fabric.cabling order dl;
+      choices = λ pick d rule dl. there_are rows (precedes ranks.0 guids) d fabric.cabling order pick rule dl;
     }
 
 -- ---- joined by way of the first switch

@@ -1,6 +1,9 @@
 pub mod CablingLemmas
 pub mod PlaceLemmas
 pub mod NumberLemmas
+pub mod TieLemmas
+pub mod TurnLemmas
+mod AdapterNumberLemmas
 pub mod RouteLemmas
 pub mod UniqueLemmas
 pub mod CycleLemmas

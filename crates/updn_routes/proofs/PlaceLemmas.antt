@@ -1,15 +1,15 @@
 -- The place of a switch, which is how many come before it: places keep the order.
-use Rattle.std.proofs.Common.{◌≡◌, ◌≢◌, ℕ, zero, suc, ◌+◌, ◌-◌, ◌<◌, ◌≤◌, Bool, true, false, cond, ◌==◌, nat_lt, List, [], ◌∷◌, length, filter, refl}
+use Rattle.std.proofs.Common.{◌≡◌, ◌≢◌, ℕ, zero, suc, ◌+◌, ◌-◌, ◌<◌, ◌≤◌, Bool, true, false, cond, not, ◌==◌, ◌&&◌, nat_lt, List, [], ◌∷◌, length, filter, refl}
 use Rattle.std.proofs.Common.{sym, ap, subst, ◌∙◌, inl, inr, arith}
 use Rattle.std.specs.List.{range_with_len}
-use Rattle.std.proofs.lemmas.Bool.{cases_lt, or_cases, eqb-true, eqb-false, lt-ltb, le-ltb, false≢true}
+use Rattle.std.proofs.lemmas.Bool.{and_from, and_parts, cases_lt, or_cases, eq-eqb, eqb-true, eqb-false, lt-ltb, le-ltb, ne_eqb, not_from_false, false≢true}
 use Rattle.std.proofs.lemmas.List.FromFn.{length-range_with_len}
 use Rattle.updn_routes.specs.Laws.{KeepsTheOrder}
 use Rattle.updn_routes.specs.Order.{IsOrder, place_of}
 
 -- ---- what filters keep
 -- fewer pass the stronger test
-pub fewer : (strong weak : ℕ → Bool) → ((t : ℕ) → strong t ≡ true → weak t ≡ true) → (xs : List ℕ)
+pub fewer : {X : Type 0} (strong weak : X → Bool) → ((t : X) → strong t ≡ true → weak t ≡ true) → (xs : List X)
     → length (filter strong xs) ≤ length (filter weak xs)
 fewer strong weak implies [] = omega arith
 fewer strong weak implies (x ∷ xs) = by (strong x) (weak x) (implies x) (fewer strong weak implies xs)
@@ -52,6 +52,53 @@ fewer_by_one strong weak implies first (suc count) s low high gone there =
         one (strong first) (weak first) (subst (λ (k : ℕ). strong k ≡ false) (sym same) gone) (subst (λ (k : ℕ). weak k ≡ true) (sym same) there) (fewer strong weak implies rest)
     by false e later =
         let other = eqb-false first s e in more (strong first) (weak first) (implies first) (later (omega (arith, low, other)))
+
+-- numbers that pass one test, and that another takes to as many others that pass its own, are no more than those
+pub no_more_by : (f : ℕ → ℕ) (p q : ℕ → Bool) (first count many : ℕ)
+    → ((u : ℕ) → first ≤ u → u < first + count → p u ≡ true → (f u < many) × (q (f u) ≡ true))
+    → ((u v : ℕ) → first ≤ u → u < first + count → first ≤ v → v < first + count → p u ≡ true → p v ≡ true → f u ≡ f v → u ≡ v)
+    → length (filter p (range_with_len first count)) ≤ length (filter q (range_with_len 0 many))
+no_more_by f p q first zero many goes own = omega arith
+no_more_by f p q first (suc count) many goes own =
+    by (p first) refl
+    (λ goes_on. no_more_by f p q (first + 1) count many goes_on later_own)
+    (λ goes_on. no_more_by f p (λ v. q v && not (v == f first)) (first + 1) count many goes_on later_own)
+  where
+    later_own : (u v : ℕ) → first + 1 ≤ u → u < first + 1 + count → first + 1 ≤ v → v < first + 1 + count → p u ≡ true → p v ≡ true → f u ≡ f v
+        → u ≡ v
+    later_own u v ul uh vl vh passes passes_too same =
+        own u v (omega (arith, ul)) (omega (arith, uh)) (omega (arith, vl)) (omega (arith, vh)) passes passes_too same
+
+    rest : List ℕ
+    rest = range_with_len (first + 1) count
+
+    other : ℕ → Bool
+    other v = q v && not (v == f first)
+
+    by : (b : Bool) → p first ≡ b
+        → (((u : ℕ) → first + 1 ≤ u → u < first + 1 + count → p u ≡ true → (f u < many) × (q (f u) ≡ true))
+        → length (filter p rest) ≤ length (filter q (range_with_len 0 many)))
+        → (((u : ℕ) → first + 1 ≤ u → u < first + 1 + count → p u ≡ true → (f u < many) × (other (f u) ≡ true))
+        → length (filter p rest) ≤ length (filter other (range_with_len 0 many)))
+        → length (cond b (first ∷ filter p rest) (filter p rest)) ≤ length (filter q (range_with_len 0 many))
+    by false e all fewer_left = all (λ u low high passes. goes u (omega (arith, low)) (omega (arith, high)) passes)
+    by true e all fewer_left =
+        let here = goes first (omega arith) (omega arith) e in
+        let left = fewer_left (λ u low high passes.
+        let there = goes u (omega (arith, low)) (omega (arith, high)) passes in (
+          there.0,
+          and_from (q (f u)) (not (f u == f first)) there.1
+              (not_from_false (f u == f first) (ne_eqb (f u) (f first) (λ same.
+              let even = own u first (omega (arith, low)) (omega (arith, high)) (omega arith) (omega arith) passes e same in
+              omega (arith, even, low)))),
+        )) in
+        let more = fewer_by_one other q (λ t both. (and_parts (q t) (not (t == f first)) both).0) 0 many (f first) (omega arith) (omega (arith, here.0))
+        (never (q (f first)) (f first == f first) (eq-eqb (f first) (f first) refl)) here.1 in
+        omega (arith, left, more)
+      where
+        never : (b c : Bool) → c ≡ true → (b && not c) ≡ false
+        never true c e = rw e refl
+        never false c e = refl
 
 pub all_stay : (xs : List ℕ) → length (filter (λ _. true) xs) ≡ length xs
 all_stay [] = refl

@@ -6,7 +6,7 @@ use Rattle.std.proofs.lemmas.Bool.{and_parts, and_from, or_cases, or_left, or_ri
 use Rattle.step_results.proofs.TestLemmas.{same_and, same_or}
 use Rattle.updn_routes.specs.declared.link.Link.{Link}
 use Rattle.updn_routes.specs.Cabling.{is_cabling, is_next_to, is_walk, leads, links_of}
-use Rattle.updn_routes.specs.Choice.{AllChosen, HasNone, IsChosenOf, IsLeastOf, is_route, is_way_down, is_way_up}
+use Rattle.updn_routes.specs.Choice.{AllChosen, HasNone, IsChosenOf, IsPickedOf, IsShortestOf, is_route, is_way_down, is_way_up}
 use Rattle.updn_routes.specs.Laws.{KeepsTheOrder, KeepsTheWalks}
 use Rattle.updn_routes.specs.Places.{IsPlaced, placed_link}
 use Rattle.updn_routes.specs.UpDown.{goes_down, is_legal}
@@ -31,25 +31,49 @@ none_moves place w v same none p path = by (w p path) refl
     by false e = e
     by true e = absurd (false≢true (sym (none p (map place path)) ∙ same.there p path e))
 
-least_moves : (place : ℕ → ℕ) (w v : ℕ → List ℕ → Bool) → SameWays place w v → (p : ℕ) → IsLeastOf v p → IsLeastOf w p
-least_moves place w v same p best =
+shortest_moves : (place : ℕ → ℕ) (w v : ℕ → List ℕ → Bool) → SameWays place w v → (p : ℕ) → IsShortestOf v p → IsShortestOf w p
+shortest_moves place w v same p best =
     let own = same.back p best.path best.way in
     let long : length best.path ≡ length own.0 = ap (λ (r : List ℕ). length r) (sym own.1.0) ∙ long_map place own.0 in
     record {
       path = own.0;
       way = own.1.1;
       shortest = λ q steps way. let far = best.shortest q (map place steps) (same.there q steps way) in let all = long_map place steps in omega (arith, far, all, long);
-      least = λ q steps way even. best.least q (map place steps) (same.there q steps way) (long_map place steps ∙ (even ∙ sym long));
     }
 
-choice_moves : (place : ℕ → ℕ) (down down_there up up_there : ℕ → List ℕ → Bool) → SameWays place down down_there
+shortest_there : (place : ℕ → ℕ) (w v : ℕ → List ℕ → Bool) → SameWays place w v → (p : ℕ) → IsShortestOf w p → IsShortestOf v p
+shortest_there place w v same p best =
+    record {
+      path = map place best.path;
+      way = same.there p best.path best.way;
+      shortest = λ q steps way.
+          let own = same.back q steps way in
+          let far = best.shortest q own.0 own.1.1 in
+          let long = long_map place best.path in
+          let all : length steps ≡ length own.0 = ap (λ (r : List ℕ). length r) (sym own.1.0) ∙ long_map place own.0 in
+          omega (arith, far, all, long);
+    }
+
+picked_moves : (place : ℕ → ℕ) (w v : ℕ → List ℕ → Bool) → SameWays place w v → (pick : ℕ → ℕ) (p : ℕ) → IsPickedOf pick v p → IsPickedOf pick w p
+picked_moves place w v same pick p picked =
+    record {
+      ties = picked.ties;
+      are = record {
+        rising = picked.are.rising;
+        each = λ port has. shortest_moves place w v same port (picked.are.each port has);
+        all = λ port best. picked.are.all port (shortest_there place w v same port best);
+      };
+      picked = picked.picked;
+    }
+
+choice_moves : (place : ℕ → ℕ) (pick : ℕ → ℕ) (down down_there up up_there : ℕ → List ℕ → Bool) → SameWays place down down_there
     → SameWays place up up_there
-    → (o : Option ℕ) → IsChosenOf down_there up_there o → IsChosenOf down up o
-choice_moves place down down_there up up_there d u None h =
+    → (o : Option ℕ) → IsChosenOf pick down_there up_there o → IsChosenOf pick down up o
+choice_moves place pick down down_there up up_there d u None h =
     (none_moves place down down_there d h.0, none_moves place up up_there u h.1)
-choice_moves place down down_there up up_there d u (Some p) (inl h) = inl (least_moves place down down_there d p h)
-choice_moves place down down_there up up_there d u (Some p) (inr h) =
-    inr (none_moves place down down_there d h.0, least_moves place up up_there u p h.1)
+choice_moves place pick down down_there up up_there d u (Some p) (inl h) = inl (picked_moves place down down_there d pick p h)
+choice_moves place pick down down_there up up_there d u (Some p) (inr h) =
+    inr (none_moves place down down_there d h.0, picked_moves place up up_there u pick p h.1)
 
 -- ---- places
 -- the row of each switch stands at its place, where it keeps its order, and no two switches have one
@@ -255,10 +279,10 @@ module _ (rows placed : List (List Link)) (before too : ℕ → ℕ → Bool) (p
             let step = sym (is.less t.0 s t.1 sl) ∙ subst (λ (k : ℕ). too k (place s) ≡ true) (sym t.2) w.step in
             (t.0 ∷ more.0, (ap (λ k. k ∷ map place more.0) t.2 ∙ ap (λ r. v ∷ r) more.1, up_way rows before own s d p t.0 more.0 (record { out = t.3; step = step; rest = more.2 })))
 
-    pub choices_move : (d : ℕ) → d < length rows → AllChosen placed too next (place d)
-        → AllChosen rows before own d
-    choices_move d dl chosen s sl away =
-        choice_moves place (is_way_down rows before s d) (is_way_down placed too (place s) (place d)) (is_way_up rows before own s d) (is_way_up placed too next (place s) (place d))
+    pub choices_move : (pick : ℕ → ℕ → ℕ) (d : ℕ) → d < length rows → AllChosen placed too pick next (place d)
+        → AllChosen rows before (λ s. pick (place s)) own d
+    choices_move pick d dl chosen s sl away =
+        choice_moves place (pick (place s)) (is_way_down rows before s d) (is_way_down placed too (place s) (place d)) (is_way_up rows before own s d) (is_way_up placed too next (place s) (place d))
         (downs_same s d sl dl) (ups_same s d sl dl) (next (place s)) (chosen (place s) (is.below s sl) (λ same. away (is.own s d sl dl same)))
 
 -- ---- by their places in the order
@@ -286,6 +310,6 @@ module _ (rows placed : List (List Link)) (before : ℕ → ℕ → Bool) (place
         legal = legal_same rows placed before nat_lt place cabling by_place;
       }
 
-  pub keeps_choices : (next : ℕ → Option ℕ) (d : ℕ) → d < length rows → AllChosen placed nat_lt next (place d)
-      → AllChosen rows before (λ s. next (place s)) d
-  keeps_choices next d low chosen = choices_move rows placed before nat_lt place cabling by_place next d low chosen
+  pub keeps_choices : (pick : ℕ → ℕ → ℕ) (next : ℕ → Option ℕ) (d : ℕ) → d < length rows → AllChosen placed nat_lt pick next (place d)
+      → AllChosen rows before (λ s. pick (place s)) (λ s. next (place s)) d
+  keeps_choices pick next d low chosen = choices_move rows placed before nat_lt place cabling by_place next pick d low chosen

@@ -5,9 +5,10 @@ use Rattle.std.proofs.lemmas.Bool.{and_parts, and_from, or_cases, or_left, or_ri
 use Rattle.std.specs.Option.{option_map_or}
 use Rattle.updn_routes.specs.declared.link.Link.{Link}
 use Rattle.updn_routes.specs.Cabling.{is_cabling, is_next_to, is_walk, leads}
-use Rattle.updn_routes.specs.Choice.{AllChosen, IsChosenOf, IsLeastOf, follows, is_route, is_way_down, is_way_up}
+use Rattle.updn_routes.specs.Choice.{AllChosen, IsChosenOf, IsPickedOf, follows, is_route, is_way_down, is_way_up}
 use Rattle.updn_routes.specs.UpDown.{goes_down, is_down, is_legal, is_up}
 use Rattle.updn_routes.proofs.CablingLemmas.{ends, leads_next, next_leads, one_end}
+use Rattle.updn_routes.proofs.TieLemmas.{shortest_of}
 
 -- ---- one step of a route
 pub record FirstStep (rows : List (List Link)) (next : ℕ → Option ℕ) (s t : ℕ) (steps : List ℕ) (d : ℕ) : Type 0 where
@@ -124,15 +125,16 @@ pub record DownRoute (rows : List (List Link)) (before : ℕ → ℕ → Bool) (
   pub down : goes_down before s steps ≡ true
   pub short : length steps ≤ most
 
-module _ (rows : List (List Link)) (before : ℕ → ℕ → Bool) (next : ℕ → Option ℕ) (d : ℕ) (cabling : is_cabling rows ≡ true) (chosen : AllChosen rows before next d) where
+module _ (rows : List (List Link)) (before : ℕ → ℕ → Bool) (pick : ℕ → ℕ → ℕ) (next : ℕ → Option ℕ) (d : ℕ) (cabling : is_cabling rows ≡ true)
+    (chosen : AllChosen rows before pick next d) where
   -- where some way leads down, the choice is down
   pub chosen_down : (s port : ℕ) (steps : List ℕ) → s < length rows → s ≢ d
       → is_way_down rows before s d port steps ≡ true
-      → (p : ℕ) × ((next s ≡ Some p) × IsLeastOf (is_way_down rows before s d) p)
+      → (p : ℕ) × ((next s ≡ Some p) × IsPickedOf (pick s) (is_way_down rows before s d) p)
   chosen_down s port steps less away way = by (next s) refl (chosen s less away)
     where
-      by : (o : Option ℕ) → next s ≡ o → IsChosenOf (is_way_down rows before s d) (is_way_up rows before next s d) o
-          → (p : ℕ) × ((next s ≡ Some p) × IsLeastOf (is_way_down rows before s d) p)
+      by : (o : Option ℕ) → next s ≡ o → IsChosenOf (pick s) (is_way_down rows before s d) (is_way_up rows before next s d) o
+          → (p : ℕ) × ((next s ≡ Some p) × IsPickedOf (pick s) (is_way_down rows before s d) p)
       by None e h = absurd (neither (is_way_down rows before s d port steps) (h.0 port steps) way)
       by (Some p) e (inl h) = (p, (e, h))
       by (Some p) e (inr h) = absurd (neither (is_way_down rows before s d port steps) (h.0 port steps) way)
@@ -168,7 +170,7 @@ module _ (rows : List (List Link)) (before : ℕ → ℕ → Bool) (next : ℕ �
           let way = way_of rows before s d t rest walk down in
           let away = eqb-false s d e in
           let picked = chosen_down s way.0 (t ∷ rest) less away way.1 in
-          let best = picked.1.1 in
+          let best = shortest_of (pick s) (is_way_down rows before s d) picked.0 picked.1.1 in
           on shorter away picked.0 picked.1.0 best.path best.way (best.shortest way.0 (t ∷ rest) way.1)
 
   -- every route does so
@@ -201,11 +203,11 @@ module _ (rows : List (List Link)) (before : ℕ → ℕ → Bool) (next : ℕ �
           let w = way_up rows before next s d p t steps way in
           (t ∷ steps, step_first rows next s t steps d (record { away = away; port = p; picked = e; out = w.out; rest = w.rest }))
 
-      by : (o : Option ℕ) → next s ≡ o → IsChosenOf (is_way_down rows before s d) (is_way_up rows before next s d) o
+      by : (o : Option ℕ) → next s ≡ o → IsChosenOf (pick s) (is_way_down rows before s d) (is_way_up rows before next s d) o
           → (steps : List ℕ) × (is_route rows next s steps d ≡ true)
       by None e h = absurd (not_both port (sym e ∙ picked))
-      by (Some p) e (inl h) = down p h.path h.way
-      by (Some p) e (inr h) = up p e h.1.path h.1.way
+      by (Some p) e (inl h) = let best = shortest_of (pick s) (is_way_down rows before s d) p h in down p best.path best.way
+      by (Some p) e (inr h) = let best = shortest_of (pick s) (is_way_up rows before next s d) p h.1 in up p e best.path best.way
 
   -- a route is legal
   pub route_legal : (s : ℕ) (steps : List ℕ) → s < length rows → is_route rows next s steps d ≡ true
@@ -236,11 +238,11 @@ module _ (rows : List (List Link)) (before : ℕ → ℕ → Bool) (next : ℕ �
           let same = one_end rows s f.port u t cabling less (subst (λ (q : ℕ). leads rows s q u ≡ true) port w.out) f.out in
           or_left _ (goes_down before s (t ∷ steps)) (and_from (is_up before s t) (is_legal before t steps) (subst (λ (v : ℕ). is_up before s v ≡ true) same w.step) later)
 
-      by : (o : Option ℕ) → next s ≡ o → IsChosenOf (is_way_down rows before s d) (is_way_up rows before next s d) o
+      by : (o : Option ℕ) → next s ≡ o → IsChosenOf (pick s) (is_way_down rows before s d) (is_way_up rows before next s d) o
           → is_legal before t steps ≡ true → is_legal before s (t ∷ steps) ≡ true
       by None e h later = absurd (not_both f.port (sym e ∙ f.picked))
-      by (Some p) e (inl h) later = down p h.path h.way
-      by (Some p) e (inr h) later = up later p e h.1.path h.1.way
+      by (Some p) e (inl h) later = let best = shortest_of (pick s) (is_way_down rows before s d) p h in down p best.path best.way
+      by (Some p) e (inr h) later = let best = shortest_of (pick s) (is_way_up rows before next s d) p h.1 in up later p e best.path best.way
 
   -- where a legal walk leads there is a route
   pub legal_routed : (s : ℕ) (walk : List ℕ) → s < length rows → is_walk rows s walk d ≡ true
@@ -259,7 +261,7 @@ module _ (rows : List (List Link)) (before : ℕ → ℕ → Bool) (next : ℕ �
 
       on : s ≢ d → (port : ℕ) (steps : List ℕ) → is_way_up rows before next s d port steps ≡ true → (o : Option ℕ)
           → next s ≡ o
-          → IsChosenOf (is_way_down rows before s d) (is_way_up rows before next s d) o → Routed s
+          → IsChosenOf (pick s) (is_way_down rows before s d) (is_way_up rows before next s d) o → Routed s
       on away port steps way None e h =
           absurd (neither (is_way_up rows before next s d port steps) (h.1 port steps) way)
       on away port steps way (Some p) e h = arrives s p less away e

@@ -1,12 +1,14 @@
 -- A table of distances and ports towards one switch that is right link by link obeys the definition of the choice.
-use Rattle.std.proofs.Common.{◌≡◌, ◌≢◌, ℕ, zero, suc, ◌<◌, ◌≤◌, ◌⊎◌, Bool, true, false, ◌==◌, List, [], ◌∷◌, length, Option, Some, None, refl, sym, ap, subst, ◌∙◌, inl, inr, arith}
-use Rattle.std.proofs.lemmas.Bool.{and_parts, and_from, eqb-true, eqb-false, false≢true}
+use Rattle.std.proofs.Common.{◌≡◌, ◌≢◌, ℕ, zero, suc, ◌<◌, ◌≤◌, ◌⊎◌, Bool, true, false, ◌==◌, List, [], ◌∷◌, length, slice_get, Option, Some, None, refl, sym, ap, subst, ◌∙◌, inl, inr, arith}
+use Rattle.std.proofs.lemmas.Bool.{and_parts, and_from, eq-eqb, eqb-true, eqb-false, false≢true}
 use Rattle.updn_routes.specs.declared.link.Link.{Link}
-use Rattle.updn_routes.specs.Cabling.{is_cabling, is_next_to, is_walk, leads}
-use Rattle.updn_routes.specs.Choice.{AllChosen, IsChosenOf, IsLeastOf, is_route, is_way_down, is_way_up}
+use Rattle.updn_routes.specs.Cabling.{is_cabling, is_next_to, is_walk, leads, links_of, rises}
+use Rattle.updn_routes.specs.Choice.{AllChosen, IsChosenOf, IsPickedOf, IsRule, IsShortestOf, is_route, is_way_down, is_way_up, least_port}
 use Rattle.updn_routes.specs.UpDown.{goes_down, is_down, is_up}
-use Rattle.updn_routes.proofs.CablingLemmas.{ends, leads_next, next_leads, one_end}
+use Rattle.sweep.proofs.FoundLemmas.{any_by}
+use Rattle.updn_routes.proofs.CablingLemmas.{ends, leads_next, next_leads, one_end, row_rises}
 use Rattle.updn_routes.proofs.RouteLemmas.{FirstStep, first_step, not_both, same_port, step_first, up_way, way_down, way_up}
+use Rattle.updn_routes.proofs.TieLemmas.{LeadsTo, first_is, is_in, leads_tie, not_empty, some_at, tie_leads, ties_in, ties_rise}
 
 -- ---- one entry
 -- the least port, among those of a kind, to a switch that stands so many steps from the target, where none stands nearer
@@ -18,27 +20,43 @@ pub record IsBest (rows : List (List Link)) (kind : ℕ → Bool) (far : ℕ →
   pub nearest : (q t j : ℕ) → leads rows s q t ≡ true → kind t ≡ true → far t ≡ Some j → k ≤ j
   pub least : (q t : ℕ) → leads rows s q t ≡ true → kind t ≡ true → far t ≡ Some k → port ≤ q
 
+-- a port that is named among all those to a switch of that kind that stands so many steps from the target, where none stands nearer
+pub record IsTaken (rows : List (List Link)) (pick : ℕ → ℕ → ℕ) (kind : ℕ → Bool) (far : ℕ → Option ℕ) (s port k : ℕ) : Type 0 where
+  pub to : ℕ
+  pub out : leads rows s port to ≡ true
+  pub fits : kind to ≡ true
+  pub at : far to ≡ Some k
+  pub nearest : (q t j : ℕ) → leads rows s q t ≡ true → kind t ≡ true → far t ≡ Some j → k ≤ j
+  pub ties : List ℕ
+  pub rising : rises ties ≡ true
+  pub each : (q : ℕ) → is_in ties q ≡ true → LeadsTo kind far k (links_of rows s) q
+  pub all : (q t : ℕ) → leads rows s q t ≡ true → kind t ≡ true → far t ≡ Some k → is_in ties q ≡ true
+  pub picked : slice_get ties (pick s (length ties)) ≡ Some port
+
 -- none of that kind leads there
 abbrev pub NoneAt : List (List Link) → (ℕ → Bool) → (ℕ → Option ℕ) → ℕ → Type 0
 NoneAt rows kind far s = (q t : ℕ) → leads rows s q t ≡ true → kind t ≡ true → far t ≡ None
 
--- `down` has the length of a shortest way down, `own` that of the switch's own route, and `next` its port
-pub record Falls (rows : List (List Link)) (before : ℕ → ℕ → Bool) (down own next : ℕ → Option ℕ) (s : ℕ) : Type 0 where
+-- `down` has the length of a shortest way down, `own` that of the switch's own route, and `next` its port, which is best in some sense
+abbrev pub Best : Type 1
+Best = (ℕ → Bool) → (ℕ → Option ℕ) → (s port k : ℕ) → Type 0
+
+pub record Falls (IsIt : Best) (before : ℕ → ℕ → Bool) (down own next : ℕ → Option ℕ) (s : ℕ) : Type 0 where
   pub port : ℕ
   pub more : ℕ
   pub down_is : down s ≡ Some (suc more)
   pub own_is : own s ≡ Some (suc more)
   pub next_is : next s ≡ Some port
-  pub best : IsBest rows (is_down before s) down s port more
+  pub best : IsIt (is_down before s) down s port more
 
-pub record Climbs (rows : List (List Link)) (before : ℕ → ℕ → Bool) (down own next : ℕ → Option ℕ) (s : ℕ) : Type 0 where
+pub record Climbs (rows : List (List Link)) (IsIt : Best) (before : ℕ → ℕ → Bool) (down own next : ℕ → Option ℕ) (s : ℕ) : Type 0 where
   pub port : ℕ
   pub more : ℕ
   pub down_is : down s ≡ None
   pub none_down : NoneAt rows (is_down before s) down s
   pub own_is : own s ≡ Some (suc more)
   pub next_is : next s ≡ Some port
-  pub best : IsBest rows (is_up before s) own s port more
+  pub best : IsIt (is_up before s) own s port more
 
 pub record Rests (rows : List (List Link)) (before : ℕ → ℕ → Bool) (down own next : ℕ → Option ℕ) (s : ℕ) : Type 0 where
   pub down_is : down s ≡ None
@@ -47,16 +65,23 @@ pub record Rests (rows : List (List Link)) (before : ℕ → ℕ → Bool) (down
   pub none_up : NoneAt rows (is_up before s) own s
   pub next_is : next s ≡ None
 
+abbrev pub IsEntryBy : List (List Link) → Best → (ℕ → ℕ → Bool) → (ℕ → Option ℕ) → (ℕ → Option ℕ) → (ℕ → Option ℕ) → ℕ → Type 0
+IsEntryBy rows IsIt before down own next s =
+    Falls IsIt before down own next s ⊎ (Climbs rows IsIt before down own next s ⊎ Rests rows before down own next s)
+
 abbrev pub IsEntry : List (List Link) → (ℕ → ℕ → Bool) → (ℕ → Option ℕ) → (ℕ → Option ℕ) → (ℕ → Option ℕ) → ℕ → Type 0
-IsEntry rows before down own next s =
-    Falls rows before down own next s ⊎ (Climbs rows before down own next s ⊎ Rests rows before down own next s)
+IsEntry rows before down own next s = IsEntryBy rows (IsBest rows) before down own next s
 
 -- ---- all of them
 pub same_some : (j k : ℕ) → ◌≡◌ {A = Option ℕ} (Some j) (Some k) → j ≡ k
 same_some j k h = cc
 
-module _ (rows : List (List Link)) (before : ℕ → ℕ → Bool) (d : ℕ) (cabling : is_cabling rows ≡ true) (down own next : ℕ → Option ℕ)
-    (down_home : down d ≡ Some 0) (own_home : own d ≡ Some 0) (each : (s : ℕ) → s < length rows → s ≢ d → IsEntry rows before down own next s) where
+module _ (rows : List (List Link)) (before : ℕ → ℕ → Bool) (pick : ℕ → ℕ → ℕ) (d : ℕ) (cabling : is_cabling rows ≡ true) (down own next : ℕ → Option ℕ)
+    (down_home : down d ≡ Some 0) (own_home : own d ≡ Some 0)
+    (each : (s : ℕ) → s < length rows → s ≢ d → IsEntryBy rows (IsTaken rows pick) before down own next s) where
+  abbrev Entry : ℕ → Type 0
+  Entry s = IsEntryBy rows (IsTaken rows pick) before down own next s
+
   at_home : (s : ℕ) → s ≡ d → down s ≡ Some 0
   at_home s same = subst (λ (k : ℕ). down k ≡ Some 0) (sym same) down_home
 
@@ -84,7 +109,7 @@ module _ (rows : List (List Link)) (before : ℕ → ℕ → Bool) (d : ℕ) (ca
       port : (q : ℕ) × (leads rows s q t ≡ true)
       port = next_leads rows s t w.0
 
-      on : Within t (length steps) → IsEntry rows before down own next s → Within s (length (t ∷ steps))
+      on : Within t (length steps) → Entry s → Within s (length (t ∷ steps))
       on more (inl f) =
           let near = f.best.nearest port.0 t more.0 port.1 g.0 more.1 in
           let most = more.2 in
@@ -104,7 +129,7 @@ module _ (rows : List (List Link)) (before : ℕ → ℕ → Bool) (d : ℕ) (ca
   down_walk : (k s : ℕ) → s < length rows → down s ≡ Some k → DownWalk s k
   down_walk zero s less e = by (s == d) refl
     where
-      on : s ≢ d → IsEntry rows before down own next s → DownWalk s zero
+      on : s ≢ d → Entry s → DownWalk s zero
       on away (inl f) =
           absurd (let same =
           same_some (suc f.more) zero (sym f.down_is ∙ e) in let no_room : ⊥ = omega (arith, same) in no_room)
@@ -119,7 +144,7 @@ module _ (rows : List (List Link)) (before : ℕ → ℕ → Bool) (d : ℕ) (ca
       Later : Type 0
       Later = (t : ℕ) → t < length rows → down t ≡ Some k → DownWalk t k
 
-      on : Later → IsEntry rows before down own next s → DownWalk s (suc k)
+      on : Later → Entry s → DownWalk s (suc k)
       on later (inl f) =
           let same = same_some (suc f.more) (suc k) (sym f.down_is ∙ e) in
           let beside = leads_next rows s f.port f.best.to f.best.out in
@@ -140,7 +165,7 @@ module _ (rows : List (List Link)) (before : ℕ → ℕ → Bool) (d : ℕ) (ca
   down_own : (s k : ℕ) → s < length rows → down s ≡ Some k → own s ≡ Some k
   down_own s k less e = by (s == d) refl
     where
-      on : IsEntry rows before down own next s → own s ≡ Some k
+      on : Entry s → own s ≡ Some k
       on (inl f) = f.own_is ∙ (sym f.down_is ∙ e)
       on (inr (inl f)) = absurd (not_both k (sym f.down_is ∙ e))
       on (inr (inr f)) = absurd (not_both k (sym f.down_is ∙ e))
@@ -161,7 +186,7 @@ module _ (rows : List (List Link)) (before : ℕ → ℕ → Bool) (d : ℕ) (ca
   ahead : (s k : ℕ) → s < length rows → s ≢ d → own s ≡ Some (suc k) → Ahead s k
   ahead s k less away e = on (each s less away)
     where
-      on : IsEntry rows before down own next s → Ahead s k
+      on : Entry s → Ahead s k
       on (inl f) =
           let same = same_some (suc f.more) (suc k) (sym f.own_is ∙ e) in
           let even : f.more ≡ k = omega (arith, same) in
@@ -180,7 +205,7 @@ module _ (rows : List (List Link)) (before : ℕ → ℕ → Bool) (d : ℕ) (ca
   own_route : (k s : ℕ) → s < length rows → own s ≡ Some k → Routed s k
   own_route zero s less e = by (s == d) refl
     where
-      on : IsEntry rows before down own next s → Routed s zero
+      on : Entry s → Routed s zero
       on (inl f) =
           absurd (let same =
           same_some (suc f.more) zero (sym f.own_is ∙ e) in let no_room : ⊥ = omega (arith, same) in no_room)
@@ -229,7 +254,7 @@ module _ (rows : List (List Link)) (before : ℕ → ℕ → Bool) (d : ℕ) (ca
       so_long to more same nearer e own_is =
           own_is ∙ ap (λ k. Some (suc k)) (same_some more (length steps) (sym nearer ∙ (ap own same ∙ e)))
 
-      on : IsEntry rows before down own next s → own t ≡ Some (length steps) → own s ≡ Some (length (t ∷ steps))
+      on : Entry s → own t ≡ Some (length steps) → own s ≡ Some (length (t ∷ steps))
       on (inl g) e =
           let same = same_end g.port g.best.to g.next_is g.best.out in
           so_long g.best.to g.more same (down_own g.best.to g.more (ends rows s g.best.to cabling less (leads_next rows s g.port g.best.to g.best.out)).0 g.best.at) e g.own_is
@@ -237,7 +262,7 @@ module _ (rows : List (List Link)) (before : ℕ → ℕ → Bool) (d : ℕ) (ca
           so_long g.best.to g.more (same_end g.port g.best.to g.next_is g.best.out) g.best.at e g.own_is
       on (inr (inr g)) e = absurd (not_both f.port (sym g.next_is ∙ f.picked))
 
-  pub table_chosen : AllChosen rows before next d
+  pub table_chosen : AllChosen rows before pick next d
   table_chosen s less away = on (each s less away)
     where
       downs : ℕ → List ℕ → Bool
@@ -266,73 +291,201 @@ module _ (rows : List (List Link)) (before : ℕ → ℕ → Bool) (d : ℕ) (ca
           let w = way_up rows before next s d p t steps e in
           absurd (not_both (length steps) (sym (none p t w.out w.step) ∙ route_own t steps (reached p t w.out) w.rest))
 
-      best_down : (port more : ℕ) → IsBest rows (is_down before s) down s port more → IsLeastOf downs port
-      best_down port more best = from (down_walk more best.to (reached port best.to best.out) best.at)
+      best_down : (port more : ℕ) → IsTaken rows pick (is_down before s) down s port more → IsPickedOf (pick s) downs port
+      best_down port more best =
+          record { ties = best.ties; are = record { rising = best.rising; each = begins; all = begun }; picked = best.picked }
         where
-          shorter : (walk : List ℕ) → length walk ≡ more → (q : ℕ) (steps : List ℕ) → downs q steps ≡ true
-              → length (best.to ∷ walk) ≤ length steps
-          shorter walk long q [] way = absurd (false≢true way)
-          shorter walk long q (t ∷ steps) way =
+          shorter : (to : ℕ) (walk : List ℕ) → length walk ≡ more → (q : ℕ) (steps : List ℕ) → downs q steps ≡ true
+              → length (to ∷ walk) ≤ length steps
+          shorter to walk long q [] way = absurd (false≢true way)
+          shorter to walk long q (t ∷ steps) way =
               let w = way_down rows before s d q t steps way in
               let far = walk_down t steps (reached q t w.out) w.walk w.down in
               let near = best.nearest q t far.0 w.out w.step far.1 in
               let most = far.2 in
               omega (arith, near, most, long)
 
-          lesser : (walk : List ℕ) → length walk ≡ more → (q : ℕ) (steps : List ℕ) → downs q steps ≡ true
-              → length steps ≡ length (best.to ∷ walk) → port ≤ q
-          lesser walk long q [] way even = absurd (false≢true way)
-          lesser walk long q (t ∷ steps) way even =
-              let w = way_down rows before s d q t steps way in
-              let far = walk_down t steps (reached q t w.out) w.walk w.down in
-              let near = best.nearest q t far.0 w.out w.step far.1 in
-              let most = far.2 in
-              let same : far.0 ≡ more = omega (arith, near, most, long, even) in
-              best.least q t w.out w.step (far.1 ∙ ap Some same)
+          way_by : (q to : ℕ) (walk : List ℕ) → leads rows s q to ≡ true → is_down before s to ≡ true → is_walk rows to walk d ≡ true
+              → goes_down before to walk ≡ true → downs q (to ∷ walk) ≡ true
+          way_by q to walk out fits goes falls =
+              and_from (leads rows s q to) _ out (and_from (is_walk rows to walk d) _ goes (and_from (is_down before s to) _ fits falls))
 
-          from : DownWalk best.to more → IsLeastOf downs port
-          from own_walk =
-              record {
-                path = best.to ∷ own_walk.0;
-                way =
-                    and_from (leads rows s port best.to) _ best.out (and_from (is_walk rows best.to own_walk.0 d) _ own_walk.1 (and_from (is_down before s best.to) _ best.fits own_walk.2));
-                shortest = shorter own_walk.0 own_walk.3;
-                least = lesser own_walk.0 own_walk.3;
-              }
+          begins : (q : ℕ) → is_in best.ties q ≡ true → IsShortestOf downs q
+          begins q has =
+              let tie = best.each q has in
+              let walk : DownWalk tie.to more = down_walk more tie.to (reached q tie.to tie.out) tie.at in
+              record { path = tie.to ∷ walk.0; way = way_by q tie.to walk.0 tie.out tie.fits walk.1 walk.2; shortest = shorter tie.to walk.0 walk.3 }
 
-      best_up : (port more : ℕ) → IsBest rows (is_up before s) own s port more → IsLeastOf ups port
-      best_up port more best = from (own_route more best.to (reached port best.to best.out) best.at)
+          begun : (q : ℕ) → IsShortestOf downs q → is_in best.ties q ≡ true
+          begun q own_way = from own_way.path own_way.way own_way.shortest (down_walk more best.to (reached port best.to best.out) best.at)
+            where
+              from : (path : List ℕ) → downs q path ≡ true → ((other : ℕ) (steps : List ℕ) → downs other steps ≡ true → length path ≤ length steps)
+                  → DownWalk best.to more → is_in best.ties q ≡ true
+              from [] way shortest walk = absurd (false≢true way)
+              from (t ∷ steps) way shortest walk =
+                  let w = way_down rows before s d q t steps way in
+                  let far = walk_down t steps (reached q t w.out) w.walk w.down in
+                  let near = best.nearest q t far.0 w.out w.step far.1 in
+                  let most = far.2 in
+                  let low = shortest port (best.to ∷ walk.0) (way_by port best.to walk.0 best.out best.fits walk.1 walk.2) in
+                  let long = walk.3 in
+                  let same : far.0 ≡ more = omega (arith, near, most, low, long) in
+                  best.all q t w.out w.step (far.1 ∙ ap Some same)
+
+      best_up : (port more : ℕ) → IsTaken rows pick (is_up before s) own s port more → IsPickedOf (pick s) ups port
+      best_up port more best =
+          record { ties = best.ties; are = record { rising = best.rising; each = begins; all = begun }; picked = best.picked }
         where
-          shorter : (route : List ℕ) → length route ≡ more → (q : ℕ) (steps : List ℕ) → ups q steps ≡ true
-              → length (best.to ∷ route) ≤ length steps
-          shorter route long q [] way = absurd (false≢true way)
-          shorter route long q (t ∷ steps) way =
+          shorter : (to : ℕ) (route : List ℕ) → length route ≡ more → (q : ℕ) (steps : List ℕ) → ups q steps ≡ true
+              → length (to ∷ route) ≤ length steps
+          shorter to route long q [] way = absurd (false≢true way)
+          shorter to route long q (t ∷ steps) way =
               let w = way_up rows before next s d q t steps way in
               let near = best.nearest q t (length steps) w.out w.step (route_own t steps (reached q t w.out) w.rest) in
               omega (arith, near, long)
 
-          lesser : (route : List ℕ) → length route ≡ more → (q : ℕ) (steps : List ℕ) → ups q steps ≡ true
-              → length steps ≡ length (best.to ∷ route) → port ≤ q
-          lesser route long q [] way even = absurd (false≢true way)
-          lesser route long q (t ∷ steps) way even =
-              let w = way_up rows before next s d q t steps way in
-              let same : length steps ≡ more = omega (arith, long, even) in
-              best.least q t w.out w.step (route_own t steps (reached q t w.out) w.rest ∙ ap Some same)
-
-          from : Routed best.to more → IsLeastOf ups port
-          from own_walk =
+          begins : (q : ℕ) → is_in best.ties q ≡ true → IsShortestOf ups q
+          begins q has =
+              let tie = best.each q has in
+              let route : Routed tie.to more = own_route more tie.to (reached q tie.to tie.out) tie.at in
               record {
-                path = best.to ∷ own_walk.0;
-                way = up_way rows before next s d port best.to own_walk.0 (record { out = best.out; step = best.fits; rest = own_walk.1 });
-                shortest = shorter own_walk.0 own_walk.2;
-                least = lesser own_walk.0 own_walk.2;
+                path = tie.to ∷ route.0;
+                way = up_way rows before next s d q tie.to route.0 (record { out = tie.out; step = tie.fits; rest = route.1 });
+                shortest = shorter tie.to route.0 route.2;
               }
 
-      on : IsEntry rows before down own next s → IsChosenOf downs ups (next s)
+          begun : (q : ℕ) → IsShortestOf ups q → is_in best.ties q ≡ true
+          begun q own_way = from own_way.path own_way.way own_way.shortest (own_route more best.to (reached port best.to best.out) best.at)
+            where
+              from : (path : List ℕ) → ups q path ≡ true → ((other : ℕ) (steps : List ℕ) → ups other steps ≡ true → length path ≤ length steps)
+                  → Routed best.to more → is_in best.ties q ≡ true
+              from [] way shortest route = absurd (false≢true way)
+              from (t ∷ steps) way shortest route =
+                  let w = way_up rows before next s d q t steps way in
+                  let own_is = route_own t steps (reached q t w.out) w.rest in
+                  let near = best.nearest q t (length steps) w.out w.step own_is in
+                  let low = shortest port (best.to ∷ route.0) (up_way rows before next s d port best.to route.0 (record { out = best.out; step = best.fits; rest = route.1 })) in
+                  let long = route.2 in
+                  let same : length steps ≡ more = omega (arith, near, low, long) in
+                  best.all q t w.out w.step (own_is ∙ ap Some same)
+
+      on : Entry s → IsChosenOf (pick s) downs ups (next s)
       on (inl f) =
-          subst (λ (o : Option ℕ). IsChosenOf downs ups o) (sym f.next_is) (inl (best_down f.port f.more f.best))
+          subst (λ (o : Option ℕ). IsChosenOf (pick s) downs ups o) (sym f.next_is) (inl (best_down f.port f.more f.best))
       on (inr (inl f)) =
-          subst (λ (o : Option ℕ). IsChosenOf downs ups o) (sym f.next_is) (inr (λ p path. no_downs f.none_down p path (downs p path) refl, best_up f.port f.more f.best))
+          subst (λ (o : Option ℕ). IsChosenOf (pick s) downs ups o) (sym f.next_is) (inr (λ p path. no_downs f.none_down p path (downs p path) refl, best_up f.port f.more f.best))
       on (inr (inr f)) =
-          subst (λ (o : Option ℕ). IsChosenOf downs ups o) (sym f.next_is)
+          subst (λ (o : Option ℕ). IsChosenOf (pick s) downs ups o) (sym f.next_is)
           (λ p path. no_downs f.none_down p path (downs p path) refl, λ p path. no_ups f.none_up p path (ups p path) refl)
+
+-- ---- by the rule
+-- the port that a rule names among those of a kind to switches of one distance
+abbrev pub picked_in : List (List Link) → (ℕ → ℕ → ℕ) → (ℕ → Bool) → (ℕ → Option ℕ) → (s k : ℕ) → Option ℕ
+picked_in rows pick kind far s k = slice_get (ties_in kind far k (links_of rows s)) (pick s (length (ties_in kind far k (links_of rows s))))
+
+-- and among those that a switch has, by the lengths of its way down and of its route
+unfoldable pub picked_by : List (List Link) → (ℕ → ℕ → Bool) → (ℕ → ℕ → ℕ) → (down own : ℕ → Option ℕ) → ℕ → Option ℕ → Option ℕ → Option ℕ
+picked_by rows before pick down own s (Some (suc k)) route = picked_in rows pick (is_down before s) down s k
+picked_by rows before pick down own s (Some zero) route = None
+picked_by rows before pick down own s None (Some (suc k)) = picked_in rows pick (is_up before s) own s k
+picked_by rows before pick down own s None (Some zero) = None
+picked_by rows before pick down own s None None = None
+
+module _ (rows : List (List Link)) (cabling : is_cabling rows ≡ true) (s : ℕ) (less : s < length rows) (kind : ℕ → Bool) (far : ℕ → Option ℕ) where
+  taken_by : (pick : ℕ → ℕ → ℕ) (least port k : ℕ) → IsBest rows kind far s least k → picked_in rows pick kind far s k ≡ Some port
+      → IsTaken rows pick kind far s port k
+  taken_by pick least port k best is =
+      let ties = ties_in kind far k (links_of rows s) in
+      let tie : LeadsTo kind far k (links_of rows s) port =
+      tie_leads kind far k (links_of rows s) port (any_by (λ tie. tie == port) ties (pick s (length ties)) port is (eq-eqb port port refl)) in
+      record {
+        to = tie.to;
+        out = tie.out;
+        fits = tie.fits;
+        at = tie.at;
+        nearest = best.nearest;
+        ties = ties;
+        rising = ties_rise kind far k (links_of rows s) (row_rises rows s cabling less);
+        each = tie_leads kind far k (links_of rows s);
+        all = leads_tie kind far k (links_of rows s);
+        picked = is;
+      }
+
+  some_taken : (pick : ℕ → ℕ → ℕ) (least k : ℕ) → IsRule pick → IsBest rows kind far s least k
+      → (port : ℕ) × (picked_in rows pick kind far s k ≡ Some port)
+  some_taken pick least k rule best =
+      let ties = ties_in kind far k (links_of rows s) in
+      some_at ties (pick s (length ties)) (rule s (length ties) (not_empty ties least (leads_tie kind far k (links_of rows s) least best.to best.out best.fits best.at)))
+
+  -- the first of them is the least
+  least_taken : (least k : ℕ) → IsBest rows kind far s least k → picked_in rows least_port kind far s k ≡ Some least
+  least_taken least k best =
+      first_is (ties_in kind far k (links_of rows s)) least (ties_rise kind far k (links_of rows s) (row_rises rows s cabling less))
+      (leads_tie kind far k (links_of rows s) least best.to best.out best.fits best.at)
+      (λ q has. let tie = tie_leads kind far k (links_of rows s) q has in best.least q tie.to tie.out tie.fits tie.at)
+
+module _ (rows : List (List Link)) (before : ℕ → ℕ → Bool) (d : ℕ) (cabling : is_cabling rows ≡ true) (down own next : ℕ → Option ℕ)
+    (down_home : down d ≡ Some 0) (own_home : own d ≡ Some 0) (each : (s : ℕ) → s < length rows → s ≢ d → IsEntry rows before down own next s) where
+  abbrev pub IsPicked : (ℕ → ℕ → ℕ) → (ℕ → Option ℕ) → ℕ → Type 0
+  IsPicked pick now s = now s ≡ picked_by rows before pick down own s (down s) (own s)
+
+  -- what a rule names, in place of the least
+  pub all_chosen : (pick : ℕ → ℕ → ℕ) (now : ℕ → Option ℕ) → IsRule pick → ((s : ℕ) → s < length rows → s ≢ d → IsPicked pick now s)
+      → AllChosen rows before pick now d
+  unfolding picked_by
+  all_chosen pick now rule are =
+      table_chosen rows before pick d cabling down own now down_home own_home (λ s less away. by s less (each s less away) (are s less away))
+    where
+      by : (s : ℕ) → s < length rows → IsEntry rows before down own next s → IsPicked pick now s
+          → IsEntryBy rows (IsTaken rows pick) before down own now s
+      by s less (inl f) is =
+          let some = some_taken rows cabling s less (is_down before s) down pick f.port f.more rule f.best in
+          inl (record {
+            port = some.0;
+            more = f.more;
+            down_is = f.down_is;
+            own_is = f.own_is;
+            next_is = is ∙ (ap (λ (o : Option ℕ). picked_by rows before pick down own s o (own s)) f.down_is ∙ some.1);
+            best = taken_by rows cabling s less (is_down before s) down pick f.port some.0 f.more f.best some.1;
+          })
+      by s less (inr (inl f)) is =
+          let some = some_taken rows cabling s less (is_up before s) own pick f.port f.more rule f.best in
+          inr (inl (record {
+            port = some.0;
+            more = f.more;
+            down_is = f.down_is;
+            none_down = f.none_down;
+            own_is = f.own_is;
+            next_is =
+                is ∙ (ap (λ (o : Option ℕ). picked_by rows before pick down own s o (own s)) f.down_is
+                ∙ (ap (picked_by rows before pick down own s None) f.own_is ∙ some.1));
+            best = taken_by rows cabling s less (is_up before s) own pick f.port some.0 f.more f.best some.1;
+          }))
+      by s less (inr (inr f)) is =
+          inr (inr (record {
+            down_is = f.down_is;
+            none_down = f.none_down;
+            own_is = f.own_is;
+            none_up = f.none_up;
+            next_is =
+                is ∙ (ap (λ (o : Option ℕ). picked_by rows before pick down own s o (own s)) f.down_is
+                ∙ ap (picked_by rows before pick down own s None) f.own_is);
+          }))
+
+  -- the least is what the rule of the least port names
+  pub least_chosen : AllChosen rows before least_port next d
+  unfolding picked_by
+  least_chosen =
+      all_chosen least_port next (λ s ties some. some) (λ s less away. by s less (each s less away))
+    where
+      by : (s : ℕ) → s < length rows → IsEntry rows before down own next s → IsPicked least_port next s
+      by s less (inl f) =
+          f.next_is ∙ sym (ap (λ (o : Option ℕ). picked_by rows before least_port down own s o (own s)) f.down_is
+          ∙ least_taken rows cabling s less (is_down before s) down f.port f.more f.best)
+      by s less (inr (inl f)) =
+          f.next_is ∙ sym (ap (λ (o : Option ℕ). picked_by rows before least_port down own s o (own s)) f.down_is
+          ∙ (ap (picked_by rows before least_port down own s None) f.own_is
+          ∙ least_taken rows cabling s less (is_up before s) own f.port f.more f.best))
+      by s less (inr (inr f)) =
+          f.next_is ∙ sym (ap (λ (o : Option ℕ). picked_by rows before least_port down own s o (own s)) f.down_is
+          ∙ ap (picked_by rows before least_port down own s None) f.own_is)

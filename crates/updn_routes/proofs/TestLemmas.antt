@@ -1,5 +1,5 @@
 -- A test of a table, link by link, that computes: what it lets through obeys the definition of the choice.
-use Rattle.std.proofs.Common.{◌≡◌, ℕ, suc, ◌≤◌, Bool, true, false, not, ◌==◌, ◌&&◌, ◌||◌, nat_le, nat_lt, List, [], ◌∷◌, length, get_or, is_none}
+use Rattle.std.proofs.Common.{◌≡◌, ◌≢◌, ℕ, suc, ◌<◌, ◌≤◌, Bool, true, false, not, ◌==◌, ◌&&◌, ◌||◌, nat_le, nat_lt, List, [], ◌∷◌, length, get_or, is_none}
 use Rattle.std.proofs.Common.{Option, Some, None, refl, ap, subst, ◌∙◌, inl, inr, arith}
 use Rattle.std.specs.List.{list_all, list_any, range_with_len}
 use Rattle.std.proofs.lemmas.Bool.{and_parts, and_from, or_cases, or_left, or_right, eqb-true, leb-true, ltb-true, ne_eqb, eq-eqb, false≢true}
@@ -8,11 +8,11 @@ use Rattle.sweep.proofs.RoundLemmas.{exactly}
 use Rattle.sweep.specs.Rounds.{is_exactly}
 use Rattle.updn_routes.specs.declared.link.Link.{Link}
 use Rattle.updn_routes.specs.Cabling.{is_cabling, leads, links_of}
-use Rattle.updn_routes.specs.Choice.{AllChosen}
+use Rattle.updn_routes.specs.Choice.{AllChosen, IsRule, least_port}
 use Rattle.updn_routes.specs.UpDown.{is_down, is_up}
 use Rattle.updn_routes.proofs.CablingLemmas.{goes, some_of}
 use Rattle.sweep.proofs.JoinedLemmas.{at_each}
-use Rattle.updn_routes.proofs.TableLemmas.{IsBest, IsEntry, NoneAt, table_chosen}
+use Rattle.updn_routes.proofs.TableLemmas.{IsBest, IsEntry, NoneAt, all_chosen, least_chosen, picked_by}
 
 -- ---- the test
 -- the link leads no nearer than so many steps, and where it leads as near its port is no less
@@ -125,28 +125,63 @@ entry_is rows before down own next s None None None e f g h =
     inr (inr (record { down_is = e; none_down = none_at rows (is_down before s) down s parts.0; own_is = f; none_up = none_at rows (is_up before s) own s parts.1; next_is = g }))
 entry_is rows before down own next s _ _ _ e f g h = absurd (false≢true h)
 
-pub table_tested : (rows : List (List Link)) (before : ℕ → ℕ → Bool) (d : ℕ) (down own next : List (Option ℕ))
-    → is_cabling rows ≡ true → is_table rows before d down own next ≡ true
-    → AllChosen rows before (entry_of next) d
-table_tested rows before d down own next cabling tested =
-    table_chosen rows before d cabling (entry_of down) (entry_of own) (entry_of next) (exactly (entry_of down d) 0 home.0) (exactly (entry_of own d) 0 home.1)
-    (λ s less away. entry_is rows before (entry_of down) (entry_of own) (entry_of next) s (entry_of down s) (entry_of own s) (entry_of next s) refl refl refl
-    (implied (not (s == d)) _ (two_nots (s == d) _ (at_each test 0 (length rows) s parts.1 (omega arith) (omega (arith, less)))) (not_is (s == d) (ne_eqb s d away))))
-  where
-    test : ℕ → Bool
-    test s =
-        (s == d) || is_entry rows before (entry_of down) (entry_of own) s (entry_of down s) (entry_of own s) (entry_of next s)
+-- ---- by a rule
+-- the port of each switch is the one that the rule names
+abbrev pub is_port : Option ℕ → Option ℕ → Bool
+is_port None None = true
+is_port (Some p) (Some q) = p == q
+is_port _ _ = false
 
-    parts : ((is_exactly (entry_of down d) 0 && is_exactly (entry_of own d) 0) ≡ true) × (list_all test (range_with_len 0 (length rows)) ≡ true)
-    parts =
-        and_parts (is_exactly (entry_of down d) 0 && is_exactly (entry_of own d) 0) (list_all test (range_with_len 0 (length rows))) tested
+one_port : (o r : Option ℕ) → is_port o r ≡ true → o ≡ r
+one_port None None h = refl
+one_port (Some p) (Some q) h = ap Some (eqb-true p q h)
+one_port None (Some q) h = absurd (false≢true h)
+one_port (Some p) None h = absurd (false≢true h)
 
-    home : (is_exactly (entry_of down d) 0 ≡ true) × (is_exactly (entry_of own d) 0 ≡ true)
-    home = and_parts (is_exactly (entry_of down d) 0) (is_exactly (entry_of own d) 0) parts.0
+abbrev pub is_picked : List (List Link) → (ℕ → ℕ → Bool) → (ℕ → ℕ → ℕ) → ℕ → (down own now : List (Option ℕ)) → ℕ → Bool
+is_picked rows before pick d down own now s =
+    (s == d) || is_port (entry_of now s) (picked_by rows before pick (entry_of down) (entry_of own) s (entry_of down s) (entry_of own s))
 
-    two_nots : (b c : Bool) → (b || c) ≡ true → (not (not b) || c) ≡ true
-    two_nots true c h = refl
-    two_nots false c h = h
+module _ (rows : List (List Link)) (before : ℕ → ℕ → Bool) (d : ℕ) (down own next : List (Option ℕ)) (cabling : is_cabling rows ≡ true)
+    (tested : is_table rows before d down own next ≡ true) where
+  two_nots : (b c : Bool) → (b || c) ≡ true → (not (not b) || c) ≡ true
+  two_nots true c h = refl
+  two_nots false c h = h
 
-    not_is : (b : Bool) → b ≡ false → not b ≡ true
-    not_is b e = rw e refl
+  not_is : (b : Bool) → b ≡ false → not b ≡ true
+  not_is b e = rw e refl
+
+  away_from : (test : ℕ → Bool) (s : ℕ) → list_all (λ s. (s == d) || test s) (range_with_len 0 (length rows)) ≡ true → s < length rows → s ≢ d
+      → test s ≡ true
+  away_from test s all less away =
+      implied (not (s == d)) _ (two_nots (s == d) _ (at_each (λ s. (s == d) || test s) 0 (length rows) s all (omega arith) (omega (arith, less))))
+      (not_is (s == d) (ne_eqb s d away))
+
+  abbrev test : ℕ → Bool
+  test s =
+      (s == d) || is_entry rows before (entry_of down) (entry_of own) s (entry_of down s) (entry_of own s) (entry_of next s)
+
+  parts : ((is_exactly (entry_of down d) 0 && is_exactly (entry_of own d) 0) ≡ true) × (list_all test (range_with_len 0 (length rows)) ≡ true)
+  parts =
+      and_parts (is_exactly (entry_of down d) 0 && is_exactly (entry_of own d) 0) (list_all test (range_with_len 0 (length rows))) tested
+
+  home : (is_exactly (entry_of down d) 0 ≡ true) × (is_exactly (entry_of own d) 0 ≡ true)
+  home = and_parts (is_exactly (entry_of down d) 0) (is_exactly (entry_of own d) 0) parts.0
+
+  entries : (s : ℕ) → s < length rows → s ≢ d → IsEntry rows before (entry_of down) (entry_of own) (entry_of next) s
+  entries s less away =
+      entry_is rows before (entry_of down) (entry_of own) (entry_of next) s (entry_of down s) (entry_of own s) (entry_of next s) refl refl refl
+      (away_from (λ s. is_entry rows before (entry_of down) (entry_of own) s (entry_of down s) (entry_of own s) (entry_of next s)) s parts.1 less away)
+
+  pub table_tested : AllChosen rows before least_port (entry_of next) d
+  table_tested =
+      least_chosen rows before d cabling (entry_of down) (entry_of own) (entry_of next) (exactly (entry_of down d) 0 home.0) (exactly (entry_of own d) 0 home.1)
+      entries
+
+  pub rule_tested : (pick : ℕ → ℕ → ℕ) (now : List (Option ℕ)) → IsRule pick
+      → list_all (is_picked rows before pick d down own now) (range_with_len 0 (length rows)) ≡ true → AllChosen rows before pick (entry_of now) d
+  rule_tested pick now rule all =
+      all_chosen rows before d cabling (entry_of down) (entry_of own) (entry_of next) (exactly (entry_of down d) 0 home.0) (exactly (entry_of own d) 0 home.1)
+      entries pick (entry_of now) rule
+      (λ s less away. one_port (entry_of now s) _
+      (away_from (λ s. is_port (entry_of now s) (picked_by rows before pick (entry_of down) (entry_of own) s (entry_of down s) (entry_of own s))) s all less away))

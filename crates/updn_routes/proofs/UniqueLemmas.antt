@@ -1,40 +1,35 @@
 -- Choices that both obey the definition are the same: first where some way leads down, and then place by place.
-use Rattle.std.proofs.Common.{◌≡◌, ◌≢◌, ℕ, zero, suc, ◌<◌, ◌≤◌, Bool, true, List, [], ◌∷◌, length, Option, Some, None, refl, sym, ap, subst, ◌∙◌, inl, inr, arith}
+use Rattle.std.proofs.Common.{◌≡◌, ◌≢◌, ℕ, zero, suc, ◌<◌, ◌≤◌, Bool, true, List, [], ◌∷◌, length, Option, Some, None, refl, sym, subst, ◌∙◌, inl, inr, arith}
 use Rattle.std.proofs.lemmas.Bool.{and_parts, and_from, false≢true}
 use Rattle.updn_routes.specs.declared.link.Link.{Link}
 use Rattle.updn_routes.specs.Cabling.{is_cabling, is_next_to, is_walk, leads}
-use Rattle.updn_routes.specs.Choice.{AllChosen, IsChosenOf, IsLeastOf, is_route, is_way_down, is_way_up}
+use Rattle.updn_routes.specs.Choice.{AllChosen, IsChosenOf, IsShortestOf, is_route, is_way_down, is_way_up}
 use Rattle.updn_routes.specs.Order.{IsOrder, place_of}
 use Rattle.updn_routes.specs.UpDown.{goes_down, is_down, is_up}
 use Rattle.updn_routes.proofs.CablingLemmas.{ends, leads_next, one_end}
 use Rattle.updn_routes.proofs.PlaceLemmas.{place_less}
 use Rattle.updn_routes.proofs.RouteLemmas.{FirstStep, chosen_down, down_first, first_step, neither, not_both, route_walks, same_port, step_first, up_way, way_down, way_up}
+use Rattle.updn_routes.proofs.TieLemmas.{one_picked, shortest_of}
 
--- the least ports of the same ways
-least_same : (w v : ℕ → List ℕ → Bool) → ((p : ℕ) (path : List ℕ) → w p path ≡ true → v p path ≡ true)
-    → ((p : ℕ) (path : List ℕ) → v p path ≡ true → w p path ≡ true)
-    → (p q : ℕ) → IsLeastOf w p → IsLeastOf v q → p ≡ q
-least_same w v there back p q one other =
-    let one_too = there p one.path one.way in
-    let other_too = back q other.path other.way in
-    let near = other.shortest p one.path one_too in
-    let far = one.shortest q other.path other_too in
-    let below = other.least p one.path one_too (omega (arith, near, far)) in
-    let above = one.least q other.path other_too (omega (arith, near, far)) in
-    omega (arith, below, above)
+-- the shortest of the same ways
+shortest_same : (w v : ℕ → List ℕ → Bool) → ((p : ℕ) (path : List ℕ) → w p path ≡ true → v p path ≡ true)
+    → ((p : ℕ) (path : List ℕ) → v p path ≡ true → w p path ≡ true) → (p : ℕ) → IsShortestOf w p → IsShortestOf v p
+shortest_same w v there back p best =
+    record { path = best.path; way = there p best.path best.way; shortest = λ q steps way. best.shortest q steps (back q steps way) }
 
 module _ (rows : List (List Link)) (before : ℕ → ℕ → Bool) (d : ℕ) (cabling : is_cabling rows ≡ true) (order : IsOrder (length rows) before)
-    (one other : ℕ → Option ℕ) (first : AllChosen rows before one d) (second : AllChosen rows before other d) where
+    (pick too : ℕ → ℕ → ℕ) (alike : (s ties : ℕ) → s < length rows → pick s ties ≡ too s ties) (one other : ℕ → Option ℕ)
+    (first : AllChosen rows before pick one d) (second : AllChosen rows before too other d) where
   abbrev pub AgreeBelow : ℕ → Type 0
   AgreeBelow k = (u : ℕ) → u < length rows → u ≢ d → place_of before (length rows) u < k → one u ≡ other u
 
   pub down_same : (s port : ℕ) (steps : List ℕ) → s < length rows → s ≢ d
       → is_way_down rows before s d port steps ≡ true → one s ≡ other s
   down_same s port steps less away way =
-      let a = chosen_down rows before one d cabling first s port steps less away way in
-      let b = chosen_down rows before other d cabling second s port steps less away way in
+      let a = chosen_down rows before pick one d cabling first s port steps less away way in
+      let b = chosen_down rows before too other d cabling second s port steps less away way in
       let w = is_way_down rows before s d in
-      a.1.0 ∙ (ap Some (least_same w w (λ p path h. h) (λ p path h. h) a.0 b.0 a.1.1 b.1.1) ∙ sym b.1.0)
+      a.1.0 ∙ (one_picked (pick s) (too s) w w (λ ties. alike s ties less) (λ p h. h) (λ p h. h) a.0 b.0 a.1.1 b.1.1 ∙ sym b.1.0)
 
   down_moves : (s : ℕ) (steps : List ℕ) → s < length rows → is_route rows one s steps d ≡ true
       → goes_down before s steps ≡ true → is_route rows other s steps d ≡ true
@@ -68,7 +63,7 @@ module _ (rows : List (List Link)) (before : ℕ → ℕ → Bool) (d : ℕ) (ca
       down p [] way = absurd (false≢true way)
       down p (u ∷ us) way =
           let w = way_down rows before s d p u us way in
-          down_moves s (t ∷ steps) less route (down_first rows before one d cabling first s (t ∷ steps) (u ∷ us) less route
+          down_moves s (t ∷ steps) less route (down_first rows before pick one d cabling first s (t ∷ steps) (u ∷ us) less route
           (and_from (is_next_to rows s u) _ (leads_next rows s p u w.out) w.walk) (and_from (is_down before s u) _ w.step w.down)).0
 
       up : Later → (p : ℕ) → one s ≡ Some p → (path : List ℕ) → is_way_up rows before one s d p path ≡ true
@@ -81,11 +76,11 @@ module _ (rows : List (List Link)) (before : ℕ → ℕ → Bool) (d : ℕ) (ca
           let near = place_less (length rows) before order t s there (subst (λ (v : ℕ). is_up before s v ≡ true) same w.step) in
           step_first rows other s t steps d (record { away = f.away; port = f.port; picked = sym (agree s less f.away low) ∙ f.picked; out = f.out; rest = later (omega (arith, near, low)) })
 
-      by : (o : Option ℕ) → one s ≡ o → IsChosenOf (is_way_down rows before s d) (is_way_up rows before one s d) o
+      by : (o : Option ℕ) → one s ≡ o → IsChosenOf (pick s) (is_way_down rows before s d) (is_way_up rows before one s d) o
           → Later → is_route rows other s (t ∷ steps) d ≡ true
       by None e h later = absurd (not_both f.port (sym e ∙ f.picked))
-      by (Some p) e (inl h) later = down p h.path h.way
-      by (Some p) e (inr h) later = up later p e h.1.path h.1.way
+      by (Some p) e (inl h) later = let best = shortest_of (pick s) (is_way_down rows before s d) p h in down p best.path best.way
+      by (Some p) e (inr h) later = let best = shortest_of (pick s) (is_way_up rows before one s d) p h.1 in up later p e best.path best.way
 
   pub way_moves : (k : ℕ) → AgreeBelow k → (s p : ℕ) (path : List ℕ) → s < length rows
       → place_of before (length rows) s ≤ k → is_way_up rows before one s d p path ≡ true
@@ -98,7 +93,8 @@ module _ (rows : List (List Link)) (before : ℕ → ℕ → Bool) (d : ℕ) (ca
       up_way rows before other s d p t steps (record { out = w.out; step = w.step; rest = route_moves k agree t steps there (omega (arith, near, low)) w.rest })
 
 module _ (rows : List (List Link)) (before : ℕ → ℕ → Bool) (d : ℕ) (cabling : is_cabling rows ≡ true) (order : IsOrder (length rows) before)
-    (one other : ℕ → Option ℕ) (first : AllChosen rows before one d) (second : AllChosen rows before other d) where
+    (pick too : ℕ → ℕ → ℕ) (alike : (s ties : ℕ) → s < length rows → pick s ties ≡ too s ties) (one other : ℕ → Option ℕ)
+    (first : AllChosen rows before pick one d) (second : AllChosen rows before too other d) where
   abbrev Agree : ℕ → Type 0
   Agree k = (u : ℕ) → u < length rows → u ≢ d → place_of before (length rows) u < k → one u ≡ other u
 
@@ -110,31 +106,36 @@ module _ (rows : List (List Link)) (before : ℕ → ℕ → Bool) (d : ℕ) (ca
 
       there : (p : ℕ) (path : List ℕ) → is_way_up rows before one s d p path ≡ true
           → is_way_up rows before other s d p path ≡ true
-      there p path way = way_moves rows before d cabling order one other first second k agree s p path less fits way
+      there p path way = way_moves rows before d cabling order pick too alike one other first second k agree s p path less fits way
 
       back : (p : ℕ) (path : List ℕ) → is_way_up rows before other s d p path ≡ true
           → is_way_up rows before one s d p path ≡ true
       back p path way =
-          way_moves rows before d cabling order other one second first k (λ u ul ua up. sym (agree u ul ua up)) s p path less fits way
+          way_moves rows before d cabling order too pick (λ s ties low. sym (alike s ties low)) other one second first k (λ u ul ua up. sym (agree u ul ua up)) s p path less fits way
 
-      Of : (ℕ → Option ℕ) → Option ℕ → Type 0
-      Of next o = IsChosenOf (is_way_down rows before s d) (is_way_up rows before next s d) o
+      Of : (ℕ → ℕ) → (ℕ → Option ℕ) → Option ℕ → Type 0
+      Of rule next o = IsChosenOf rule (is_way_down rows before s d) (is_way_up rows before next s d) o
 
       falls : (p : ℕ) (path : List ℕ) → is_way_down rows before s d p path ≡ true → one s ≡ other s
-      falls p path way = down_same rows before d cabling order one other first second s p path less away way
+      falls p path way = down_same rows before d cabling order pick too alike one other first second s p path less away way
 
-      by : (o r : Option ℕ) → one s ≡ o → other s ≡ r → Of one o → Of other r → one s ≡ other s
+      by : (o r : Option ℕ) → one s ≡ o → other s ≡ r → Of (pick s) one o → Of (too s) other r → one s ≡ other s
       by None None e f h g = e ∙ sym f
-      by None (Some q) e f h (inl g) = falls q g.path g.way
+      by None (Some q) e f h (inl g) = let best = shortest_of (too s) (is_way_down rows before s d) q g in falls q best.path best.way
       by None (Some q) e f h (inr g) =
-          absurd (neither (is_way_up rows before one s d q g.1.path) (h.1 q g.1.path) (back q g.1.path g.1.way))
-      by (Some p) None e f (inl h) g = falls p h.path h.way
+          let best = shortest_of (too s) (is_way_up rows before other s d) q g.1 in
+          absurd (neither (is_way_up rows before one s d q best.path) (h.1 q best.path) (back q best.path best.way))
+      by (Some p) None e f (inl h) g = let best = shortest_of (pick s) (is_way_down rows before s d) p h in falls p best.path best.way
       by (Some p) None e f (inr h) g =
-          absurd (neither (is_way_up rows before other s d p h.1.path) (g.1 p h.1.path) (there p h.1.path h.1.way))
-      by (Some p) (Some q) e f (inl h) g = falls p h.path h.way
-      by (Some p) (Some q) e f (inr h) (inl g) = falls q g.path g.way
+          let best = shortest_of (pick s) (is_way_up rows before one s d) p h.1 in
+          absurd (neither (is_way_up rows before other s d p best.path) (g.1 p best.path) (there p best.path best.way))
+      by (Some p) (Some q) e f (inl h) g = let best = shortest_of (pick s) (is_way_down rows before s d) p h in falls p best.path best.way
+      by (Some p) (Some q) e f (inr h) (inl g) = let best = shortest_of (too s) (is_way_down rows before s d) q g in falls q best.path best.way
       by (Some p) (Some q) e f (inr h) (inr g) =
-          e ∙ (ap Some (least_same (is_way_up rows before one s d) (is_way_up rows before other s d) there back p q h.1 g.1) ∙ sym f)
+          let mine = is_way_up rows before one s d in
+          let theirs = is_way_up rows before other s d in
+          e ∙ (one_picked (pick s) (too s) mine theirs (λ ties. alike s ties less) (shortest_same mine theirs there back) (shortest_same theirs mine back there) p q h.1 g.1
+          ∙ sym f)
 
   agree_all : (k : ℕ) → Agree k
   agree_all zero u less away low = absurd (let no_room : ⊥ = omega (arith, low) in no_room)

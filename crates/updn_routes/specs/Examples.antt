@@ -1,10 +1,13 @@
 -- Three fabrics that were worked out by hand.
 use Rattle.std.specs.Prelude.{ℕ, ◌≡◌, Bool, true, false, List, [], ◌∷◌, length, get_or, Option, Some, None}
 use Rattle.updn_routes.specs.declared.link.Link.{Link}
-use Rattle.updn_routes.specs.Choice.{AllChosen, is_route, is_way_down, is_way_up}
+use Rattle.updn_routes.specs.Choice.{AllChosen, is_route, least_port, is_way_down, is_way_up}
 use Rattle.updn_routes.specs.Fabric.{IsFabric}
 use Rattle.updn_routes.specs.Order.{AreRanks, precedes}
+use Rattle.fabric_parts.specs.declared.cable.PortRef.{PortRef}
+use Rattle.updn_routes.specs.Ties.{numbers_of, tie_of}
 use Rattle.updn_routes.specs.Tree.{AreDepths, tree_port}
+use Rattle.updn_routes.specs.declared.tie_rule.TieRule.TheVariants.{Balanced}
 use Rattle.updn_routes.specs.UpDown.{channel_number, is_legal}
 
 -- a fabric: its cabling, GUIDs and named roots, and then what was worked out of these
@@ -47,8 +50,8 @@ two_switches = record {
 
 pub record TwoSwitchesMeetTheLaws : Type 0 where
   pub right : IsRight two_switches
-  pub to_A : AllChosen two_switches.rows (order_of two_switches) (ports (None ∷ Some 3 ∷ [])) 0
-  pub to_B : AllChosen two_switches.rows (order_of two_switches) (ports (Some 3 ∷ None ∷ [])) 1
+  pub to_A : AllChosen two_switches.rows (order_of two_switches) least_port (ports (None ∷ Some 3 ∷ [])) 0
+  pub to_B : AllChosen two_switches.rows (order_of two_switches) least_port (ports (Some 3 ∷ None ∷ [])) 1
   pub B_to_A : number_of two_switches 1 0 ≡ 0
   pub A_to_B : number_of two_switches 0 1 ≡ 2
   pub tree_port_of_A : tree_port two_switches.rows two_switches.depths 0 ≡ None
@@ -71,7 +74,22 @@ four_switches = record {
 }
 
 abbrev pub FourAreChosen : List (Option ℕ) → ℕ → Type 0
-FourAreChosen chosen d = AllChosen four_switches.rows (order_of four_switches) (ports chosen) d
+FourAreChosen chosen d = AllChosen four_switches.rows (order_of four_switches) least_port (ports chosen) d
+
+-- the numbers of adapters' ports, by their LIDs: two are attached to L2, by ports 4 and 3, one to L1, and LIDs 3 and 4 are R1's and
+-- L1's own. L1 comes before L2, and of L2's ports the third before the fourth
+abbrev pub at : ℕ → ℕ → PortRef
+at node port = record { node = node; port = port }
+
+abbrev pub numbers_by_LID : List ℕ
+numbers_by_LID = numbers_of Balanced (0 ∷ 1 ∷ 2 ∷ 3 ∷ []) (at 3 4 ∷ at 2 9 ∷ at 0 0 ∷ at 2 0 ∷ at 3 3 ∷ [])
+
+-- the switches stand in the order of their places
+abbrev pub turned : Worked → (number s ties : ℕ) → ℕ
+turned w number s ties = tie_of Balanced number (get_or w.ranks s 0) s ties
+
+abbrev pub FourAreTurned : ℕ → List (Option ℕ) → ℕ → Type 0
+FourAreTurned number chosen d = AllChosen four_switches.rows (order_of four_switches) (turned four_switches number) (ports chosen) d
 
 pub record FourSwitchesMeetTheLaws : Type 0 where
   pub right : IsRight four_switches
@@ -84,6 +102,13 @@ pub record FourSwitchesMeetTheLaws : Type 0 where
   pub L1_R1_L2 : is_legal (order_of four_switches) 2 (0 ∷ 3 ∷ []) ≡ true
   pub to_L1 : FourAreChosen (Some 1 ∷ Some 1 ∷ None ∷ Some 1 ∷ []) 2
   pub to_L2 : FourAreChosen (Some 2 ∷ Some 2 ∷ Some 1 ∷ None ∷ []) 3
+  pub numbers : numbers_by_LID ≡ 2 ∷ 0 ∷ 0 ∷ 0 ∷ 1 ∷ []
+  -- by the balanced rule the next adapter's port takes the next way: L1, which two switches precede, has two ties
+  pub first_to_L2 : FourAreTurned 0 (Some 2 ∷ Some 2 ∷ Some 1 ∷ None ∷ []) 3
+  pub second_to_L2 : FourAreTurned 1 (Some 2 ∷ Some 2 ∷ Some 2 ∷ None ∷ []) 3
+  pub third_to_L2 : FourAreTurned 2 (Some 2 ∷ Some 2 ∷ Some 1 ∷ None ∷ []) 3
+  -- and the second is not by the first way
+  pub second_is_not_as_the_first : ¬ (FourAreTurned 1 (Some 2 ∷ Some 2 ∷ Some 1 ∷ None ∷ []) 3)
   pub L1_to_R1 : number_of four_switches 2 0 ≡ 1
   pub R1_to_L2 : number_of four_switches 0 3 ≡ 4
   pub tree_port_of_R1 : tree_port four_switches.rows four_switches.depths 0 ≡ None
@@ -120,7 +145,7 @@ is_way_up_from_X = is_way_up seven_switches.rows (order_of seven_switches) ports
 -- of U1 and U2 themselves, takes port 2
 pub record SevenSwitchesMeetTheLaws : Type 0 where
   pub right : IsRight seven_switches
-  pub to_D : AllChosen seven_switches.rows (order_of seven_switches) ports_to_D 5
+  pub to_D : AllChosen seven_switches.rows (order_of seven_switches) least_port ports_to_D 5
   pub route_of_U1 : is_route seven_switches.rows ports_to_D 1 (3 ∷ 4 ∷ 5 ∷ []) 5 ≡ true
   pub U1_R_D : is_legal (order_of seven_switches) 1 (0 ∷ 5 ∷ []) ≡ true
   pub X_U1_V_W_D : is_way_up_from_X 1 (1 ∷ 3 ∷ 4 ∷ 5 ∷ []) ≡ true

@@ -3,7 +3,7 @@ use Rattle.std.specs.Prelude.{ℕ, ◌≡◌, ◌==◌, ◌<◌, true, List, len
 use Rattle.std.specs.List.{list_all, list_any, IsDistinct}
 use Rattle.updn_routes.specs.declared.link.Link.{Link}
 use Rattle.updn_routes.specs.Cabling.{AllJoined, is_cabling}
-use Rattle.updn_routes.specs.Choice.{AllChosen}
+use Rattle.updn_routes.specs.Choice.{AllChosen, IsRule}
 use Rattle.updn_routes.specs.Order.{AreRanks, IsOrder, precedes}
 use Rattle.updn_routes.specs.Tree.{AreDepths}
 
@@ -16,11 +16,12 @@ pub record IsFabric (rows : List (List Link)) (guids roots : List ℕ) : Type 0 
   pub own : IsDistinct (λ a b. a == b) guids
   pub named : list_all (λ root. list_any (λ guid. guid == root) guids) roots ≡ true
 
--- its ranks and depths, an order of its switches, and choices towards each
+-- its ranks and depths, an order of its switches, and choices towards each, for each rule of ties
 pub record HasRoutes (rows : List (List Link)) (guids roots : List ℕ) : Type 0 where
   pub ranks : List ℕ
   pub ranks_are : AreRanks rows guids roots ranks
   pub order : IsOrder (length rows) (precedes ranks guids)
   pub depths : List ℕ
   pub depths_are : AreDepths rows guids roots depths
-  pub choices : (d : ℕ) → d < length rows → (next : ℕ → Option ℕ) × AllChosen rows (precedes ranks guids) next d
+  pub choices : (pick : ℕ → ℕ → ℕ) (d : ℕ) → IsRule pick → d < length rows
+      → (next : ℕ → Option ℕ) × AllChosen rows (precedes ranks guids) pick next d

@@ -4,7 +4,7 @@ use Rattle.std.specs.Prelude.{List, length, map, get_or, Option, Some, None}
 use Rattle.std.specs.List.{list_all, IsDistinct}
 use Rattle.updn_routes.specs.declared.link.Link.{Link}
 use Rattle.updn_routes.specs.Cabling.{AllJoined, is_cabling, is_walk, leads, rises}
-use Rattle.updn_routes.specs.Choice.{AllChosen, is_route}
+use Rattle.updn_routes.specs.Choice.{AllChosen, IsRule, is_route}
 use Rattle.updn_routes.specs.Fabric.{HasRoutes, IsFabric}
 use Rattle.updn_routes.specs.Order.{AreDistances, IsDistance, IsOrder, is_first_root, place_of, precedes}
 use Rattle.updn_routes.specs.Places.{IsPlaced}
@@ -53,42 +53,42 @@ pub record IsSettled (rows : List (List Link)) (before : ℕ → ℕ → Bool) (
   pub arrives : (port : ℕ) → next s ≡ Some port → (steps : List ℕ) × LeadsHome rows before next s d steps
   pub none : next s ≡ None → (steps : List ℕ) → (is_walk rows s steps d && is_legal before s steps) ≡ false
 
--- whatever the order of the switches
+-- whatever the order of the switches, and the rule of ties
 abbrev pub ChoicesLeadHome : Type 0
 ChoicesLeadHome =
-    (rows : List (List Link)) (before : ℕ → ℕ → Bool) (next : ℕ → Option ℕ) (d : ℕ)
-    → is_cabling rows ≡ true → IsOrder (length rows) before → AllChosen rows before next d
+    (rows : List (List Link)) (before : ℕ → ℕ → Bool) (pick : ℕ → ℕ → ℕ) (next : ℕ → Option ℕ) (d : ℕ)
+    → is_cabling rows ≡ true → IsOrder (length rows) before → AllChosen rows before pick next d
     → (s : ℕ) → s < length rows → s ≢ d → IsSettled rows before next s d
 
--- towards every target there are choices that obey the definition
+-- towards every target there are choices that obey the definition, for each rule of ties
 abbrev pub ChoicesThereAre : Type 0
 ChoicesThereAre =
-    (rows : List (List Link)) (before : ℕ → ℕ → Bool) (d : ℕ)
-    → is_cabling rows ≡ true → IsOrder (length rows) before → d < length rows
-    → (next : ℕ → Option ℕ) × AllChosen rows before next d
+    (rows : List (List Link)) (before : ℕ → ℕ → Bool) (pick : ℕ → ℕ → ℕ) (d : ℕ)
+    → is_cabling rows ≡ true → IsOrder (length rows) before → IsRule pick → d < length rows
+    → (next : ℕ → Option ℕ) × AllChosen rows before pick next d
 
--- choices that both obey the definition are the same
+-- choices that both obey the definition, by one rule, are the same
 abbrev pub OneChoiceIsLeft : Type 0
 OneChoiceIsLeft =
-    (rows : List (List Link)) (before : ℕ → ℕ → Bool) (one other : ℕ → Option ℕ) (d : ℕ)
+    (rows : List (List Link)) (before : ℕ → ℕ → Bool) (pick : ℕ → ℕ → ℕ) (one other : ℕ → Option ℕ) (d : ℕ)
     → is_cabling rows ≡ true → IsOrder (length rows) before
-    → AllChosen rows before one d → AllChosen rows before other d
+    → AllChosen rows before pick one d → AllChosen rows before pick other d
     → (s : ℕ) → s < length rows → s ≢ d → one s ≡ other s
 
--- with choices for each target, no channel waits, over others, for itself
+-- with choices for each LID, each by a rule of its own, no channel waits, over others, for itself
 abbrev pub NoCycleWaits : Type 0
 NoCycleWaits =
-    (rows : List (List Link)) (before : ℕ → ℕ → Bool) (next : ℕ → ℕ → Option ℕ)
+    (rows : List (List Link)) (before : ℕ → ℕ → Bool) (home : ℕ → Option ℕ) (pick : ℕ → ℕ → ℕ → ℕ) (next : ℕ → ℕ → Option ℕ)
     → is_cabling rows ≡ true → IsOrder (length rows) before
-    → ((d : ℕ) → d < length rows → AllChosen rows before (next d) d)
-    → (a : Channel) (others : List Channel) → ¬ (WaitsOver rows next a others a)
+    → ((lid d : ℕ) → home lid ≡ Some d → AllChosen rows before (pick lid) (next lid) d)
+    → (a : Channel) (others : List Channel) → ¬ (WaitsOver rows home next a others a)
 
 -- if some walk leads down all the way, the route goes down all the way too, and no such walk is shorter: so a step
 -- up is taken only if none does
 abbrev pub WaysDownComeFirst : Type 0
 WaysDownComeFirst =
-    (rows : List (List Link)) (before : ℕ → ℕ → Bool) (next : ℕ → Option ℕ) (d : ℕ)
-    → is_cabling rows ≡ true → IsOrder (length rows) before → AllChosen rows before next d
+    (rows : List (List Link)) (before : ℕ → ℕ → Bool) (pick : ℕ → ℕ → ℕ) (next : ℕ → Option ℕ) (d : ℕ)
+    → is_cabling rows ≡ true → IsOrder (length rows) before → AllChosen rows before pick next d
     → (s : ℕ) (route walk : List ℕ) → s < length rows → is_route rows next s route d ≡ true
     → is_walk rows s walk d ≡ true → goes_down before s walk ≡ true
     → (goes_down before s route ≡ true) × (length route ≤ length walk)
@@ -203,7 +203,7 @@ PlacesKeepTheWalks =
 -- what is chosen between places, of which the lesser is before, is chosen between the switches that stand there
 abbrev pub PlacesKeepTheChoices : Type 0
 PlacesKeepTheChoices =
-    (rows placed : List (List Link)) (before : ℕ → ℕ → Bool) (next : ℕ → Option ℕ) (d : ℕ)
+    (rows placed : List (List Link)) (before : ℕ → ℕ → Bool) (pick : ℕ → ℕ → ℕ) (next : ℕ → Option ℕ) (d : ℕ)
     → is_cabling rows ≡ true → IsOrder (length rows) before → IsPlaced rows (place_of before (length rows)) placed
-    → d < length rows → AllChosen placed nat_lt next (place_of before (length rows) d)
-    → AllChosen rows before (λ s. next (place_of before (length rows) s)) d
+    → d < length rows → AllChosen placed nat_lt pick next (place_of before (length rows) d)
+    → AllChosen rows before (λ s. pick (place_of before (length rows) s)) (λ s. next (place_of before (length rows) s)) d

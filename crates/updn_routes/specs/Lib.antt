@@ -2,6 +2,9 @@ pub mod Cabling
 pub mod Order
 pub mod UpDown
 pub mod Choice
+pub mod Ties
+pub mod TieLaws
+pub mod NumberLaws
 pub mod Waiting
 pub mod Tree
 pub mod Sides

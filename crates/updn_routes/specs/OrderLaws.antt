@@ -58,14 +58,15 @@ OnePairIsRefused =
     (one other : Layout) (roots : List ℕ) (a b c d : ℕ) → AreAlike one other → IsRefused one.rows one.guids roots one.homes a b
     → IsRefused other.rows other.guids roots other.homes c d → (a ≡ c) × (b ≡ d)
 
--- a switch chooses one port towards another, wherever the two stand
+-- a switch chooses one port towards another, wherever the two stand, if its rule of ties is the same
 abbrev pub ChoicesAreAlike : Type 0
 ChoicesAreAlike =
-    (one other : Layout) (roots ranks other_ranks : List ℕ) (next other_next : ℕ → Option ℕ) (s d : ℕ) → (alike : AreAlike one other)
+    (one other : Layout) (roots ranks other_ranks : List ℕ) (pick other_pick : ℕ → ℕ → ℕ) (next other_next : ℕ → Option ℕ) (s d : ℕ)
+    → (alike : AreAlike one other) → ((t ties : ℕ) → t < length one.rows → other_pick (alike.place t) ties ≡ pick t ties)
     → AreRanks one.rows one.guids roots ranks → AreRanks other.rows other.guids roots other_ranks
     → is_cabling one.rows ≡ true → IsOrder (length one.rows) (precedes ranks one.guids)
-    → AllChosen one.rows (precedes ranks one.guids) next d
-    → AllChosen other.rows (precedes other_ranks other.guids) other_next (alike.place d)
+    → AllChosen one.rows (precedes ranks one.guids) pick next d
+    → AllChosen other.rows (precedes other_ranks other.guids) other_pick other_next (alike.place d)
     → s < length one.rows → d < length one.rows → s ≢ d → other_next (alike.place s) ≡ next s
 
 -- ---- graphs of one fabric
@@ -75,10 +76,10 @@ GraphsOfOneFabricAreAlike =
     (fabric : FabricState) (one other : GraphState) (guids : List ℕ) → IsGood fabric → IsLayoutOf one fabric → IsLayoutOf other fabric
     → AreLids (end_ports one) guids → AreLids (end_ports other) guids → AreAlike (layout_of one guids) (layout_of other guids)
 
--- by both, with the same LIDs and roots, each switch sends what is for a LID by the same port: next hops are a matter of the
--- fabric, and not of the order in which a sweep found its switches
+-- by both, with the same LIDs, roots and rule of ties, each switch sends what is for a LID by the same port: next hops are a matter
+-- of the fabric, and not of the order in which a sweep found its switches
 abbrev pub NextHopsAreTheFabrics : Type 0
 NextHopsAreTheFabrics =
     (fabric : FabricState) (one other : RoutesState) (roots : List ℕ) (guid lid : ℕ) → IsGood fabric
     → IsLayoutOf one.graph fabric → IsLayoutOf other.graph fabric → AreChosenFrom roots one → AreChosenFrom roots other
-    → other.lids ≡ one.lids → hop_by other guid lid ≡ hop_by one guid lid
+    → other.lids ≡ one.lids → other.between.rule ≡ one.between.rule → hop_by other guid lid ≡ hop_by one guid lid

@@ -1,20 +1,24 @@
 -- Routes of a whole subnet: by LIDs, with the port at which each LID is attached.
-use Rattle.std.specs.Prelude.{ℕ, ◌≡◌, ◌≢◌, ◌⊎◌, ◌+◌, ◌-◌, ◌*◌, ◌<◌, ◌≤◌, ◌==◌, not, ◌&&◌, nat_lt, Bool, true, false, if◌then◌else◌, List, [], length, get_or, slice_get, Option, Some, None, option_map, is_none}
+use Rattle.std.specs.Prelude.{ℕ, ◌≡◌, ◌≢◌, ◌⊎◌, ◌+◌, ◌-◌, ◌*◌, ◌<◌, ◌≤◌, ◌==◌, not, ◌&&◌, nat_lt, Bool, true, false, if◌then◌else◌, List, [], filter, length, get_or, slice_get, Option, Some, None, option_map, is_none}
 use Rattle.std.specs.List.{list_all, list_any}
+use Rattle.std.specs.Option.{option_and_then, option_map_or}
 use Rattle.fabric_parts.specs.declared.cable.PortRef.{PortRef}
 use Rattle.updn_routes.specs.declared.link.Link.{Link}
 use Rattle.updn_routes.specs.declared.table.NextHop.{NextHop}
-use Rattle.updn_routes.specs.Cabling.{is_cabling, is_next_to, is_walk, rises}
-use Rattle.updn_routes.specs.Choice.{AllChosen, is_route}
+use Rattle.updn_routes.specs.declared.tie_rule.TieRule.{TieRule}
+use Rattle.updn_routes.specs.Cabling.{is_cabling, is_next_to, is_walk, links_of, rises}
+use Rattle.updn_routes.specs.Choice.{AllChosen, is_route, least_port}
 use Rattle.updn_routes.specs.Order.{AreRanks, IsOrder, precedes}
 use Rattle.updn_routes.specs.Tables.{entry_at, place_at, places_of}
+use Rattle.updn_routes.specs.Ties.{numbers_of, tie_of}
 use Rattle.updn_routes.specs.Tree.{AreDepths}
 use Rattle.updn_routes.specs.UpDown.{channel_number, channel_numbers, is_legal}
 use Rattle.fabric_parts.specs.declared.limits.TheConstants.{SWITCHES}
 use Rattle.fabric_parts.specs.declared.lid.TheConstants.{LAST_UNICAST_LID}
 
 -- the switches' links, GUIDs, ranks and depths, each by the number of the switch; the place of each in the order, and
--- for the target at each place its table by places; and where each LID is attached, from LID 1 on
+-- for the target at each place its table by places; where each LID is attached, from LID 1 on; and the rule of ties, with the numbers
+-- that it asks for
 pub record SwitchRoutesState : Type 0 where
   pub rows : List (List Link)
   pub guids : List ℕ
@@ -23,12 +27,14 @@ pub record SwitchRoutesState : Type 0 where
   pub places : List ℕ
   pub tables : List (List (Option NextHop))
   pub homes : List PortRef
+  pub rule : TieRule
+  pub numbers : List ℕ
 
 -- the routes of these parts
-abbrev pub routes_with : List (List Link) → List ℕ → List ℕ → List ℕ → List ℕ → List (List (Option NextHop)) → List PortRef
+abbrev pub routes_with : List (List Link) → List ℕ → List ℕ → List ℕ → List ℕ → List (List (Option NextHop)) → List PortRef → TieRule → List ℕ
     → SwitchRoutesState
-routes_with rows guids ranks depths places tables homes =
-    record { rows = rows; guids = guids; ranks = ranks; depths = depths; places = places; tables = tables; homes = homes }
+routes_with rows guids ranks depths places tables homes rule numbers =
+    record { rows = rows; guids = guids; ranks = ranks; depths = depths; places = places; tables = tables; homes = homes; rule = rule; numbers = numbers }
 
 -- ---- LIDs
 -- where a LID is attached: the port of a switch that has a cable to the adapter's port, and 0 of a switch for its own LID
@@ -39,18 +45,51 @@ home_of homes lid = if lid == 0 then None else slice_get homes (lid - 1)
 abbrev pub order_of : SwitchRoutesState → ℕ → ℕ → Bool
 order_of routes = precedes routes.ranks routes.guids
 
--- the port chosen at s towards the switch d, and 0 if it is s
-abbrev pub port_towards : SwitchRoutesState → ℕ → ℕ → Option ℕ
-port_towards routes d s =
-    option_map (λ hop. hop.port) (entry_at (get_or routes.tables (place_at routes.places d) []) (place_at routes.places s))
+-- the table towards the switch d, and what it holds for s
+abbrev pub table_towards : SwitchRoutesState → ℕ → List (Option NextHop)
+table_towards routes d = get_or routes.tables (place_at routes.places d) []
 
--- the port by which s sends what is for something that is attached there
-abbrev pub hop_to : SwitchRoutesState → ℕ → Option PortRef → Option ℕ
-hop_to routes s None = None
-hop_to routes s (Some home) = if home.node == s then Some home.port else port_towards routes home.node s
+abbrev pub hop_towards : SwitchRoutesState → ℕ → ℕ → Option NextHop
+hop_towards routes d s = entry_at (table_towards routes d) (place_at routes.places s)
+
+-- the least port that may be chosen at s towards the switch d, and 0 if it is s
+abbrev pub port_towards : SwitchRoutesState → ℕ → ℕ → Option ℕ
+port_towards routes d s = option_map (λ hop. hop.port) (hop_towards routes d s)
+
+-- ---- ties
+-- from a place, a link to another place is as short as that hop and of its kind: down all the way, or up
+abbrev pub is_as_short : NextHop → (from to : ℕ) → NextHop → Bool
+is_as_short own from to beyond =
+    (if own.falls then nat_lt from to && beyond.falls else nat_lt to from) && (beyond.hops + 1 == own.hops)
+
+abbrev pub is_tie : SwitchRoutesState → (d s : ℕ) → NextHop → Link → Bool
+is_tie routes d s own link =
+    option_map_or (is_as_short own (place_at routes.places s) (place_at routes.places link.to)) (hop_towards routes d link.to) false
+
+-- the links of s that are ties towards d
+abbrev pub ties_by : SwitchRoutesState → (d s : ℕ) → NextHop → List Link
+ties_by routes d s own = filter (is_tie routes d s own) (links_of routes.rows s)
+
+-- the port of one of them, from 0
+abbrev pub nth_tie : SwitchRoutesState → (d s : ℕ) → NextHop → ℕ → Option ℕ
+nth_tie routes d s own tie = option_map (λ link. link.port) (slice_get (ties_by routes d s own) tie)
+
+-- which of so many ties s takes for a LID
+abbrev pub tie_at : SwitchRoutesState → (lid s ties : ℕ) → ℕ
+tie_at routes lid s ties = tie_of routes.rule (get_or routes.numbers (lid - 1) 0) (get_or routes.ranks s 0) (place_at routes.places s) ties
+
+abbrev pub tie_towards : SwitchRoutesState → (lid d s : ℕ) → Option ℕ
+tie_towards routes lid d s =
+    option_and_then (λ own. nth_tie routes d s own (tie_at routes lid s (length (ties_by routes d s own)))) (hop_towards routes d s)
+
+-- ---- next hops
+-- the port by which s sends what is for a LID that is attached there
+abbrev pub hop_to : SwitchRoutesState → (lid s : ℕ) → Option PortRef → Option ℕ
+hop_to routes lid s None = None
+hop_to routes lid s (Some home) = if home.node == s then Some home.port else tie_towards routes lid home.node s
 
 abbrev pub next_hop : SwitchRoutesState → ℕ → ℕ → Option ℕ
-next_hop routes s lid = hop_to routes s (home_of routes.homes lid)
+next_hop routes s lid = hop_to routes lid s (home_of routes.homes lid)
 
 -- the number of the channel between two switches that are side by side
 abbrev pub number_of : SwitchRoutesState → ℕ → ℕ → Option ℕ
@@ -66,13 +105,17 @@ pub record AreRoutes (routes : SwitchRoutesState) : Type 0 where
   pub count : length routes.guids ≡ length routes.rows
   pub order : IsOrder (length routes.rows) (order_of routes)
   pub places : routes.places ≡ places_of routes.ranks routes.guids
+  pub numbers : routes.numbers ≡ numbers_of routes.rule routes.places routes.homes
   pub hang : all_attached routes.homes (length routes.rows) ≡ true
   pub few : length routes.rows ≤ SWITCHES
   pub few_lids : length routes.homes ≤ LAST_UNICAST_LID
-  pub chosen : (d : ℕ) → d < length routes.rows → AllChosen routes.rows (order_of routes) (port_towards routes d) d
+  -- towards each switch the least port, and for each LID the tie that the rule names
+  pub least : (d : ℕ) → d < length routes.rows → AllChosen routes.rows (order_of routes) least_port (port_towards routes d) d
+  pub chosen : (lid d port : ℕ) → home_of routes.homes lid ≡ Some (record { node = d; port = port })
+      → AllChosen routes.rows (order_of routes) (tie_at routes lid) (λ s. next_hop routes s lid) d
   pub at_home : (d : ℕ) → d < length routes.rows → port_towards routes d d ≡ Some 0
 
--- the routes of this cabling, with these roots named
+-- the routes of this cabling, with these roots named, whatever their rule of ties
 pub record AreRoutesOf (rows : List (List Link)) (guids roots : List ℕ) (homes : List PortRef) (routes : SwitchRoutesState) : Type 0 where
   pub rows_are : routes.rows ≡ rows
   pub guids_are : routes.guids ≡ guids

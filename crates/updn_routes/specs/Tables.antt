@@ -1,6 +1,6 @@
 -- How routes are found: switches stand in rows by their places, those that links lead down to and those that they lead up
 -- to, and for each target there is a table of the hops that are left from each place.
-use Rattle.std.specs.Prelude.{ℕ, ◌≡◌, ◌+◌, ◌≤◌, ◌<◌, ◌==◌, nat_lt, true, if◌then◌else◌, List, [], map, filter, length, get_or, position, Option, Some, None, IfSome}
+use Rattle.std.specs.Prelude.{ℕ, ◌≡◌, ◌+◌, ◌≤◌, ◌<◌, ◌==◌, nat_lt, Bool, true, false, if◌then◌else◌, List, [], map, filter, length, get_or, position, Option, Some, None, IfSome}
 use Rattle.std.specs.List.{fold, list_all, range_with_len}
 use Rattle.std.specs.Option.{option_map_or}
 use Rattle.updn_routes.specs.declared.link.Link.{Link}
@@ -42,7 +42,7 @@ all_ups rows places = map (ups_at rows places) (range_with_len 0 (length places)
 -- ---- hops
 -- at the target itself
 abbrev pub home : NextHop
-home = record { port = 0; hops = 0 }
+home = record { port = 0; hops = 0; falls = true }
 
 abbrev pub entry_at : List (Option NextHop) → ℕ → Option NextHop
 entry_at table p = get_or table p None
@@ -55,17 +55,21 @@ entry_first d p = if p == d then Some home else None
 abbrev pub shorter : NextHop → NextHop → NextHop
 shorter best other = if nat_lt other.hops best.hops then other else best
 
-abbrev pub or_better : Option NextHop → ℕ → Option NextHop → Option NextHop
-or_better best port None = best
-or_better None port (Some beyond) = Some (record { port = port; hops = beyond.hops + 1 })
-or_better (Some best) port (Some beyond) = Some (shorter best (record { port = port; hops = beyond.hops + 1 }))
+-- out of that port, and on as that far end does
+abbrev pub through : Bool → ℕ → NextHop → NextHop
+through falls port beyond = record { port = port; hops = beyond.hops + 1; falls = falls }
 
-abbrev pub or_link : List (Option NextHop) → Option NextHop → Link → Option NextHop
-or_link table best link = or_better best link.port (entry_at table link.to)
+abbrev pub or_better : Bool → Option NextHop → ℕ → Option NextHop → Option NextHop
+or_better falls best port None = best
+or_better falls None port (Some beyond) = Some (through falls port beyond)
+or_better falls (Some best) port (Some beyond) = Some (shorter best (through falls port beyond))
 
--- the best of these links, by a table
-abbrev pub best_of : List (Option NextHop) → List Link → Option NextHop
-best_of table row = fold (or_link table) None row
+abbrev pub or_link : Bool → List (Option NextHop) → Option NextHop → Link → Option NextHop
+or_link falls table best link = or_better falls best link.port (entry_at table link.to)
+
+-- the best of these links, by a table; they all lead down, or all up
+abbrev pub best_of : Bool → List (Option NextHop) → List Link → Option NextHop
+best_of falls table row = fold (or_link falls table) None row
 
 -- the way down if there is one, and else the way up
 abbrev pub or_up : Option NextHop → Option NextHop → Option NextHop
@@ -82,7 +86,7 @@ pub record IsDownFrom (downs : List (List Link)) (d first most : ℕ) (table : L
   pub count : length table ≡ length downs
   pub at_home : entry_at table d ≡ Some home
   pub past : (p : ℕ) → d < p → entry_at table p ≡ None
-  pub right : (p : ℕ) → first ≤ p → p < d → entry_at table p ≡ best_of table (links_of downs p)
+  pub right : (p : ℕ) → first ≤ p → p < d → entry_at table p ≡ best_of true table (links_of downs p)
   pub small : AllWithin most table
 
 -- that table, with the best way up from each place before the last one that has no way down
@@ -90,7 +94,7 @@ pub record IsUpTo (ups : List (List Link)) (down : List (Option NextHop)) (last 
   pub count : length table ≡ length down
   pub kept : (p : ℕ) (hop : NextHop) → entry_at down p ≡ Some hop → entry_at table p ≡ Some hop
   pub waits : (p : ℕ) → last ≤ p → entry_at table p ≡ entry_at down p
-  pub right : (p : ℕ) → p < last → entry_at down p ≡ None → entry_at table p ≡ best_of table (links_of ups p)
+  pub right : (p : ℕ) → p < last → entry_at down p ≡ None → entry_at table p ≡ best_of false table (links_of ups p)
   pub small : AllWithin most table
 
 -- the table towards the target at that place

@@ -1,17 +1,19 @@
 //! What routes between switches answer.
 
-ghost use Rattle.std.specs.Prelude.{ℕ, ◌≡◌, ◌+◌, ◌-◌, ◌<◌, ◌≤◌, ◌==◌, nat_lt, if◌then◌else◌, None, length, get_or, position, IfSome};
+ghost use Rattle.std.specs.Prelude.{ℕ, ◌≡◌, ◌≢◌, Some, ◌+◌, ◌-◌, ◌<◌, ◌≤◌, ◌==◌, nat_lt, if◌then◌else◌, None, length, get_or, position, IfSome};
 ghost use Rattle.std.specs.List.{list_any};
 ghost use Rattle.updn_routes.specs.Cabling.{is_next_to};
 ghost use Rattle.updn_routes.specs.Order.{place_of};
-ghost use Rattle.updn_routes.specs.Routes.{AllReached, AllRouted, AreRoutes, IsFirstUnreached, carries, has_gap, home_of, is_gap, next_hop, number_of, order_of, port_towards, routes_with};
+ghost use Rattle.updn_routes.specs.Routes.{AllReached, AllRouted, AreRoutes, IsFirstUnreached, carries, has_gap, home_of, hop_towards, is_gap, is_tie, next_hop, nth_tie, number_of, order_of, port_towards, tie_at, tie_towards, ties_by};
 ghost use Rattle.updn_routes.specs.Sides.{parent};
 ghost use Rattle.updn_routes.specs.Tree.{tree_port};
 ghost use Rattle.fabric_parts.specs.declared.limits.TheConstants.{SWITCHES};
 
+use crate::link::Link;
 use crate::place::place_at;
 use crate::row::{Row, links_of};
-use crate::table::{Table, entry_at, table_at};
+use crate::table::{NextHop, Table, entry_at, table_at};
+use crate::tie_rule::TieRule;
 use fabric_parts::PortRef;
 use std::marker::Model;
 
@@ -27,6 +29,8 @@ pub struct SwitchRoutes {
     pub(crate) places: Vec<usize>,
     pub(crate) tables: Vec<Table>,
     pub(crate) homes: Vec<PortRef>,
+    pub(crate) rule: TieRule,
+    pub(crate) numbers: Vec<usize>,
 }
 
 impl Model for SwitchRoutes {
@@ -34,16 +38,23 @@ impl Model for SwitchRoutes {
 
     ghost Value = { SwitchRoutesState };
 
-    ghost view = { λ r. routes_with r.rows.items r.guids.items r.ranks.items r.depths.items r.places.items r.tables.items r.homes.items };
+    ghost view = { λ r. routes_with r.rows.items r.guids.items r.ranks.items r.depths.items r.places.items r.tables.items r.homes.items r.rule r.numbers.items };
 
     ghost invariant = { λ r. AreRoutes
-        (routes_with r.rows.items r.guids.items r.ranks.items r.depths.items r.places.items r.tables.items r.homes.items) };
+        (routes_with r.rows.items r.guids.items r.ranks.items r.depths.items r.places.items r.tables.items r.homes.items r.rule r.numbers.items) };
 }
 
 impl SwitchRoutes {
+    /// The rule by which ties are taken.
+    pub fn rule(&self) -> TieRule
+        ensures { result ≡ self.now.rule }
+    {
+        self.rule
+    }
+
     /// The port by which a switch sends what is for a LID: 0 if the LID is its own, the port of the adapter
-    /// if one with that LID is attached to it, and else the port chosen towards the switch at which the LID is attached.
-    /// None if no port is chosen, and if nobody has the LID.
+    /// if one with that LID is attached to it, and else the port chosen towards the switch at which the LID is attached,
+    /// by the rule of ties. None if no port is chosen, and if nobody has the LID.
     pub fn next_hop(&self, switch: usize, lid: u16) -> Option<u8>
         ensures exact { result ≡ next_hop self.now switch lid }
         // following next hops leads there, by an up/down path; without one there is none
@@ -53,7 +64,21 @@ impl SwitchRoutes {
         if home.node == switch {
             return Some(home.port);
         }
-        self.port_towards(home.node, switch)
+        self.port_for(lid, home, switch)
+    }
+
+    /// The port that the rule names for a LID that is attached to another switch.
+    fn port_for(&self, lid: u16, home: PortRef, switch: usize) -> Option<u8>
+        requires at { home_of self.now.homes lid ≡ Some home }
+        requires away { home.node ≢ switch }
+        ensures { result ≡ tie_towards self.now lid home.node switch }
+    {
+        // A number that no switch has is without links. Nothing is known of tables there, so ties are looked for.
+        let has_links = !links_of(&self.rows, switch).is_empty();
+        match self.rule {
+            TieRule::LeastPort if has_links => self.port_towards(home.node, switch),
+            _ => self.tie_towards(lid, home.node, switch),
+        }
     }
 
     /// The number of the channel from a switch to another, if they are side by side: along every route these
@@ -134,15 +159,79 @@ impl SwitchRoutes {
         home_of(&self.homes, lid)
     }
 
-    /// The port chosen at a switch towards another.
+    /// The hop of a shortest path from a switch to another, by the least port that begins one.
+    fn hop_towards(&self, target: usize, switch: usize) -> Option<NextHop>
+        ensures { result ≡ hop_towards self.now target switch }
+    {
+        let table = table_at(&self.tables, place_at(&self.places, target));
+        entry_at(table, place_at(&self.places, switch))
+    }
+
+    /// The least port that may be chosen at a switch towards another.
     fn port_towards(&self, target: usize, switch: usize) -> Option<u8>
         ensures { result ≡ port_towards self.now target switch }
     {
-        let table = table_at(&self.tables, place_at(&self.places, target));
-        match entry_at(table, place_at(&self.places, switch)) {
+        match self.hop_towards(target, switch) {
             Some(hop) => Some(hop.port),
             None => None,
         }
+    }
+
+    /// The port that the rule names for a LID, among those that may be chosen at a switch towards another.
+    fn tie_towards(&self, lid: u16, target: usize, switch: usize) -> Option<u8>
+        ensures { result ≡ tie_towards self.now lid target switch }
+    {
+        let own = self.hop_towards(target, switch)?;
+        let ties = self.tie_count(target, switch, own);
+        if ties == 0 {
+            return None;
+        }
+        let tie = self.tie_at(lid, switch, ties);
+        self.nth_tie(target, switch, own, tie)
+    }
+
+    /// How many ports of a switch begin a path that is as short as this one, and of its kind.
+    fn tie_count(&self, target: usize, switch: usize, own: NextHop) -> usize
+        ensures { result ≡ length (ties_by self.now target switch own) }
+    {
+        links_of(&self.rows, switch)
+            .iter()
+            .filter(|link| self.is_tie(target, switch, own, link))
+            .count()
+    }
+
+    /// One of these ports, from 0.
+    fn nth_tie(&self, target: usize, switch: usize, own: NextHop, tie: usize) -> Option<u8>
+        ensures { result ≡ nth_tie self.now target switch own tie }
+    {
+        let link = links_of(&self.rows, switch)
+            .iter()
+            .filter(|link| self.is_tie(target, switch, own, link))
+            .nth(tie)?;
+        Some(link.port)
+    }
+
+    /// Whether a link of a switch begins a path towards the target that is as short as this one, and of its kind.
+    fn is_tie(&self, target: usize, switch: usize, own: NextHop, link: &Link) -> bool
+        ensures { result ≡ is_tie self.now target switch own link.now }
+    {
+        match self.hop_towards(target, link.to) {
+            Some(beyond) => {
+                let from = place_at(&self.places, switch);
+                own.is_as_short(from, place_at(&self.places, link.to), beyond)
+            }
+            None => false,
+        }
+    }
+
+    /// Which of so many ties a switch takes for a LID.
+    fn tie_at(&self, lid: u16, switch: usize, ties: usize) -> usize
+        requires { 0 < ties }
+        ensures { result ≡ tie_at self.now lid switch ties }
+    {
+        let number = number_at(&self.numbers, lid);
+        let place = place_at(&self.places, switch);
+        self.rule.tie_of(number, self.rank_of(switch), place, ties)
     }
 
     /// Whether no port is chosen at the switch towards that adapter's port.
@@ -209,6 +298,16 @@ fn home_of(homes: &[PortRef], lid: u16) -> Option<PortRef>
     match lid {
         0 => None,
         _ => homes.get(usize::from(lid) - 1).copied(),
+    }
+}
+
+/// The number that the rule has for a LID; 0 if there is none.
+fn number_at(numbers: &[usize], lid: u16) -> usize
+    ensures { result ≡ get_or numbers.now (lid - 1) 0 }
+{
+    match numbers.get(usize::from(lid).saturating_sub(1)) {
+        Some(number) => *number,
+        None => 0,
     }
 }
 

@@ -8,7 +8,7 @@
 //! The cables between switches are rows of [`Link`]s, one row for each switch. `specs/Order.antt` says how far
 //! switches are from roots, and which of two comes before the other: a step is up if it goes to the one that
 //! does. `specs/UpDown.antt` says which walks are legal, `specs/Choice.antt` which port a switch chooses towards
-//! another, `specs/Tree.antt` by which port it is joined to the spanning tree of multicast, `specs/Sides.antt` what
+//! another, `specs/Ties.antt` which of several that lead equally far, `specs/Tree.antt` by which port it is joined to the spanning tree of multicast, `specs/Sides.antt` what
 //! lies on which side of it there, and `specs/Routes.antt` what routes answer. Laws over these definitions stand in
 //! `src/laws.rt`.
 //!
@@ -32,6 +32,8 @@ mod routing;
 mod row;
 mod subnet_routes;
 mod table;
+mod tie_laws;
+mod tie_rule;
 
 pub use crate::answer::SwitchRoutes;
 pub use crate::cabling::are_switches;
@@ -52,3 +54,8 @@ pub use crate::order_laws::{
 pub use crate::routing::{routes, routes_over};
 pub use crate::row::Row;
 pub use crate::subnet_routes::Routes;
+pub use crate::tie_laws::{
+    adapters_ports_are_numbered, balanced_ties_are_shared, the_first_tie_is_the_least,
+    wrong_numbers_are_refused, wrong_rules_of_ties_are_refused,
+};
+pub use crate::tie_rule::TieRule;

@@ -22,26 +22,35 @@ use crate::root::{marked_first_root, marked_roots};
 use crate::row::Row;
 use crate::subnet_routes::Routes;
 use crate::table::all_tables;
+use crate::tie_rule::{TieRule, numbers};
 use fabric_parts::PortRef;
 use lid_assign::Lids;
 use std::alloc::{AllocError, Global};
 use sweep::Graph;
 
 /// The routes of a graph whose switches are joined, by its LIDs; they keep both. The roots are GUIDs of switches of
-/// the graph, in the order in which they are named; if there are none, the switch of least GUID is the root.
+/// the graph, in the order in which they are named; if there are none, the switch of least GUID is the root. The rule says
+/// which of its ties a switch takes.
 ///
 /// `NoLegalPath` if and only if some switch that carries adapters' ports has no up/down path to one of these.
-pub fn routes(alloc: Global, graph: Graph, lids: Lids, roots: &[u64]) -> Result<Routes, RouteFault>
+pub fn routes(
+    alloc: Global,
+    graph: Graph,
+    lids: Lids,
+    roots: &[u64],
+    rule: TieRule,
+) -> Result<Routes, RouteFault>
     requires joined { AllJoined graph.rows }
     requires lids { AreLids (end_ports graph) lids }
     requires named { list_all (λ root. list_any (λ guid. guid == root) (guids_of graph)) roots.now ≡ true }
     ensures graph { IfOk result (λ routes. routes.graph ≡ graph) }
     ensures lids { IfOk result (λ routes. routes.lids ≡ lids) }
     ensures made { IfOk result (λ routes. AreRoutesOf (rows_of graph) (guids_of graph) roots.now (homes_of graph lids) routes.between) }
+    ensures ruled { IfOk result (λ routes. routes.between.rule ≡ rule) }
     ensures reached { IfOk result (λ routes. AllReached (rows_of graph) (order_of routes.between) (homes_of graph lids)) }
     ensures fault { IfErr result (λ fault. IsFaultOf (rows_of graph) (guids_of graph) roots.now (homes_of graph lids) fault) }
 {
-    let between = routes_between(alloc, &graph, &lids, roots)?;
+    let between = routes_between(alloc, &graph, &lids, roots, rule)?;
     Ok(Routes {
         graph,
         lids,
@@ -55,12 +64,14 @@ fn routes_between(
     graph: &Graph,
     lids: &Lids,
     roots: &[u64],
+    rule: TieRule,
 ) -> Result<SwitchRoutes, RouteFault>
     requires joined { AllJoined graph.now.rows }
     requires lids { AreLids (end_ports graph.now) lids.now }
     requires named { list_all (λ root. list_any (λ guid. guid == root) (guids_of graph.now)) roots.now ≡ true }
     ensures made { IfOk result (λ routes. AreRoutesOf (rows_of graph.now) (guids_of graph.now) roots.now
         (homes_of graph.now lids.now) routes) }
+    ensures ruled { IfOk result (λ routes. routes.rule ≡ rule) }
     ensures reached { IfOk result (λ routes. AllReached (rows_of graph.now) (order_of routes) (homes_of graph.now lids.now)) }
     ensures fault { IfErr result (λ fault. IsFaultOf (rows_of graph.now) (guids_of graph.now) roots.now
         (homes_of graph.now lids.now) fault) }
@@ -70,7 +81,7 @@ fn routes_between(
     let rows = rows_of(alloc, graph)?;
     let guids = guids_of(alloc, graph)?;
     let homes = homes_of(alloc, graph, lids)?;
-    routes_over(alloc, rows, guids, roots, homes)
+    routes_over(alloc, rows, guids, roots, homes, rule)
 }
 
 /// The routes over these cables: the links of each switch and its GUID, the GUIDs of the roots in the order in
@@ -83,16 +94,18 @@ pub fn routes_over(
     guids: Vec<u64>,
     roots: &[u64],
     homes: Vec<PortRef>,
+    rule: TieRule,
 ) -> Result<SwitchRoutes, RouteFault>
     requires fabric { IsFabric rows.items guids.items roots.now }
     requires few { length rows.items ≤ SWITCHES }
     requires hang { all_attached homes.items (length rows.items) ≡ true }
     requires few_lids { length homes.items ≤ LAST_UNICAST_LID }
     ensures made { IfOk result (λ routes. AreRoutesOf rows.items guids.items roots.now homes.items routes) }
+    ensures ruled { IfOk result (λ routes. routes.rule ≡ rule) }
     ensures reached { IfOk result (λ routes. AllReached rows.items (order_of routes) homes.items) }
     ensures fault { IfErr result (λ fault. IsFaultOf rows.items guids.items roots.now homes.items fault) }
 {
-    let routes = all_routes(alloc, rows, guids, roots, homes)?;
+    let routes = all_routes(alloc, rows, guids, roots, homes, rule)?;
     match routes.first_gap() {
         None => Ok(routes),
         Some((switch, port)) => Err(RouteFault::NoLegalPath { switch, port }),
@@ -106,12 +119,14 @@ fn all_routes(
     guids: Vec<u64>,
     roots: &[u64],
     homes: Vec<PortRef>,
+    rule: TieRule,
 ) -> Result<SwitchRoutes, AllocError>
     requires fabric { IsFabric rows.items guids.items roots.now }
     requires few { length rows.items ≤ SWITCHES }
     requires hang { all_attached homes.items (length rows.items) ≡ true }
     requires few_lids { length homes.items ≤ LAST_UNICAST_LID }
-    ensures { IfOk result (λ routes. AreRoutesOf rows.items guids.items roots.now homes.items routes) }
+    ensures made { IfOk result (λ routes. AreRoutesOf rows.items guids.items roots.now homes.items routes) }
+    ensures ruled { IfOk result (λ routes. routes.rule ≡ rule) }
 {
     let ranks = ranks(alloc, &rows, &guids, roots)?;
     let depths = depths(alloc, &rows, &guids, roots)?;
@@ -119,6 +134,7 @@ fn all_routes(
     let downs = all_downs(alloc, &rows, &places)?;
     let ups = all_ups(alloc, &rows, &places)?;
     let tables = all_tables(alloc, &downs, &ups)?;
+    let numbers = numbers(alloc, rule, &places, &homes)?;
     Ok(SwitchRoutes {
         rows,
         guids,
@@ -127,6 +143,8 @@ fn all_routes(
         places,
         tables,
         homes,
+        rule,
+        numbers,
     })
 }
 

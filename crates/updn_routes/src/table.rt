@@ -1,8 +1,9 @@
 //! The table towards one switch: the port and the hops that are left from each place.
 
-ghost use Rattle.std.specs.Prelude.{ℕ, ◌≡◌, ◌≤◌, ◌<◌, ◌+◌, map, length, get_or, [], IfOk, IfSome};
+ghost use Rattle.std.specs.Prelude.{ℕ, ◌≡◌, ◌≤◌, ◌<◌, ◌+◌, false, map, length, get_or, [], IfOk, IfSome};
 ghost use Rattle.std.specs.List.{range_with_len};
 ghost use Rattle.updn_routes.specs.Cabling.{links_of};
+ghost use Rattle.updn_routes.specs.Routes.{is_as_short};
 ghost use Rattle.updn_routes.specs.Tables.{AllDown, AllUp, AllWithin, AreTables, IsDownFrom, IsTable, IsUpTo, best_of, entry_at, entry_first, or_better, or_up};
 ghost use Rattle.fabric_parts.specs.declared.limits.TheConstants.{SWITCHES};
 
@@ -18,6 +19,22 @@ pub(crate) struct NextHop {
     pub port: u8,
     /// How many hops are left to the target.
     pub hops: u8,
+    /// Whether all of them lead down.
+    pub falls: bool,
+}
+
+impl NextHop {
+    /// Whether a link from a place to another, with that hop beyond, is as short as this one and of its kind.
+    pub(crate) fn is_as_short(self, from: usize, to: usize, beyond: NextHop) -> bool
+        ensures { result ≡ is_as_short self from to beyond }
+    {
+        let is_kind = if self.falls {
+            from < to && beyond.falls
+        } else {
+            to < from
+        };
+        is_kind && usize::from(beyond.hops) + 1 == usize::from(self.hops)
+    }
 }
 
 /// The hops towards one switch, by the place at which they begin.
@@ -45,7 +62,11 @@ impl Table {
 }
 
 /// At the target itself.
-const HOME: NextHop = NextHop { port: 0, hops: 0 };
+const HOME: NextHop = NextHop {
+    port: 0,
+    hops: 0,
+    falls: true,
+};
 
 /// The table towards each switch, by the switch's place. It can only run out of memory.
 pub(crate) fn all_tables(
@@ -99,7 +120,7 @@ fn downwards(
     let mut table = only_home(alloc, downs.len(), target)?;
     for turn in 0..target {
         let place = target - 1 - turn;
-        let way = best(links_of(downs, place), &table);
+        let way = best(true, links_of(downs, place), &table);
         table[place] = way;
     }
     Ok(table)
@@ -123,11 +144,11 @@ fn upwards(ups: &[Row], target: usize, mut table: Vec<Option<NextHop>>) -> Vec<O
 /// The way of a place: down if there is one, and else the best way up.
 fn down_or_up(ups: &[Row], place: usize, table: &[Option<NextHop>]) -> Option<NextHop>
     requires { AllWithin 254 table.now }
-    ensures { result ≡ or_up (entry_at table.now place) (best_of table.now (links_of ups.now place)) }
+    ensures { result ≡ or_up (entry_at table.now place) (best_of false table.now (links_of ups.now place)) }
 {
     match entry_at(table, place) {
         Some(way) => Some(way),
-        None => best(links_of(ups, place), table),
+        None => best(false, links_of(ups, place), table),
     }
 }
 
@@ -140,22 +161,27 @@ fn only_home(alloc: Global, count: usize, target: usize) -> Result<Vec<Option<Ne
         .collect(alloc)
 }
 
-/// The best of these links, by a table: the first of those that leave the fewest hops.
-fn best(links: &[Link], table: &[Option<NextHop>]) -> Option<NextHop>
+/// The best of these links, by a table: the first of those that leave the fewest hops. They lead down, or up.
+fn best(falls: bool, links: &[Link], table: &[Option<NextHop>]) -> Option<NextHop>
     requires { AllWithin 254 table.now }
-    ensures { result ≡ best_of table.now links.now }
+    ensures { result ≡ best_of falls table.now links.now }
 {
     let mut best = None;
     for link in links {
-        best = or_better(best, link.port, entry_at(table, link.to));
+        best = or_better(falls, best, link.port, entry_at(table, link.to));
     }
     best
 }
 
 /// The better of what was found so far and a link out of that port, whose far end has that entry.
-fn or_better(best: Option<NextHop>, port: u8, beyond: Option<NextHop>) -> Option<NextHop>
+fn or_better(
+    falls: bool,
+    best: Option<NextHop>,
+    port: u8,
+    beyond: Option<NextHop>,
+) -> Option<NextHop>
     requires { IfSome beyond (λ hop. hop.hops ≤ 254) }
-    ensures { result ≡ or_better best port beyond }
+    ensures { result ≡ or_better falls best port beyond }
 {
     let Some(beyond) = beyond else {
         return best;
@@ -163,7 +189,7 @@ fn or_better(best: Option<NextHop>, port: u8, beyond: Option<NextHop>) -> Option
     let hops = beyond.hops + 1;
     match best {
         Some(best) if best.hops <= hops => Some(best),
-        _ => Some(NextHop { port, hops }),
+        _ => Some(NextHop { port, hops, falls }),
     }
 }
 

@@ -1,5 +1,6 @@
 use Rattle.std.proofs.Common.{◌≡◌, ◌∙◌, ◌*◌, ◌++◌, ap, sym, subst, ℕ, List, drop, length, map, take}
 use Rattle.std.proofs.Math.Seq.{take-append_seam}
+use Rattle.audit_plan.specs.Plan.{PlanState}
 use Rattle.audit_loads.specs.Loads.{loaded}
 use Rattle.audit_loads.specs.Sources.{pairs_by}
 use Rattle.audit_loads.specs.Talk.{may_talk}
@@ -14,7 +15,7 @@ returns-clause-loads c =
     let has = c.in_ok-counts.ensures.sums in
     let new = c.add_all.new.sums in
     let rest = drop (length new) c.in_ok-sums.sums.items in
-    let nodes : length c.nodes.result.now ≡ length net.plan.nodes = ap (λ nodes. length nodes) c.nodes.ensures in
+    let nodes : length c.nodes.result.now ≡ length net.plan.nodes = ap (λ nodes. length nodes) (c.nodes.ensures ∙ ap (λ (of : PlanState). of.nodes) c.plan.ensures) in
     let long : length c.in_ok-sums.sums.items ≡ length net.plan.nodes * 256 = c.in_ok-sums.ensures.long ∙ ap (λ (n : ℕ). n * 256) nodes in
     let same : c.in_ok-sums.sums.len ≡ length new =
     sym c.deref_mut.ensures.len ∙ ap (λ (sums : List ℕ). length sums) c.deref_mut.ensures.value ∙ long ∙ sym has.long in

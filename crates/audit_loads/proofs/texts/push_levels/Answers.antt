@@ -1,5 +1,6 @@
 use Rattle.std.proofs.Common.{◌≡◌, ◌∙◌, ◌++◌, arith, ap, ℕ, flat_map}
 use Rattle.std.specs.List.{range_with_len}
+use Rattle.audit_plan.specs.Levels.{levels_of}
 use Rattle.audit_loads.specs.Text.{level_text}
 use Rattle.audit_plan.proofs.RangeLemmas.{flat_onto}
 use Rattle.audit_loads.proofs.texts.push_levels.Goals as goal
@@ -10,7 +11,7 @@ loop-level-preserved c =
     c.loop-level.invariant c.in_ok-push_level_of.ensures
 
 pub push_level_of-requires : goal.push_level_of-requires
-push_level_of-requires c = c.deref.ensures.value ∙ c.in_ok-levels.ensures
+push_level_of-requires c = c.deref.ensures.value ∙ c.in_ok-levels.ensures ∙ ap levels_of c.links.ensures
 
 pub returns : goal.returns
 returns c =

@@ -4,6 +4,7 @@ use Rattle.fabric_parts.specs.Cable.{port}
 use Rattle.fabric_parts.specs.declared.cable.PortRef.{PortRef}
 use Rattle.topo_file.specs.declared.node.Node.{Node}
 use Rattle.topo_file.specs.Node.{ports_at}
+use Rattle.audit_plan.specs.Plan.{PlanState}
 use Rattle.audit_loops.specs.Channels.{nexts}
 use Rattle.audit_loops.specs.Waits.{channel_behind, group_of, next_if}
 use Rattle.audit_loops.proofs.ChannelLemmas.{all_behind}
@@ -35,6 +36,6 @@ returns c =
     let place = c.args.place in
     let before = c.args.graph.now.items in
     let end : c.loop-number.number ≡ ports_at net.plan.nodes place =
-    le_antisymm c.loop-number.auto.number-end c.loop-number-test.false ∙ c.ports_at-number-end.ensures ∙ ap (λ (nodes : List Node). ports_at nodes place) c.nodes.ensures in
+    le_antisymm c.loop-number.auto.number-end c.loop-number-test.false ∙ c.ports_at-number-end.ensures ∙ ap (λ (nodes : List Node). ports_at nodes place) (c.nodes.ensures ∙ ap (λ (of : PlanState). of.nodes) c.plan.ensures) in
     c.loop-number.invariant ∙ ap (λ (n : ℕ). before ++ map (nexts net c.args.courses.now) (flat_map (channel_behind net place) (range_with_len 0 n))) end
     ∙ ap (λ (channels : List PortRef). before ++ map (nexts net c.args.courses.now) channels) (all_behind net place (ports_at net.plan.nodes place))

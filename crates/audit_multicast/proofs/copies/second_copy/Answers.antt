@@ -1,9 +1,10 @@
-use Rattle.std.proofs.Common.{ℕ, List, Bool, [], ◌≡◌, ◌∙◌, ◌+◌, ◌++◌, ◌||◌, ◌==◌, ◌<◌, ◌≤◌, ap, drop, length, map, subst, sym, take}
+use Rattle.std.proofs.Common.{ℕ, List, Bool, ◌≡◌, ◌∙◌, ◌+◌, ◌++◌, ◌||◌, ◌==◌, ◌<◌, ◌≤◌, ap, drop, length, map, subst, sym, take}
 use Rattle.std.specs.List.{list_any}
 use Rattle.std.proofs.Math.Seq.{take-append_seam}
 use Rattle.fabric_parts.specs.declared.cable.PortRef.{PortRef}
 use Rattle.topo_file.specs.declared.node.Node.{Node}
 use Rattle.topo_file.specs.Rounds.{is_marked}
+use Rattle.audit_plan.specs.Plan.{PlanState}
 use Rattle.audit_multicast.specs.Copies.{again, hop, node_behind, second_copy}
 use Rattle.audit_multicast.proofs.MeetLemmas.{IsFollowed, followed_again, followed_all, followed_first, followed_on, followed_out, none_there}
 use Rattle.audit_multicast.proofs.copies.second_copy.Goals as goal
@@ -11,7 +12,7 @@ use Rattle.audit_multicast.proofs.copies.second_copy.Goals as goal
 pub loop-init : goal.loop-init
 loop-init c =
     followed_first c.args.net.now c.args.masks.now c.args.place c.in_ok-met.met.items c.in_ok-front.front.items
-    (c.in_ok-met.ensures.long ∙ ap (λ (nodes : List Node). length nodes) c.nodes.ensures) c.in_ok-met.ensures.marked c.in_ok-front.ensures
+    (c.in_ok-met.ensures.long ∙ ap (λ (nodes : List Node). length nodes) (c.nodes.ensures ∙ ap (λ (of : PlanState). of.nodes) c.plan.ensures)) c.in_ok-met.ensures.marked c.in_ok-front.ensures
 
 pub returns-then-is_empty : goal.returns-then-is_empty
 unfolding second_copy
@@ -23,7 +24,7 @@ pub returns-in-Some : goal.returns-in-Some
 unfolding second_copy
 returns-in-Some c =
     let net = c.args.net.now in
-    let less = subst (λ (nodes : List Node). c.loop.counter < length nodes) c.nodes-end.ensures c.loop-test.true in
+    let less = subst (λ (nodes : List Node). c.loop.counter < length nodes) (c.nodes-end.ensures ∙ ap (λ (of : PlanState). of.nodes) c.plan-2.ensures) c.loop-test.true in
     followed_again net c.args.masks.now c.args.place c.loop.counter c.in-Some.again c.loop.met.items c.loop.front.items less c.loop.invariant
     (sym (sym c.in-Some.is ∙ c.meet_all.ensures.first
     ∙ ap (λ (met : List Bool). again (is_marked met) (map (node_behind net) c.deref.result.now)) c.deref_mut.ensures.value
@@ -41,7 +42,7 @@ loop-preserved c =
     let rest = drop (length new) met in
     let same : c.loop.met.len ≡ length new = sym c.deref_mut.ensures.len ∙ sym c.meet_all.ensures.long in
     let is : take c.loop.met.len (new ++ rest) ≡ new = ap (λ (n : ℕ). take n (new ++ rest)) same ∙ take-append_seam new rest in
-    let less = subst (λ (nodes : List Node). c.loop.counter < length nodes) c.nodes-end.ensures c.loop-test.true in
+    let less = subst (λ (nodes : List Node). c.loop.counter < length nodes) (c.nodes-end.ensures ∙ ap (λ (of : PlanState). of.nodes) c.plan-2.ensures) c.loop-test.true in
     let ends = ap (λ (some : List PortRef). map (node_behind net) some) c.deref.ensures.value in
     let was = c.deref_mut.ensures.value in
     subst (λ (marks : List Bool). IsFollowed net masks place (c.loop.counter + 1) marks c.in_ok-front-2.front.items) (sym is)
@@ -58,4 +59,4 @@ pub returns : goal.returns
 unfolding second_copy
 returns c =
     followed_all c.args.net.now c.args.masks.now c.args.place c.loop.counter c.loop.met.items c.loop.front.items
-    (subst (λ (nodes : List Node). length nodes ≤ c.loop.counter) c.nodes-end.ensures c.loop-test.false) c.loop.invariant
+    (subst (λ (nodes : List Node). length nodes ≤ c.loop.counter) (c.nodes-end.ensures ∙ ap (λ (of : PlanState). of.nodes) c.plan-2.ensures) c.loop-test.false) c.loop.invariant

@@ -10,7 +10,7 @@ met_at-requires-clause-places c =
     let all = c.args.all.now in
     let place = c.args.place in
     let are = c.deref-2.ensures.value ∙ c.in_ok-places.ensures ∙ ap (λ marks. nodes_behind net marks all) (c.deref.ensures.value ∙ c.in_ok-marks.ensures) ∙ behind_are net all place in
-    rw (are, c.nodes.ensures) (places_inside net all place c.requires.outs)
+    rw (are, c.nodes.ensures, c.plan.ensures) (places_inside net all place c.requires.outs)
 
 pub returns : goal.returns
 returns c there =

@@ -1,6 +1,6 @@
 use Rattle.std.proofs.Common.{◌≡◌}
 use Rattle.topo_file.specs.Node.{ports_at}
-use Rattle.audit_net.proofs.AttachedLemmas.{some_left}
+use Rattle.audit_plan.proofs.AttachedLemmas.{some_left}
 use Rattle.audit_multicast.specs.Cuts.{has_members, is_member}
 use Rattle.audit_multicast.proofs.cuts.has_members.Given as goal
 

@@ -1,7 +1,7 @@
 use Rattle.std.proofs.Common.{List, Bool, ◌∙◌, ap}
 use Rattle.std.specs.List.{range_with_len}
 use Rattle.topo_file.specs.Rounds.{is_marked}
-use Rattle.audit_net.proofs.LidLemmas.{filter_alike}
+use Rattle.audit_plan.proofs.PlaceLemmas.{filter_alike}
 use Rattle.audit_multicast.specs.Masks.{is_used, mlids_of}
 use Rattle.audit_multicast.proofs.masks.mlids_of.Goals as goal
 

@@ -4,6 +4,7 @@ use Rattle.fabric_parts.specs.declared.cable.PortRef.{PortRef}
 use Rattle.topo_file.specs.declared.node.Node.{Node}
 use Rattle.topo_file.specs.Node.{ports_at}
 use Rattle.audit_plan.proofs.RangeLemmas.{flat_onto}
+use Rattle.audit_plan.specs.Plan.{PlanState}
 use Rattle.audit_multicast.specs.Scanning.{out_behind}
 use Rattle.audit_multicast.proofs.WayLemmas.{all_outs_behind}
 use Rattle.audit_multicast.proofs.ways.push_outs.Goals as goal
@@ -18,6 +19,6 @@ returns c =
     let net = c.args.net.now in
     let here = c.args.here in
     let end : c.loop-number.number ≡ ports_at net.plan.nodes here.node =
-    le_antisymm c.loop-number.auto.number-end c.loop-number-test.false ∙ c.ports_at-number-end.ensures ∙ ap (λ (nodes : List Node). ports_at nodes here.node) c.nodes.ensures in
+    le_antisymm c.loop-number.auto.number-end c.loop-number-test.false ∙ c.ports_at-number-end.ensures ∙ ap (λ (nodes : List Node). ports_at nodes here.node) (c.nodes.ensures ∙ ap (λ (of : PlanState). of.nodes) c.plan.ensures) in
     c.loop-number.invariant ∙ ap (λ (n : ℕ). c.args.ports.now.items ++ flat_map (out_behind net c.args.masks.now here) (range_with_len 0 n)) end
     ∙ ap (λ (more : List PortRef). c.args.ports.now.items ++ more) (all_outs_behind net c.args.masks.now here (ports_at net.plan.nodes here.node))

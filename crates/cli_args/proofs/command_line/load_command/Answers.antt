@@ -6,4 +6,5 @@ returns-clause-words c =
     let files = c.with_arg-files.ensures _ _ found c.optional_partitions.ensures.rule in
     let runs = c.with_arg-runs.ensures _ _ files c.optional_script.ensures.rule in
     let dumps = c.with_arg.ensures _ _ runs c.dump_option.ensures.rule in
-    c.described.ensures.words _ (c.with_arg-command.ensures _ _ dumps c.all_pairs_flag.ensures.rule)
+    let pairs = c.with_arg-pairs.ensures _ _ dumps c.all_pairs_flag.ensures.rule in
+    c.described.ensures.words _ (c.with_arg-command.ensures _ _ pairs c.balanced_flag.ensures.rule)

@@ -5,4 +5,5 @@ returns-clause-words c =
     let sent = c.with_arg-sent.ensures _ _ c.subnet_command.ensures c.wanted_port.ensures.rule in
     let dlid = c.with_arg.ensures _ _ sent c.wanted_dlid.ensures.rule in
     let packet = c.with_arg-packet.ensures _ _ dlid c.wanted_key.ensures.rule in
-    c.described.ensures.words _ (c.with_arg-2.ensures _ _ packet c.optional_script.ensures.rule)
+    let scripts = c.with_arg-scripts.ensures _ _ packet c.optional_script.ensures.rule in
+    c.described.ensures.words _ (c.with_arg-command.ensures _ _ scripts c.balanced_flag.ensures.rule)

@@ -10,14 +10,14 @@ use Rattle.fabric_cli.proofs.outputs.listed.Goals as goal
 pub returns-in-Ok-clause-exact : goal.returns-in-Ok-clause-exact
 returns-in-Ok-clause-exact c =
     let partitions = option_copied c.args.partitions in
-    made_comes (texts_with c.args.topology.now partitions work.Check) c.listing.result c.text_or_stop.result
+    made_comes (texts_with c.args.topology.now partitions (work.Check c.args.balanced)) c.listing.result c.text_or_stop.result
     (ok_then (λ (text : Vec ℕ Global). text.items ≡ listing_text c.in-Ok.subnet.inventory.configuration)
-    (λ (text : Vec ℕ Global). ForEnding (texts_with c.args.topology.now partitions work.Check) (λ ending. ending ≡ complete text.items))
-    (λ text is. is_listed c.args.topology.now partitions c.in-Ok.subnet.inventory text.items c.in-Ok.ensures.exact is) c.listing.result c.listing.ensures)
+    (λ (text : Vec ℕ Global). ForEnding (texts_with c.args.topology.now partitions (work.Check c.args.balanced)) (λ ending. ending ≡ complete text.items))
+    (λ text is. is_listed c.args.balanced c.args.topology.now partitions c.in-Ok.subnet.inventory text.items (rw c.rule_of.ensures at c.in-Ok.ensures.exact) is) c.listing.result c.listing.ensures)
     c.text_or_stop.ensures.made c.text_or_stop.ensures.fault
 
 pub returns-in-Err-clause-exact : goal.returns-in-Err-clause-exact
-returns-in-Err-clause-exact c = listing_stops c.args.topology.now (option_copied c.args.partitions) c.in-Err.fault c.in-Err.ensures.exact
+returns-in-Err-clause-exact c = listing_stops c.args.balanced c.args.topology.now (option_copied c.args.partitions) c.in-Err.fault (rw c.rule_of.ensures at c.in-Err.ensures.exact)
 
 pub returns-in-Ok-clause-fault : goal.returns-in-Ok-clause-fault
 returns-in-Ok-clause-fault c = refused_of_run c.text_or_stop.result (IsErr c.listing.result) c.text_or_stop.ensures.fault

@@ -1,5 +1,5 @@
 use Rattle.std.proofs.Common.{◌∙◌, ap}
-use Rattle.audit_loads.specs.Tops.{top_switches}
+use Rattle.audit_plan.specs.Tops.{top_switches}
 use Rattle.rooted_import.proofs.roots.tops_of.Goals as goal
 
 pub returns : goal.returns

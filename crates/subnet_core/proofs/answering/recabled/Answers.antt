@@ -17,5 +17,5 @@ recable-requires-clause-keys c =
 pub returns-clause-steps : goal.returns-clause-steps
 returns-clause-steps c =
     steps_by_cable c.args.inventory.now c.args.routes.now c.args.administrator.now c.args.fabric.now c.requires c.recable.new.routes c.recable.new.fabric
-    (rw c.topology.ensures at c.in_ok-recable.ensures.serves) c.args.command.now c.new.result.items c.new.ensures.items
+    (rw c.topology.ensures at c.in_ok-recable.ensures.serves) c.in_ok-recable.ensures.ruled c.args.command.now c.new.result.items c.new.ensures.items
     (rw c.topology.ensures at c.in_ok-recable.ensures.cabling) c.in_ok-recable.ensures.kept

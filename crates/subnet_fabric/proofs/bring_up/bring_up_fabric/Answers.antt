@@ -11,9 +11,9 @@ set_up-requires-clause-roots c =
     rw (c.in_ok-fabric.ensures.value, c.deref.ensures.value ∙ c.in_ok-roots.ensures)
     (roots_are_switches c.args.topology.now c.known_sound.ensures)
 
-pub returns : goal.returns
-returns c =
+pub returns-clause-all : goal.returns-clause-all
+returns-clause-all c =
     let plan = c.args.topology.now in
     stops plan c.in-Err.fault c.known_sound.ensures
     (subst (λ (roots : List ℕ). IsNotSetUp (fabric_of plan) roots c.in-Err.fault) (c.deref.ensures.value ∙ c.in_ok-roots.ensures)
-    (subst (λ (was : FabricState). IsNotSetUp was c.deref.result.now c.in-Err.fault) c.in_ok-fabric.ensures.value c.in-Err.ensures.0))
+    (subst (λ (was : FabricState). IsNotSetUp was c.deref.result.now c.in-Err.fault) c.in_ok-fabric.ensures.value c.in-Err.ensures.all.0))

@@ -13,8 +13,8 @@ use Rattle.subnet_fabric.proofs.planning.plan.Goals as goal
 pub changed-requires : goal.changed-requires
 changed-requires c = rw (c.port_in-first.ensures, c.port_in-second.ensures, c.graph-graph.ensures) c.requires.may
 
-pub returns-then-not-branch : goal.returns-then-not-branch
-returns-then-not-branch c fabric good layout =
+pub returns-then-not-branch-clause-all : goal.returns-then-not-branch-clause-all
+returns-then-not-branch-clause-all c fabric good layout =
     let same : c.in_ok-planned.planned ≡ planned_in c.args.topology.now c.args.cable c.args.up c.args.routes.now.graph =
     it_is_planned_in c.args.topology.now c.args.cable c.args.up _ _ c.args.routes.now.graph _ _ c.graph-graph.ensures c.port_in-first.ensures
     c.port_in-second.ensures c.in_ok-planned.ensures in
@@ -34,8 +34,8 @@ routed-requires-clause-named c =
     (subst (λ (roots : List _). list_all (λ root. list_any (λ guid. guid == root) (guids_of c.args.routes.now.graph)) roots ≡ true)
     (sym (c.deref.ensures.value ∙ c.in_ok-roots.ensures)) c.requires.named)
 
-pub returns : goal.returns
-returns c fabric good layout =
+pub returns-clause-all : goal.returns-clause-all
+returns-clause-all c fabric good layout =
     let same : c.in_ok-planned.planned ≡ planned_in c.args.topology.now c.args.cable c.args.up c.args.routes.now.graph =
     it_is_planned_in c.args.topology.now c.args.cable c.args.up _ _ c.args.routes.now.graph _ _ c.graph-graph.ensures c.port_in-first.ensures
     c.port_in-second.ensures c.in_ok-planned.ensures in
@@ -45,4 +45,7 @@ returns c fabric good layout =
     IfOk-weaker c.routed.result _ _
     (λ plan give. is_plan fabric c.in_ok-planned.planned roots good here whole plan
     (subst (λ (roots : List _). RoutesGive fabric roots plan) (c.deref.ensures.value ∙ c.in_ok-roots.ensures) give))
-    (c.routed.ensures fabric good (whole_is_laid_out fabric c.in_ok-planned.planned roots good here c.known_graph-2.ensures whole))
+    (c.routed.ensures.all fabric good (whole_is_laid_out fabric c.in_ok-planned.planned roots good here c.known_graph-2.ensures whole))
+
+pub returns-clause-ruled : goal.returns-clause-ruled
+returns-clause-ruled c = rw (c.rule.ensures, c.between.ensures) at c.routed.ensures.ruled

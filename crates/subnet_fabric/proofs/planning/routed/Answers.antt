@@ -4,8 +4,8 @@ use Rattle.subnet_fabric.specs.SetUp.{AreAssigned, IsLaidOut}
 use Rattle.updn_routes.specs.Routes.{AreRoutes}
 use Rattle.subnet_fabric.proofs.planning.routed.Goals as goal
 
-pub returns-in-Ok : goal.returns-in-Ok
-returns-in-Ok c fabric good laid =
+pub returns-in-Ok-clause-all : goal.returns-in-Ok-clause-all
+returns-in-Ok-clause-all c fabric good laid =
     let made = c.in-Ok.ensures in
     let assigned : AreAssigned c.args.graph c.in_ok-lids.lids = record { lids = c.in_ok-lids.ensures.lids; order = c.in_ok-lids.ensures.order } in (
       none_is_without fabric c.args.graph c.in_ok-lids.lids c.args.roots.now c.in-Ok.routes.between good laid assigned made.made made.reached,

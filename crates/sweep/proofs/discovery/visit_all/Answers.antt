@@ -13,6 +13,7 @@ returns-in-Err-clause-went g c x stands sweepable found progress =
 
 pub loop-place-preserved : goal.loop-place-preserved
 loop-place-preserved g c = record {
+  same_wire = c.visit_switch.ensures.same_wire ∙ c.loop-place.invariant.same_wire;
   left = λ fabric stands good. c.visit_switch.ensures.left fabric (c.loop-place.invariant.left fabric stands good) good;
   went = λ fabric stands sweepable found progress.
       let on = c.loop-place.invariant.went fabric stands sweepable found progress in

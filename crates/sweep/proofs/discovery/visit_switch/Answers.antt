@@ -1,4 +1,4 @@
-use Rattle.std.proofs.Common.{arith, ◌+◌, ◌≡◌, ◌++◌, subst}
+use Rattle.std.proofs.Common.{arith, ◌+◌, ◌≡◌, ◌++◌, subst, ◌∙◌}
 use Rattle.sweep.specs.Sweeps.{Comes, GoesOn}
 use Rattle.sweep.proofs.VisitLemmas.{at_next, on_again, row_end}
 use Rattle.sweep.proofs.discovery.visit_switch.Goals as goal
@@ -12,6 +12,7 @@ returns-in-Err-clause-went g c x stands sweepable found one is all there progres
 
 pub loop-before-preserved : goal.loop-before-preserved
 loop-before-preserved g c = record {
+  same_wire = c.visit_port.ensures.same_wire ∙ c.loop-before.invariant.same_wire;
   left = λ fabric stands good. c.visit_port.ensures.left fabric (c.loop-before.invariant.left fabric stands good) good;
   went = λ fabric stands sweepable found one is all there progress.
       let on = c.loop-before.invariant.went fabric stands sweepable found one is all there progress in

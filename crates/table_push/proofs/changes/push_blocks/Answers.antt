@@ -23,6 +23,7 @@ loop-place-init g c = record {
   stands = λ fabric stands of good has. push_begins _ fabric c.args.routes.now c.args.change.partition (receives_of c.args.change.after.now) stands good;
   counted = refl;
   few = omega arith;
+  same_wire = refl;
 }
 
 pub returns-in-Err-clause-pushed : goal.returns-in-Err-clause-pushed
@@ -69,12 +70,13 @@ loop-place-preserved g c =
           record {
             stands = λ fabric stands of good slice.
                 subst (λ (stood : Option FabricState). Stands stood fabric (with_switches (masks_before c.args.routes.now c.args.change.partition (receives_of c.args.change.after.now) (c.loop-place.place + 1)) fabric))
-                (ap g.W.SmpWire.fabric (sym w.wire-is))
+                (ap (λ session. g.W.SmpWire.fabric session.wire.now) (sym w.session-is))
                 (place_more _ _ _ fabric c.args.routes.now c.args.change.partition (receives_of c.args.change.before.now) (receives_of c.args.change.after.now) c.loop-place.place switch w.as_slice-path.result.now
                 w.at-blocks_before.result w.at-blocks_after.result less there own path had has of slice (c.loop-place.invariant.stands fabric stands of good slice)
                 w.set_changed.ensures.pushed).stands;
             counted = w.count-is ∙ more_counted test c.loop-place.count c.loop-place.place w.in-Ok.more (w.in-Ok.ensures.count ∙ (λ i. blocks_changed (had i) (has i))) c.loop-place.invariant.counted;
             few = omega (arith, w.count-is, c.loop-place.invariant.few, w.in-Ok.ensures.few);
+            same_wire = ap (λ session. session.wire.ghost_name) w.session-is ∙ w.set_changed.ensures.same_wire ∙ c.loop-place.invariant.same_wire;
           }
       | else-is_marked w ↦
           let switches : c.switches-switches.result.now ≡ c.args.routes.now.graph.switches =
@@ -94,11 +96,12 @@ loop-place-preserved g c =
           record {
             stands = λ fabric stands of good slice.
                 subst (λ (stood : Option FabricState). Stands stood fabric (with_switches (masks_before c.args.routes.now c.args.change.partition (receives_of c.args.change.after.now) (c.loop-place.place + 1)) fabric))
-                (ap g.W.SmpWire.fabric (sym w.wire-is))
+                (ap (λ session. g.W.SmpWire.fabric session.wire.now) (sym w.session-is))
                 (place_stays _ fabric c.args.routes.now c.args.change.partition (receives_of c.args.change.before.now) (receives_of c.args.change.after.now) c.loop-place.place there.0 less there.1 own same slice
                 (c.loop-place.invariant.stands fabric stands of good slice));
             counted = w.count-is ∙ zero ∙ more_counted test c.loop-place.count c.loop-place.place 0 (sym none) c.loop-place.invariant.counted;
             few = omega (arith, w.count-is, c.loop-place.invariant.few);
+            same_wire = ap (λ session. session.wire.ghost_name) w.session-is ∙ c.loop-place.invariant.same_wire;
           }
     ]
 

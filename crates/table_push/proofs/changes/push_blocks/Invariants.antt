@@ -12,9 +12,10 @@ use Rattle.table_push.proofs.changes.push_blocks.Given as goal
 -- the MLID ranges of the first switches are there
 abbrev pub invariant-loop-place : goal.invariant-loop-place
 invariant-loop-place g l = record {
-  stands : (fabric : FabricState) → g.W.SmpWire.fabric l.fn.wire ≡ Some fabric → IsGraphOf l.fn.routes.graph fabric → IsGood fabric
+  stands : (fabric : FabricState) → g.W.SmpWire.fabric l.fn.session.wire.now ≡ Some fabric → IsGraphOf l.fn.routes.graph fabric → IsGood fabric
       → HasRange l.fn.routes l.fn.change.partition (receives_of l.fn.change.before.now) fabric
-      → Stands (g.W.SmpWire.fabric l.wire) fabric (with_switches (masks_before l.fn.routes l.fn.change.partition (receives_of l.fn.change.after.now) l.place) fabric);
+      → Stands (g.W.SmpWire.fabric l.session.wire.now) fabric (with_switches (masks_before l.fn.routes l.fn.change.partition (receives_of l.fn.change.after.now) l.place) fabric);
   counted : l.count ≡ sum_by (changed_at l.fn.routes l.fn.change.partition (receives_of l.fn.change.before.now) (receives_of l.fn.change.after.now)) (range_with_len 0 l.place);
   few : l.count ≤ 3 * l.place;
+  same_wire : l.session.wire.ghost_name ≡ l.fn.session.wire.ghost_name;
 }

@@ -17,6 +17,7 @@ loop-position-init g c = record {
   stands = λ fabric guid stands good leads has. slice_begins _ fabric guid c.args.partition c.args.after.now stands good;
   counted = refl;
   few = omega arith;
+  same_wire = refl;
 }
 
 pub returns-in-Err-clause-pushed : goal.returns-in-Err-clause-pushed
@@ -35,12 +36,13 @@ loop-position-preserved g c =
       | then-not-is_same+in-Ok w ↦ record {
         stands = λ fabric guid stands good leads has.
             subst (λ (stood : Option FabricState). Stands stood fabric (with_switches (on_switch guid (slice_to (position + 1) c.args.partition after)) fabric))
-            (ap g.W.SmpWire.fabric (sym w.wire-is))
+            (ap (λ session. g.W.SmpWire.fabric session.wire.now) (sym w.session-is))
             (mlid_range_more _ _ _ fabric c.args.path.now guid position c.args.partition after _ _ c.loop-position-test.true c.requires.partition then_there
             w.set_block.ensures.words refl leads (c.loop-position.invariant.stands fabric guid stands good leads has) w.set_block.ensures.set).stands;
         counted = w.count-is ∙ one_counted (is_changed before after) c.loop-position.count position _
             (ap not (sym c.is_same.ensures ∙ w.if-not-is_same.true)) c.loop-position.invariant.counted;
         few = omega (arith, w.count-is, c.loop-position.invariant.few);
+        same_wire = ap (λ session. session.wire.ghost_name) w.session-is ∙ w.set_block.ensures.same_wire ∙ c.loop-position.invariant.same_wire;
       }
       | else-not-is_same w ↦
           let same : get_or before position [] ≡ get_or after position [] = same_text _ _ (sym w.if-not-is_same.false ∙ c.is_same.ensures) in
@@ -49,13 +51,14 @@ loop-position-preserved g c =
           let none : c.loop-position.count ≡ c.loop-position.count + 0 = omega arith in
           record {
             stands = λ fabric guid stands good leads has.
-                subst (Stands (g.W.SmpWire.fabric c.if-not-is_same.wire) fabric)
+                subst (Stands (g.W.SmpWire.fabric c.if-not-is_same.session.wire.now) fabric)
                 (blocks_stay fabric guid c.args.partition position before after (get_or after position []) has there then_there)
                 (subst (λ (stood : Option FabricState). Stands stood fabric (with_switches (on_switch guid (slice_to position c.args.partition after)) fabric))
-                (ap g.W.SmpWire.fabric (sym w.wire-is)) (c.loop-position.invariant.stands fabric guid stands good leads has));
+                (ap (λ session. g.W.SmpWire.fabric session.wire.now) (sym w.session-is)) (c.loop-position.invariant.stands fabric guid stands good leads has));
             counted = w.count-is ∙ none ∙ one_counted (is_changed before after) c.loop-position.count position _
                 (ap not (sym c.is_same.ensures ∙ w.if-not-is_same.false)) c.loop-position.invariant.counted;
             few = omega (arith, w.count-is, c.loop-position.invariant.few);
+            same_wire = ap (λ session. session.wire.ghost_name) w.session-is ∙ c.loop-position.invariant.same_wire;
           }
     ]
 

@@ -1,10 +1,11 @@
 use Rattle.step_results.proofs.DistinctLemmas.{left_part}
-use Rattle.std.proofs.Common.{ℕ, ◌≡◌, ◌==◌, ◌+◌, ◌∙◌, ap, sym, subst, arith, List, map, length, slice_get, Some, Result}
+use Rattle.std.proofs.Common.{refl, ℕ, ◌≡◌, ◌==◌, ◌+◌, ◌∙◌, ap, sym, subst, arith, List, map, length, slice_get, Some, Result, Option, Ok, rules}
 use Rattle.std.specs.List.{IsDistinct}
 use Rattle.std.proofs.lemmas.Option.{slice_get-get_or}
 use Rattle.sweep.specs.Graph.{GraphState, end_guids}
 use Rattle.sweep.specs.declared.graph.GraphSwitch.{GraphSwitch}
-use Rattle.table_push.specs.Linear.{linear_before}
+use Rattle.table_push.specs.Linear.{linear_before, linear_pushed}
+use Rattle.smp_wire.specs.FabricState.{FabricState}
 use Rattle.table_push.specs.Nodes.{with_switches}
 use Rattle.table_push.specs.Pushes.{LeadsToSwitch, Leaves}
 use Rattle.table_push.specs.declared.fault.PushFault.{PushFault}
@@ -13,7 +14,10 @@ use Rattle.table_push.proofs.LinearLemmas.{push_begins, push_ends, push_more}
 use Rattle.table_push.proofs.linear.push_linear.Goals as goal
 
 pub loop-place-init : goal.loop-place-init
-loop-place-init g c fabric stands of good = push_begins _ fabric c.args.routes.now stands good
+loop-place-init g c = record {
+  left = λ fabric stands of good. push_begins _ fabric c.args.routes.now (ap g.W.SmpWire.fabric c.new-session.ensures.wire ∙ stands) good;
+  same_wire = refl;
+}
 
 pub returns-in-Err : goal.returns-in-Err
 returns-in-Err g c x stands of good =
@@ -27,31 +31,35 @@ returns-in-Err g c x stands of good =
     let path : c.as_slice.result.now ≡ switch.path = c.as_slice.ensures.value ∙ ap (λ (one : GraphSwitch). one.path) (sym c.index-switches-place.is) in
     let own : IsDistinct (λ a b. a == b) (map (λ one. one.guid) c.args.routes.now.graph.switches) =
     left_part (λ a b. a == b) _ _ (subst (λ (graph : GraphState). IsDistinct (λ a b. a == b) (end_guids graph.switches graph.ports)) c.graph-graph.ensures c.known_graph.ensures.guids) in
-    absurd (no_fault c.in-Err.fault _ x _ (subst (λ (result : Result (Unit {0}) PushFault). Leaves result (g.W.SmpWire.fabric c.set_table.new.wire) x (with_switches (linear_before c.args.routes.now (c.loop-place.place + 1)) x)) c.in-Err.is
+    absurd (no_fault c.in-Err.fault _ x _ (subst (λ (result : Result (Unit {0}) PushFault). Leaves result (g.W.SmpWire.fabric c.set_table.new.session.wire.now) x (with_switches (linear_before c.args.routes.now (c.loop-place.place + 1)) x)) c.in-Err.is
     (push_more _ _ _ x c.args.routes.now c.loop-place.place switch c.linear_table-table.result
     (omega (arith, c.loop-place-test.true, long)) there own c.linear_table-table.ensures
-    (graph_leads x c.args.routes.now.graph c.loop-place.place switch of there) (c.loop-place.invariant x stands of good)
-    (λ fabric is guid well leads. c.set_table.ensures fabric is guid well (subst (λ (some : List ℕ). LeadsToSwitch fabric some guid) (sym path) leads)))))
+    (graph_leads x c.args.routes.now.graph c.loop-place.place switch of there) (c.loop-place.invariant.left x stands of good)
+    (λ fabric is guid well leads. c.set_table.ensures.left fabric is guid well (subst (λ (some : List ℕ). LeadsToSwitch fabric some guid) (sym path) leads)))))
 
 pub loop-place-preserved : goal.loop-place-preserved
-loop-place-preserved g c x stands of good =
-    let switches : c.switches-switches.result.now ≡ c.args.routes.now.graph.switches =
-    c.switches-switches.ensures ∙ ap (λ (graph : GraphState). graph.switches) c.graph-graph.ensures in
-    let long = ap length switches in
-    let switch = c.index-switches-place.result in
-    let there : slice_get c.args.routes.now.graph.switches c.loop-place.place ≡ Some switch =
-    subst (λ (some : List GraphSwitch). slice_get some c.loop-place.place ≡ Some switch) switches
-    (slice_get-get_or c.switches-switches.result.now c.loop-place.place switch c.loop-place-test.true ∙ ap (λ (one : GraphSwitch). Some one) (sym c.index-switches-place.is)) in
-    let path : c.as_slice.result.now ≡ switch.path = c.as_slice.ensures.value ∙ ap (λ (one : GraphSwitch). one.path) (sym c.index-switches-place.is) in
-    let own : IsDistinct (λ a b. a == b) (map (λ one. one.guid) c.args.routes.now.graph.switches) =
-    left_part (λ a b. a == b) _ _ (subst (λ (graph : GraphState). IsDistinct (λ a b. a == b) (end_guids graph.switches graph.ports)) c.graph-graph.ensures c.known_graph.ensures.guids) in
-    (push_more _ _ _ x c.args.routes.now c.loop-place.place switch c.linear_table-table.result
-    (omega (arith, c.loop-place-test.true, long)) there own c.linear_table-table.ensures
-    (graph_leads x c.args.routes.now.graph c.loop-place.place switch of there) (c.loop-place.invariant x stands of good)
-    (λ fabric is guid well leads. c.set_table.ensures fabric is guid well (subst (λ (some : List ℕ). LeadsToSwitch fabric some guid) (sym path) leads))).stands
+loop-place-preserved g c = record {
+  left = λ x stands of good.
+      let switches : c.switches-switches.result.now ≡ c.args.routes.now.graph.switches =
+      c.switches-switches.ensures ∙ ap (λ (graph : GraphState). graph.switches) c.graph-graph.ensures in
+      let long = ap length switches in
+      let switch = c.index-switches-place.result in
+      let there : slice_get c.args.routes.now.graph.switches c.loop-place.place ≡ Some switch =
+      subst (λ (some : List GraphSwitch). slice_get some c.loop-place.place ≡ Some switch) switches
+      (slice_get-get_or c.switches-switches.result.now c.loop-place.place switch c.loop-place-test.true ∙ ap (λ (one : GraphSwitch). Some one) (sym c.index-switches-place.is)) in
+      let path : c.as_slice.result.now ≡ switch.path = c.as_slice.ensures.value ∙ ap (λ (one : GraphSwitch). one.path) (sym c.index-switches-place.is) in
+      let own : IsDistinct (λ a b. a == b) (map (λ one. one.guid) c.args.routes.now.graph.switches) =
+      left_part (λ a b. a == b) _ _ (subst (λ (graph : GraphState). IsDistinct (λ a b. a == b) (end_guids graph.switches graph.ports)) c.graph-graph.ensures c.known_graph.ensures.guids) in
+      (push_more _ _ _ x c.args.routes.now c.loop-place.place switch c.linear_table-table.result
+      (omega (arith, c.loop-place-test.true, long)) there own c.linear_table-table.ensures
+      (graph_leads x c.args.routes.now.graph c.loop-place.place switch of there) (c.loop-place.invariant.left x stands of good)
+      (λ fabric is guid well leads. c.set_table.ensures.left fabric is guid well (subst (λ (some : List ℕ). LeadsToSwitch fabric some guid) (sym path) leads))).stands;
+  same_wire = c.set_table.ensures.same_wire ∙ c.loop-place.invariant.same_wire;
+}
 
 pub returns : goal.returns
 returns g c x stands of good =
     let long = ap (λ (graph : GraphState). length graph.switches) c.graph-graph.ensures in
     let count = ap length c.switches-switches.ensures in
-    push_ends _ x c.args.routes.now c.loop-place.place (omega (arith, c.loop-place-test.false, c.loop-place.auto.place-end, long, count)) (c.loop-place.invariant x stands of good)
+    let all = push_ends _ x c.args.routes.now c.loop-place.place (omega (arith, c.loop-place-test.false, c.loop-place.auto.place-end, long, count)) (c.loop-place.invariant.left x stands of good) in
+    subst (λ (next : Option FabricState). Leaves (Ok (tt {0})) next x (linear_pushed c.args.routes.now x)) (search rules) all

@@ -9,6 +9,8 @@ use Rattle.table_push.proofs.multicast.push_multicast.Given as goal
 
 -- the MLID ranges of the first switches are written
 abbrev pub invariant-loop-place : goal.invariant-loop-place
-invariant-loop-place g l =
-    (fabric : FabricState) → g.W.SmpWire.fabric l.fn.wire ≡ Some fabric → IsGraphOf l.fn.routes.graph fabric → IsGood fabric
-    → Stands (g.W.SmpWire.fabric l.wire) fabric (with_switches (masks_before l.fn.routes l.fn.partition (receives_of l.fn.receivers) l.place) fabric)
+invariant-loop-place g l = record {
+  left : (fabric : FabricState) → g.W.SmpWire.fabric l.fn.wire ≡ Some fabric → IsGraphOf l.fn.routes.graph fabric → IsGood fabric
+      → Stands (g.W.SmpWire.fabric l.session.wire.now) fabric (with_switches (masks_before l.fn.routes l.fn.partition (receives_of l.fn.receivers) l.place) fabric);
+  same_wire : l.session.wire.ghost_name ≡ l.initial.session.wire.ghost_name;
+}

@@ -5,5 +5,5 @@ use Rattle.table_push.proofs.multicast.set_block.Goals as goal
 
 pub returns-clause-set : goal.returns-clause-set
 returns-clause-set g c =
-    subst (SetsAt (g.W.SmpWire.fabric c.args.wire.now) (g.W.SmpWire.fabric c.set.new.wire) c.set.result c.args.path.now MulticastForwardingTable (c.args.position * 268435456 + c.args.partition))
+    subst (SetsAt (g.W.SmpWire.fabric c.args.session.now.wire.now) (g.W.SmpWire.fabric c.set.new.session.wire.now) c.set.result c.args.path.now MulticastForwardingTable (c.args.position * 268435456 + c.args.partition))
     c.block_bytes-masks.ensures.bytes c.set.ensures.left

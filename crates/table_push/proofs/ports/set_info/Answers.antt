@@ -3,6 +3,6 @@ use Rattle.attr_tables.specs.declared.smp_attribute.SmpAttribute.TheVariants.{Po
 use Rattle.table_push.proofs.LeadLemmas.{SetsAt}
 use Rattle.table_push.proofs.ports.set_info.Goals as goal
 
-pub returns : goal.returns
-returns g c x stands next good takes gives =
-    (subst (SetsAt _ _ _ c.args.path.now PortInfoAsked c.args.asked) c.put_over.ensures c.set_port_info.ensures) x stands next good takes gives
+pub returns-clause-left : goal.returns-clause-left
+returns-clause-left g c x stands next good takes gives =
+    (subst (SetsAt _ _ _ c.args.path.now PortInfoAsked c.args.asked) c.put_over.ensures c.set_port_info.ensures.left) x stands next good takes gives

@@ -11,10 +11,12 @@ use Rattle.table_push.proofs.ports.to_cables.Given as goal
 -- the ports at the first cables are set up, after the switches, and of the switches' there no more are counted; over a good
 -- fabric none is
 abbrev pub invariant-loop-place : goal.invariant-loop-place
-invariant-loop-place g l =
-    (l.count ≤ l.place)
-    × ((fabric : FabricState) → IsGraphOf l.fn.routes.graph fabric → IsGood fabric → ShowsLinks fabric
-    → Stands (g.W.SmpWire.fabric l.fn.wire) fabric
-    (with_infos (changed_where l.fn.round (at_switches_before l.fn.routes.graph (length l.fn.routes.graph.switches)) l.fn.routes) fabric)
-    → (l.count ≡ 0)
-    × Stands (g.W.SmpWire.fabric l.wire) fabric (with_infos (changed_where l.fn.round (at_first l.fn.routes l.place) l.fn.routes) fabric))
+invariant-loop-place g l = record {
+  few : l.count ≤ l.place;
+  all : (fabric : FabricState) → IsGraphOf l.fn.routes.graph fabric → IsGood fabric → ShowsLinks fabric
+      → Stands (g.W.SmpWire.fabric l.fn.session.wire.now) fabric
+      (with_infos (changed_where l.fn.round (at_switches_before l.fn.routes.graph (length l.fn.routes.graph.switches)) l.fn.routes) fabric)
+      → (l.count ≡ 0)
+      × Stands (g.W.SmpWire.fabric l.session.wire.now) fabric (with_infos (changed_where l.fn.round (at_first l.fn.routes l.place) l.fn.routes) fabric);
+  same_wire : l.session.wire.ghost_name ≡ l.fn.session.wire.ghost_name;
+}

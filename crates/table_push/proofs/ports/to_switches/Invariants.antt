@@ -9,6 +9,8 @@ use Rattle.table_push.proofs.ports.to_switches.Given as goal
 
 -- the first switches are set up
 abbrev pub invariant-loop-place : goal.invariant-loop-place
-invariant-loop-place g l =
-    (fabric : FabricState) → g.W.SmpWire.fabric l.fn.wire ≡ Some fabric → IsGraphOf l.fn.routes.graph fabric → IsGood fabric → ShowsLinks fabric
-    → Stands (g.W.SmpWire.fabric l.wire) fabric (with_infos (changed_where l.fn.round (at_switches_before l.fn.routes.graph l.place) l.fn.routes) fabric)
+invariant-loop-place g l = record {
+  left : (fabric : FabricState) → g.W.SmpWire.fabric l.fn.session.wire.now ≡ Some fabric → IsGraphOf l.fn.routes.graph fabric → IsGood fabric → ShowsLinks fabric
+      → Stands (g.W.SmpWire.fabric l.session.wire.now) fabric (with_infos (changed_where l.fn.round (at_switches_before l.fn.routes.graph l.place) l.fn.routes) fabric);
+  same_wire : l.session.wire.ghost_name ≡ l.fn.session.wire.ghost_name;
+}

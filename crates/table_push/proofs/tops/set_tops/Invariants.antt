@@ -9,6 +9,8 @@ use Rattle.table_push.proofs.tops.set_tops.Given as goal
 
 -- LinearFDBTop of the first switches is set
 abbrev pub invariant-loop-place : goal.invariant-loop-place
-invariant-loop-place g l =
-    (fabric : FabricState) → g.W.SmpWire.fabric l.fn.wire ≡ Some fabric → IsGraphOf l.fn.routes.graph fabric → IsGood fabric
-    → Stands (g.W.SmpWire.fabric l.wire) fabric (with_switches (top_before (length l.fn.routes.lids) (take l.place l.fn.routes.graph.switches)) fabric)
+invariant-loop-place g l = record {
+  left : (fabric : FabricState) → g.W.SmpWire.fabric l.fn.session.wire.now ≡ Some fabric → IsGraphOf l.fn.routes.graph fabric → IsGood fabric
+      → Stands (g.W.SmpWire.fabric l.session.wire.now) fabric (with_switches (top_before (length l.fn.routes.lids) (take l.place l.fn.routes.graph.switches)) fabric);
+  same_wire : l.session.wire.ghost_name ≡ l.fn.session.wire.ghost_name;
+}

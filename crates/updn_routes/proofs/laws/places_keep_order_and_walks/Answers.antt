@@ -15,5 +15,5 @@ returns-clause-walks c = λ rows placed before cabling order is.
     keeps_walks rows placed before (place_of before (length rows)) cabling (keeps_order (length rows) before order) is
 
 pub returns-clause-choices : goal.returns-clause-choices
-returns-clause-choices c = λ rows placed before next d cabling order is there chosen.
-    keeps_choices rows placed before (place_of before (length rows)) cabling (keeps_order (length rows) before order) is next d there chosen
+returns-clause-choices c = λ rows placed before pick next d cabling order is there chosen.
+    keeps_choices rows placed before (place_of before (length rows)) cabling (keeps_order (length rows) before order) is pick next d there chosen

@@ -2,6 +2,7 @@ use Rattle.std.proofs.Common.{◌≡◌, ℕ, List, length, refl, subst, ◌∙�
 use Rattle.updn_routes.specs.declared.link.Link.{Link}
 use Rattle.updn_routes.specs.Order.{AreRanks}
 use Rattle.updn_routes.specs.Tables.{AreTables, all_downs, all_ups, places_of}
+use Rattle.updn_routes.specs.Ties.{numbers_of}
 use Rattle.updn_routes.specs.Tree.{AreDepths}
 use Rattle.updn_routes.proofs.AnswerLemmas.{downs_count, routes_right}
 use Rattle.updn_routes.proofs.EntryLemmas.{all_down, all_up, places_count}
@@ -35,10 +36,14 @@ invariant_of-result c =
     let tables : AreTables (all_downs c.args.rows.items c.in_ok-places.places.items) (all_ups c.args.rows.items c.in_ok-places.places.items) (length (all_downs c.args.rows.items c.in_ok-places.places.items)) c.in_ok-tables.tables.items =
     subst (λ (u : List (List Link)). AreTables (all_downs c.args.rows.items c.in_ok-places.places.items) u (length (all_downs c.args.rows.items c.in_ok-places.places.items)) c.in_ok-tables.tables.items) ups
     (subst (λ (d : List (List Link)). AreTables d c.deref-12.result.now (length d) c.in_ok-tables.tables.items) downs c.in_ok-tables.ensures) in
-    routes_right c.args.rows.items c.args.guids.items c.args.roots.now c.in_ok-ranks.ranks.items c.in_ok-depths.depths.items c.in_ok-places.places.items c.in_ok-tables.tables.items c.args.homes.items c.requires.fabric c.requires.few c.requires.hang c.requires.few_lids places tables
+    let numbers : c.in_ok-numbers.numbers.items ≡ numbers_of c.args.rule c.in_ok-places.places.items c.args.homes.items =
+    c.in_ok-numbers.ensures ∙ (ap (λ (places : List ℕ). numbers_of c.args.rule places c.deref-14.result.now) c.deref-13.ensures.value
+    ∙ ap (numbers_of c.args.rule c.in_ok-places.places.items) c.deref-14.ensures.value) in
+    routes_right c.args.rows.items c.args.guids.items c.args.roots.now c.in_ok-ranks.ranks.items c.in_ok-depths.depths.items c.in_ok-places.places.items c.in_ok-tables.tables.items c.args.homes.items
+    c.args.rule c.in_ok-numbers.numbers.items c.requires.fabric c.requires.few c.requires.hang c.requires.few_lids places numbers tables
 
-pub returns : goal.returns
-returns c =
+pub returns-clause-made : goal.returns-clause-made
+returns-clause-made c =
     record {
       rows_are = refl;
       guids_are = refl;

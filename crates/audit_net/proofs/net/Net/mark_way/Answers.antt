@@ -1,5 +1,5 @@
 use Rattle.std.proofs.Common.{List, ℕ, ◌≡◌, ◌∙◌, ◌<◌, ◌≤◌, arith, length, subst, sym}
-use Rattle.audit_net.proofs.EndlessLemmas.{within_nodes}
+use Rattle.audit_plan.proofs.PlaceLemmas.{within_nodes}
 use Rattle.audit_net.proofs.HostLemmas.{walk_ends, walk_is_whole, walks_on}
 use Rattle.audit_net.proofs.net.Net.mark_way.Goals as goal
 

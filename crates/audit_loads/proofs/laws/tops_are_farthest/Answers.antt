@@ -1,5 +1,0 @@
-use Rattle.audit_loads.proofs.TopLemmas.{tops_are_farthest}
-use Rattle.audit_loads.proofs.laws.tops_are_farthest.Goals as goal
-
-pub returns : goal.returns
-returns c = tops_are_farthest

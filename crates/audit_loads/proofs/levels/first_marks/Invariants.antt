@@ -1,7 +1,0 @@
-use Rattle.std.proofs.Common.{◌≡◌, map}
-use Rattle.std.specs.List.{range_with_len}
-use Rattle.audit_loads.specs.Levels.{carries}
-use Rattle.audit_loads.proofs.levels.first_marks.Given as goal
-
-abbrev pub invariant-loop-place : goal.invariant-loop-place
-invariant-loop-place l = l.marks.items ≡ map (carries l.net) (range_with_len 0 l.place)

@@ -1,5 +1,0 @@
-use Rattle.audit_loads.proofs.WrongLemmas.{levels_begin_at_0}
-use Rattle.audit_loads.proofs.wrong_rules.levels_begin_at_0.Goals as goal
-
-pub returns : goal.returns
-returns c = levels_begin_at_0

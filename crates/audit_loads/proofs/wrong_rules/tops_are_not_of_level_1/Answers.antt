@@ -1,5 +1,0 @@
-use Rattle.audit_loads.proofs.WrongLemmas.{tops_are_not_of_level_1}
-use Rattle.audit_loads.proofs.wrong_rules.tops_are_not_of_level_1.Goals as goal
-
-pub returns : goal.returns
-returns c = tops_are_not_of_level_1

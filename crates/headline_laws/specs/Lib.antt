@@ -1,0 +1,4 @@
+pub mod Headline
+pub mod WrongRules
+pub mod Texts
+pub mod TextWrongRules
