@@ -3,7 +3,7 @@ use Rattle.std.proofs.Common.{ℕ, ◌≡◌, ◌==◌, ◌∙◌, Bool, true, f
 use Rattle.std.proofs.lemmas.Bool.{and_from, and_parts, eqb-true}
 use Rattle.std.specs.List.{AllByRecursion, list_all}
 use Rattle.headline_laws.proofs.NamedStepLemmas.{steps_name_sources}
-use Rattle.headline_laws.specs.Headline.{OursKeepsApart, RunsReportApart, run_by}
+use Rattle.headline_laws.specs.Headline.{OursKeepsApart, RunsReportApart, ScriptsAreKeptApart, run_by}
 use Rattle.sa_replies.proofs.ApartLemmas.{runs_are_isolated}
 use Rattle.sa_replies.proofs.NamedRunLemmas.{runs_name_sources}
 use Rattle.sa_replies.proofs.RunDataLemmas.{data_of_runs_is_noted}
@@ -14,6 +14,7 @@ use Rattle.sa_replies.specs.RunSources.{NotedEvent, noted_after, noted_in, noted
 use Rattle.sa_replies.specs.Sources.{bytes_from_near}
 use Rattle.subnet_fabric.proofs.LidLemmas.{own_lids}
 use Rattle.subnet_fabric.specs.Ports.{configuration_of}
+use Rattle.subnet_core.proofs.CarryLemmas.{commands_carry_bytes}
 use Rattle.subnet_model.proofs.IsolationLemmas.{slids_name_their_ports}
 use Rattle.subnet_model.specs.Configuration.{ConfigurationState}
 use Rattle.subnet_model.specs.Isolation.{IsIsolated}
@@ -64,6 +65,10 @@ our_steps_keep_apart configuration commands p configured carry =
       near = near_at configuration commands p;
       named = λ before after command parts. steps_name_sources configuration (noted_after configuration before) command;
     }
+
+pub scripts_are_kept_apart : ScriptsAreKeptApart
+scripts_are_kept_apart step partitions plan script commands p keeps configured given =
+    keeps (configuration_of partitions plan) commands p configured (commands_carry_bytes plan script commands given)
 
 pub runs_report_apart : RunsReportApart
 runs_report_apart topology partitions script events = (

@@ -10,7 +10,7 @@ use Rattle.std.specs.Option.{ok_or, option_map_or, option_to_list}
 use Rattle.std.specs.Str.{bytes_eq}
 use Rattle.fabric_cli.proofs.LineTextLemmas.{begins, begun}
 use Rattle.headline_laws.proofs.PortNameLemmas.{IsPortOf, all_texts, sender_text}
-use Rattle.headline_laws.specs.Texts.{has_inside, is_as_printed, is_far, is_taken_out, names, words_in}
+use Rattle.headline_laws.specs.Texts.{has_inside, is_far, is_taken_out, names, printed, words_in}
 use Rattle.partition_file.specs.declared.partition.Partition.{Partition}
 use Rattle.partition_reports.proofs.NearLemmas.{near_is_to_share}
 use Rattle.partition_reports.specs.Ports.{port_text}
@@ -175,7 +175,7 @@ module _ (partitions : List Partition) (plan : TopologyState) (sound : IsSound p
   far_is_not_near q word one far = near_is_to_share ports p q ∙ by (q == p) (list_any (is_of_both p q) (shares ports)) refl refl
     where
       parts : (not (bytes_eq word name) ≡ true) × (not (names shown word) ≡ true)
-      parts = and_parts (not (bytes_eq word name)) (not (names shown word)) (and_parts (is_as_printed word) _ far).1
+      parts = and_parts (not (bytes_eq word name)) (not (names shown word)) far
 
       not_itself : q ≡ p → ⊥
       not_itself same =
@@ -198,15 +198,15 @@ module _ (partitions : List Partition) (plan : TopologyState) (sound : IsSound p
   abbrev near : ℕ → Bool
   near = is_near ports p
 
-  far_sender : (word : List ℕ) (q : ℕ) → sender_of plan word ≡ Ok q → is_far name shown word ≡ true → near q ≡ false
+  far_sender : (word : List ℕ) (q : ℕ) → sender_of plan word ≡ Ok q → is_far name shown (printed word) ≡ true → near q ≡ false
   far_sender word q is far =
-      far_is_not_near q word (sender_text partitions plan sound word q (and_parts (is_as_printed word) _ far).0 is) far
+      far_is_not_near q (printed word) (sender_text partitions plan sound word q is) far
 
   -- ---- a command of such a line
-  by_far : (word : List ℕ) (q : ℕ) (command : Command) → sender_of plan word ≡ Ok q → actor command ≡ Some q → is_far name shown word ≡ true → acts_in near command ≡ false
+  by_far : (word : List ℕ) (q : ℕ) (command : Command) → sender_of plan word ≡ Ok q → actor command ≡ Some q → is_far name shown (printed word) ≡ true → acts_in near command ≡ false
   by_far word q command is acts far = ap (λ (guid : Option ℕ). option_map_or near guid false) acts ∙ far_sender word q is far
 
-  sent_by_far : (port : List ℕ) (rest : List (List ℕ)) (command : Command) → send_of plan (port ∷ rest) ≡ Ok command → is_far name shown port ≡ true
+  sent_by_far : (port : List ℕ) (rest : List (List ℕ)) (command : Command) → send_of plan (port ∷ rest) ≡ Ok command → is_far name shown (printed port) ≡ true
       → acts_in near command ≡ false
   unfolding send_of send_encoded
   sent_by_far port [] command is far = absurd cc
@@ -223,7 +223,7 @@ module _ (partitions : List Partition) (plan : TopologyState) (sound : IsSound p
       by_far port sender.0 command sender.1 (ap actor (sym (same_ok _ command bytes.2))) far
   sent_by_far port (b ∷ c ∷ d ∷ e ∷ f ∷ rest) command is far = absurd cc
 
-  asked_by_far : (port : List ℕ) (rest : List (List ℕ)) (command : Command) → ask_of plan (port ∷ rest) ≡ Ok command → is_far name shown port ≡ true
+  asked_by_far : (port : List ℕ) (rest : List (List ℕ)) (command : Command) → ask_of plan (port ∷ rest) ≡ Ok command → is_far name shown (printed port) ≡ true
       → acts_in near command ≡ false
   unfolding ask_of ask_encoded
   asked_by_far port [] command is far = absurd cc
@@ -278,7 +278,7 @@ module _ (partitions : List Partition) (plan : TopologyState) (sound : IsSound p
   words_are_far [] command is taken = absurd (false≢true taken)
   words_are_far (first ∷ []) command is taken = absurd (false≢true taken)
   words_are_far (first ∷ port ∷ rest) command is taken =
-      by_kind (bytes_eq first (codes "send")) (bytes_eq first (codes "ask")) (bytes_eq first (codes "cut")) (bytes_eq first (codes "mend")) (is_far name shown port)
+      by_kind (bytes_eq first (codes "send")) (bytes_eq first (codes "ask")) (bytes_eq first (codes "cut")) (bytes_eq first (codes "mend")) (is_far name shown (printed port))
       (send_of plan (port ∷ rest)) (ask_of plan (port ∷ rest)) (cable_of plan false (port ∷ rest)) (cable_of plan true (port ∷ rest)) command
       (is_no_cable first (codes "send") refl) (is_no_cable first (codes "ask") refl)
       (sent_by_far port rest command) (asked_by_far port rest command) (of_no_port false port rest command) (of_no_port true port rest command) is taken

@@ -1,4 +1,4 @@
--- A word that names a port as the program prints it is the text of that end port, and of no other.
+-- What is printed of a port that a word names is the text of that end port, and of no other.
 use Rattle.std.proofs.Common.{ℕ, ◌≡◌, ◌==◌, ◌&&◌, ◌∙◌, ap, refl, sym, arith, Bool, true, false, nat_le, not, if◌then◌else◌, List, [], slice_get, Option, Some, None, Ok}
 use Rattle.std.proofs.lemmas.Bool.{and_from, eqb-true, not-false}
 use Rattle.std.proofs.lemmas.List.Elements.{recursion_from_All}
@@ -9,7 +9,7 @@ use Rattle.std.specs.Option.{ok_or, option_map_or}
 use Rattle.std.specs.Str.{bytes_eq}
 use Rattle.fabric_parts.specs.Cable.{is_cabled, is_same_port}
 use Rattle.fabric_parts.specs.declared.cable.PortRef.{PortRef}
-use Rattle.headline_laws.specs.Texts.{is_as_printed}
+use Rattle.headline_laws.specs.Texts.{printed}
 use Rattle.partition_file.specs.declared.partition.Partition.{Partition}
 use Rattle.partition_reports.specs.Ports.{port_text}
 use Rattle.script_lines.proofs.AskLoopLemmas.{some_reported}
@@ -38,11 +38,9 @@ use Rattle.topo_file.specs.Topology.{TopologyState}
 use Rattle.topo_file.specs.declared.node.Node.{Node}
 
 -- ---- words
--- the word is the name and the number that are read from it
-as_printed : (word : List ℕ) (named : Port) → is_as_printed word ≡ true → port_in word ≡ Some named → word ≡ port_name named.name named.number
-as_printed word named printed is =
-    let same : bytes_eq word (port_name named.name named.number) ≡ true = rw is at printed in
-    (bytes_eq-Decides word (port_name named.name named.number)).0 same
+-- the name and the number that are read from a word
+printed_as : (word : List ℕ) (named : Port) → port_in word ≡ Some named → printed word ≡ port_name named.name named.number
+printed_as word named is = rw is refl
 
 -- the node that stands at the place of a name has the name
 name_there : (name : List ℕ) (nodes : List Node) (place : ℕ) → place_of name nodes ≡ Some place → name_at nodes place ≡ name
@@ -95,9 +93,9 @@ module _ (partitions : List Partition) (plan : TopologyState) (sound : IsSound p
       }
 
   -- a word names it
-  named_so : (word : List ℕ) (named : Port) (at : PortRef) (guid : ℕ) → is_as_printed word ≡ true → port_in word ≡ Some named
-      → place_of named.name plan.nodes ≡ Some at.node → at.port ≡ named.number → is_end_port plan at ≡ true → port_guid_at plan.nodes at ≡ guid → IsPortOf ports guid word
-  named_so word named at guid printed read place number there is =
+  named_so : (word : List ℕ) (named : Port) (at : PortRef) (guid : ℕ) → port_in word ≡ Some named
+      → place_of named.name plan.nodes ≡ Some at.node → at.port ≡ named.number → is_end_port plan at ≡ true → port_guid_at plan.nodes at ≡ guid → IsPortOf ports guid (printed word)
+  named_so word named at guid read place number there is =
       let one = port_there at there in
       record {
         port = one.port;
@@ -105,7 +103,7 @@ module _ (partitions : List Partition) (plan : TopologyState) (sound : IsSound p
         text = one.text
             ∙ ap (λ (name : List ℕ). port_name name at.port) (name_there named.name plan.nodes at.node place)
             ∙ ap (port_name named.name) number
-            ∙ sym (as_printed word named printed read);
+            ∙ sym (printed_as word named read);
       }
 
   -- ---- a port of an adapter
@@ -132,44 +130,44 @@ module _ (partitions : List Partition) (plan : TopologyState) (sound : IsSound p
   adapter_end at adapter port cabled = rw adapter (and_from (is_port plan.nodes at) (is_cabled plan.cables at) port cabled)
 
   -- ---- the port of an argument, and the port of a command
-  switch_text : (word : List ℕ) (named : Port) (place guid : ℕ) → is_as_printed word ≡ true → port_in word ≡ Some named
-      → place_of named.name plan.nodes ≡ Some place → is_switch_at plan.nodes place ≡ true → switch_port plan place named.number ≡ Ok guid → IsPortOf ports guid word
-  switch_text word named place guid printed read there switch is =
+  switch_text : (word : List ℕ) (named : Port) (place guid : ℕ) → port_in word ≡ Some named
+      → place_of named.name plan.nodes ≡ Some place → is_switch_at plan.nodes place ≡ true → switch_port plan place named.number ≡ Ok guid → IsPortOf ports guid (printed word)
+  switch_text word named place guid read there switch is =
       let zero = let_through (named.number == 0) (Ok (switch_guid plan.nodes place)) UnknownPort guid is in
       let at : PortRef = record { node = place; port = named.number } in
       let own : is_end_port plan at ≡ true = rw switch zero.0 in
-      named_so word named at guid printed read there refl own (at_zero (slice_get plan.nodes place) refl (eqb-true named.number 0 zero.0) ∙ same_ok (switch_guid plan.nodes place) guid zero.1)
+      named_so word named at guid read there refl own (at_zero (slice_get plan.nodes place) refl (eqb-true named.number 0 zero.0) ∙ same_ok (switch_guid plan.nodes place) guid zero.1)
     where
       at_zero : (found : Option Node) → slice_get plan.nodes place ≡ found → named.number ≡ 0
           → port_guid_at plan.nodes (record { node = place; port = named.number }) ≡ switch_guid plan.nodes place
       at_zero None is none = rw is refl
       at_zero (Some node) is none = rw (is, none) (omega arith)
 
-  adapter_text : (word : List ℕ) (named : Port) (place guid : ℕ) → is_as_printed word ≡ true → port_in word ≡ Some named
-      → place_of named.name plan.nodes ≡ Some place → is_switch_at plan.nodes place ≡ false → adapter_port plan place named.number ≡ Ok guid → IsPortOf ports guid word
-  adapter_text word named place guid printed read there adapter is =
+  adapter_text : (word : List ℕ) (named : Port) (place guid : ℕ) → port_in word ≡ Some named
+      → place_of named.name plan.nodes ≡ Some place → is_switch_at plan.nodes place ≡ false → adapter_port plan place named.number ≡ Ok guid → IsPortOf ports guid (printed word)
+  adapter_text word named place guid read there adapter is =
       let at = bind_ok (ok_or (port_at plan.nodes place named.number) UnknownPort) _ guid is in
       let here = is_at place named.number at.0 (some_reported (port_at plan.nodes place named.number) UnknownPort _ at.0 refl at.1) in
       let cabled = let_through (is_cabled plan.cables at.0) (Ok (port_guid_at plan.nodes at.0)) UncabledPort guid at.2 in
-      named_so word named at.0 guid printed read (there ∙ ap (λ (n : ℕ). Some n) (sym here.node)) here.port
+      named_so word named at.0 guid read (there ∙ ap (λ (n : ℕ). Some n) (sym here.node)) here.port
       (adapter_end at.0 (ap (is_switch_at plan.nodes) here.node ∙ adapter) here.there cabled.0) (same_ok (port_guid_at plan.nodes at.0) guid cabled.1)
 
-  pub asked_text : (word : List ℕ) (guid : ℕ) → is_as_printed word ≡ true → named_port plan word ≡ Ok guid → IsPortOf ports guid word
+  pub asked_text : (word : List ℕ) (guid : ℕ) → named_port plan word ≡ Ok guid → IsPortOf ports guid (printed word)
   unfolding named_port
-  asked_text word guid printed is =
+  asked_text word guid is =
       let named = bind_ok (ok_or (port_in word) UnknownPort) _ guid is in
       let place = bind_ok (ok_or (place_of named.0.name plan.nodes) UnknownPort) _ guid named.2 in
       by named.0 place.0 (some_reported (port_in word) UnknownPort _ named.0 refl named.1) (some_reported (place_of named.0.name plan.nodes) UnknownPort _ place.0 refl place.1)
       (is_switch_at plan.nodes place.0) refl place.2
     where
       by : (named : Port) (place : ℕ) → port_in word ≡ Some named → place_of named.name plan.nodes ≡ Some place → (b : Bool) → is_switch_at plan.nodes place ≡ b
-          → (if b then switch_port plan place named.number else adapter_port plan place named.number) ≡ Ok guid → IsPortOf ports guid word
-      by named place read there true switch is = switch_text word named place guid printed read there switch is
-      by named place read there false adapter is = adapter_text word named place guid printed read there adapter is
+          → (if b then switch_port plan place named.number else adapter_port plan place named.number) ≡ Ok guid → IsPortOf ports guid (printed word)
+      by named place read there true switch is = switch_text word named place guid read there switch is
+      by named place read there false adapter is = adapter_text word named place guid read there adapter is
 
-  pub sender_text : (word : List ℕ) (guid : ℕ) → is_as_printed word ≡ true → sender_of plan word ≡ Ok guid → IsPortOf ports guid word
+  pub sender_text : (word : List ℕ) (guid : ℕ) → sender_of plan word ≡ Ok guid → IsPortOf ports guid (printed word)
   unfolding sender_of named_place
-  sender_text word guid printed is =
+  sender_text word guid is =
       let at = bind_ok (named_place plan word) _ guid is in
       let named = bind_ok (ok_or (port_in word) UnknownPort) _ at.0 at.1 in
       let place = bind_ok (ok_or (place_of named.0.name plan.nodes) UnknownPort) _ at.0 named.2 in
@@ -177,6 +175,6 @@ module _ (partitions : List Partition) (plan : TopologyState) (sound : IsSound p
       let adapter = not_stopped (is_switch_at plan.nodes at.0.node) UnknownPort _ guid at.2 in
       let other = not_stopped (is_same_port at.0 plan.sm) ManagerPort _ guid adapter.1 in
       let cabled = not_stopped (not (is_cabled plan.cables at.0)) UncabledPort _ guid other.1 in
-      named_so word named.0 at.0 guid printed (some_reported (port_in word) UnknownPort _ named.0 refl named.1)
+      named_so word named.0 at.0 guid (some_reported (port_in word) UnknownPort _ named.0 refl named.1)
       (some_reported (place_of named.0.name plan.nodes) UnknownPort _ place.0 refl place.1 ∙ ap (λ (n : ℕ). Some n) (sym here.node)) here.port
       (adapter_end at.0 adapter.0 here.there (not-false (is_cabled plan.cables at.0) cabled.0)) (same_ok (port_guid_at plan.nodes at.0) guid cabled.1)

@@ -1,12 +1,12 @@
 -- Two scripts of which the same is left have the same commands of ports near the port, so their runs print the same lines of it.
-use Rattle.std.proofs.Common.{ℕ, ◌≡◌, ◌∙◌, ap, refl, sym, List, Option, Some, None, Result, Ok, Err, [], true, subst}
+use Rattle.std.proofs.Common.{ℕ, ◌≡◌, ◌∙◌, ap, refl, sym, List, Option, Some, None, Result, Ok, Err, [], subst}
 use Rattle.fabric_cli.proofs.PrintedLemmas.{printed_lines_keep_partitions_apart}
 use Rattle.fabric_cli.specs.Printed.{lines_at, near_commands}
 use Rattle.fabric_cli.specs.Serving.{complete, output_in, run_in, script_reported, shares_in, shares_reported}
 use Rattle.headline_laws.proofs.LargeLemmas.{found_topology, large_inventory}
 use Rattle.headline_laws.proofs.LeftLemmas.{all_are_read, near_of, near_of_left}
 use Rattle.headline_laws.proofs.PortNameLemmas.{IsPortOf, asked_text}
-use Rattle.headline_laws.specs.Texts.{RunsKeepTextsApart, is_as_printed, left_of, lines_of}
+use Rattle.headline_laws.specs.Texts.{RunsKeepTextsApart, left_of, lines_of, printed}
 use Rattle.partition_file.specs.declared.partition.Partition.{Partition}
 use Rattle.partition_reports.specs.Shares.{shares_text}
 use Rattle.script_lines.specs.NamedPort.{named_port}
@@ -117,12 +117,15 @@ module _ (topology : List ℕ) (partitions : Option (List ℕ)) where
       by (Err cause) named shows = absurd cc
 
   -- ---- both runs
-  module _ (subnet : IsSubnet) (name shown : List ℕ) (printed : is_as_printed name ≡ true) (of : Shown subnet.inventory name shown) where
+  module _ (subnet : IsSubnet) (word shown : List ℕ) (of : Shown subnet.inventory word shown) where
+    abbrev name : List ℕ
+    name = printed word
+
     abbrev plan : TopologyState
     plan = subnet.inventory.plan
 
     own : IsPortOf (ports_of subnet.all plan) of.guid name
-    own = asked_text subnet.all plan subnet.sound name of.guid printed of.named
+    own = asked_text subnet.all plan subnet.sound word of.guid of.named
 
     abbrev near : List (List ℕ) → List Command
     near taken = near_of subnet.all plan subnet.sound of.guid name own taken
@@ -140,17 +143,17 @@ module _ (topology : List ℕ) (partitions : Option (List ℕ)) where
         let found = ap (λ (ports : List SubnetPort). port_with_guid ports of.guid) subnet.ports ∙ own.found in
         let alike = left_is_near first one runs ∙ ap near same ∙ sym (left_is_near second other others) in
         let apart = printed_lines_keep_partitions_apart topology partitions None subnet.inventory of.guid own.port first second subnet.is found alike in
-        sym (ap (λ (word : List ℕ). lines_of word one) own.text)
+        sym (ap (λ (text : List ℕ). lines_of text one) own.text)
         ∙ sym (ap (lines_at own.port) (prints subnet.inventory first one subnet.is runs))
         ∙ apart
         ∙ ap (lines_at own.port) (prints subnet.inventory second other subnet.is others)
-        ∙ ap (λ (word : List ℕ). lines_of word other) own.text
+        ∙ ap (λ (text : List ℕ). lines_of text other) own.text
 
 pub runs_keep_texts_apart : RunsKeepTextsApart
-runs_keep_texts_apart topology partitions name shown first second one other printed shows runs others same =
+runs_keep_texts_apart topology partitions port shown first second one other shows runs others same =
     let up = came_up topology partitions (stop_of runs.outcome) first one runs.is in
     let subnet = is_subnet topology partitions up.0 up.1 in
-    let of = shown_for topology partitions subnet.inventory name shown subnet.is shows.is in
-    same_lines topology partitions subnet name shown printed of first second one other
+    let of = shown_for topology partitions subnet.inventory port shown subnet.is shows.is in
+    same_lines topology partitions subnet port shown of first second one other
     (ran_on topology partitions subnet.inventory (stop_of runs.outcome) first one subnet.is runs.is)
     (ran_on topology partitions subnet.inventory (stop_of others.outcome) second other subnet.is others.is) same

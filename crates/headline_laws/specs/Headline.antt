@@ -90,6 +90,13 @@ KeepsApart step =
     (configuration : ConfigurationState) (commands : List Command) (p : ℕ) → IsConfigured configuration
     → AllByRecursion CarriesBytes commands → IsApart step configuration p commands (run_by step configuration commands)
 
+-- so that a rule which keeps ports apart does so with every script that is accepted: no premise is missing
+abbrev pub ScriptsAreKeptApart : Type 0
+ScriptsAreKeptApart =
+    (step : NotedStepRule) (partitions : List Partition) (plan : TopologyState) (script : List ℕ) (commands : List Command) (p : ℕ)
+    → KeepsApart step → IsConfigured (configuration_of partitions plan) → commands_in plan script ≡ Ok commands
+    → IsApart step (configuration_of partitions plan) p commands (run_by step (configuration_of partitions plan) commands)
+
 -- it holds of ours
 abbrev pub OursKeepsApart : Type 0
 OursKeepsApart = KeepsApart noted_step

@@ -1,9 +1,8 @@
 -- The headline over texts: what `fabric run` prints of a port P, for one topology and one partition file, does not change with what
 -- other ports send and ask that `fabric shares TOPO PARTS P` does not name, nor with `cut` and `mend`. Take out of two scripts each
 -- `cut`, each `mend`, and each `send Q` or `ask Q` of such a port Q. If the rest is the same, byte for byte, and `shares` and both runs
--- end with status 0, the lines of P are the same, byte for byte. P and Q are spelled as they are printed: a line with another spelling
--- of Q is not taken out.
-use Rattle.std.specs.Prelude.{ℕ, ◌≡◌, Bool, true, false, not, ◌&&◌, ◌||◌, nat_eq, List, [], ◌∷◌, ◌++◌, codes, filter, unwrap_or, Option, Some}
+-- end with status 0, the lines of P are the same, byte for byte. No spelling of P or Q matters: `h1/01` is `h1/1`.
+use Rattle.std.specs.Prelude.{ℕ, ◌≡◌, Bool, false, not, ◌&&◌, ◌||◌, nat_eq, List, [], ◌∷◌, ◌++◌, codes, filter, unwrap_or, Option, Some}
 use Rattle.std.specs.List.{starts_with}
 use Rattle.std.specs.Option.{option_map_or}
 use Rattle.std.specs.Str.{bytes_eq}
@@ -33,9 +32,9 @@ abbrev pub has_inside : List ℕ → List ℕ → Bool
 has_inside needle [] = starts_with nat_eq [] needle
 has_inside needle (byte ∷ text) = starts_with nat_eq (byte ∷ text) needle || has_inside needle text
 
--- the port is named as the program prints it: `h1/1`, and not `h1/01` or `h1/0x1`
-abbrev pub is_as_printed : List ℕ → Bool
-is_as_printed name = option_map_or (λ port. bytes_eq name (port_name port.name port.number)) (port_in name) false
+-- the port that a word names, as the program prints it: `h1/1` for `h1/01` and for `h1/0x1`
+abbrev pub printed : List ℕ → List ℕ
+printed word = option_map_or (λ port. port_name port.name port.number) (port_in word) word
 
 -- what `shares` prints for a port names another one between blanks: `share h1/1 h2/1 0x0001`
 abbrev pub names : (listing port : List ℕ) → Bool
@@ -43,12 +42,12 @@ names listing port = has_inside (codes " " ++ port ++ codes " ") listing
 
 -- another port, that `shares` does not name
 abbrev pub is_far : (name listing port : List ℕ) → Bool
-is_far name listing port = is_as_printed port && (not (bytes_eq port name) && not (names listing port))
+is_far name listing port = not (bytes_eq port name) && not (names listing port)
 
 abbrev pub is_taken_out : (name listing : List ℕ) → List (List ℕ) → Bool
 is_taken_out name listing (first ∷ port ∷ rest) =
     (bytes_eq first (codes "cut") || bytes_eq first (codes "mend"))
-    || ((bytes_eq first (codes "send") || bytes_eq first (codes "ask")) && is_far name listing port)
+    || ((bytes_eq first (codes "send") || bytes_eq first (codes "ask")) && is_far name listing (printed port))
 is_taken_out name listing _ = false
 
 abbrev pub left_of : (name listing script : List ℕ) → List (List ℕ)
@@ -57,11 +56,11 @@ left_of name listing script = filter (λ line. not (is_taken_out name listing (w
 -- ---- two scripts of which the same is left: their runs print the same lines of the port
 abbrev pub KeepsTextsApart : (run shares : Prints) → Type 0
 KeepsTextsApart run shares =
-    (topology : List ℕ) (partitions : Option (List ℕ)) (name listing first second one other : List ℕ) → is_as_printed name ≡ true
-    → shares topology partitions name listing
+    (topology : List ℕ) (partitions : Option (List ℕ)) (port listing first second one other : List ℕ)
+    → shares topology partitions port listing
     → run topology partitions first one → run topology partitions second other
-    → left_of name listing first ≡ left_of name listing second
-    → lines_of name one ≡ lines_of name other
+    → left_of (printed port) listing first ≡ left_of (printed port) listing second
+    → lines_of (printed port) one ≡ lines_of (printed port) other
 
 -- ---- it holds of the program: of `fabric run TOPO PARTS SCRIPT` and `fabric shares TOPO PARTS PORT`
 abbrev pub program : (List ℕ → Work (List ℕ) (List ℕ) (List ℕ)) → Prints

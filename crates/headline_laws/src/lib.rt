@@ -13,7 +13,7 @@ mod text_laws;
 mod text_wrong_rules;
 mod wrong_rules;
 
-pub use crate::laws::{our_steps_keep_apart, runs_report_apart};
+pub use crate::laws::{our_steps_keep_apart, runs_report_apart, scripts_are_kept_apart};
 pub use crate::text_laws::runs_keep_texts_apart;
 pub use crate::text_wrong_rules::{
     asks_of_far_ports_are_not_heard, cuts_are_not_heard, mends_are_not_heard,
