@@ -4,6 +4,8 @@
     tests/oracle/tables.py keys TOPOLOGY                   prints what `fabric keys` does
 Routes are found by a plain search over all switches for each target. Up is towards the lesser (rank, GUID).
 """
+import bisect
+import collections
 import math
 import sys
 
@@ -57,25 +59,47 @@ class Fabric:
                 look(name, [(port, other) for port, other in self.hops[name] if place[other] < place[name] and other in length])
         return ties
 
-    def entries(self):
-        """The port of each entry that is not 255, by switch and LID: the least tie; or, if routes are balanced, the one that the CA
-        ports before this one, the switch's place and its rank name."""
-        rank = self.ranks()
-        order = self.order(rank)
-        ties, place = {name: self.ties_to(name, order) for name in order}, {name: number for number, name in enumerate(order)}
+    def pick(self, ports, before, rank, place):
+        """Of the ties of a switch of this rank and place the one to a port: the least; or, if routes are balanced, the one that the
+        number of CA ports before that one, the place and the rank name."""
+        rounds = before // len(ports)
+        return ports[(before + rounds * (rank % len(ports) + 1) + place) % len(ports)] if self.balanced else ports[0]
+
+    def routed(self):
+        """Of each LID the switch where its port is, the port there, how many CA ports are before it, and the ties of each switch. A
+        switch stands behind the one that it sends to."""
+        self.rank = self.ranks()
+        order = self.order(self.rank)
+        self.place = {name: number for number, name in enumerate(order)}
         homes = [(name, 0) if port == 0 else self.far[name, port] for name, port in self.by_lid]
+        before = sorted((self.place[name], port) for name, port in homes if port)
+        ties = {name: self.ties_to(name, order) for name in {name for name, _ in homes}}
+        for name, port in homes:
+            yield name, port, bisect.bisect_left(before, (self.place[name], port)), ties[name]
+
+    def entries(self):
+        """The port of each entry that is not 255, by switch and LID."""
         found = {}
-        for lid, (leaf, last) in enumerate(homes, 1):
-            before = sum(port != 0 and (place[name], port) < (place[leaf], last) for name, port in homes)
-            for switch, ports in ties[leaf].items():
-                if switch == leaf:
-                    found[switch, lid] = last
-                elif self.balanced:
-                    rounds = before // len(ports)
-                    found[switch, lid] = ports[(before + rounds * (rank[switch] % len(ports) + 1) + place[switch]) % len(ports)]
-                else:
-                    found[switch, lid] = ports[0]
+        for lid, (leaf, last, before, ties) in enumerate(self.routed(), 1):
+            for switch, ports in ties.items():
+                found[switch, lid] = last if switch == leaf else self.pick(ports, before, self.rank[switch], self.place[switch])
         return found
+
+    def busiest(self):
+        """How many pairs of CA ports send over the most loaded cable, one way."""
+        far = {end: other for end, (other, _) in self.far.items()}
+        hosts = collections.Counter(far[end] for end in self.by_lid if end[1])
+        loads = collections.Counter()
+        for leaf, last, before, ties in self.routed():
+            if last:
+                flow = dict(hosts)
+                for switch in list(ties)[:0:-1]:
+                    here = flow.get(switch, 0)
+                    if here:
+                        end = switch, self.pick(ties[switch], before, self.rank[switch], self.place[switch])
+                        loads[end] += here
+                        flow[far[end]] = flow.get(far[end], 0) + here
+        return max(loads.values())
 
     def paths(self):
         """The directed path to each switch, as a sweep from the SM port finds it."""
